@@ -17,7 +17,7 @@
 
 use std::collections::{BTreeMap, BTreeSet};
 use std::fmt::Write as _;
-use std::path::{Path, PathBuf};
+use std::path::Path;
 use std::process::ExitCode;
 
 #[path = "lists.rs"]
@@ -309,7 +309,6 @@ pub fn behind_group(tokens: &[Token], from: usize) -> Option<usize> {
     let mut open = Vec::new();
     for (index, token) in tokens.iter().enumerate().skip(from) {
         match token.text.as_str() {
-            _ if token.kind != Kind::Sign => {}
             "(" => open.push(")"),
             "[" => open.push("]"),
             "{" => open.push("}"),
@@ -765,7 +764,7 @@ impl Items<'_> {
             return fault(head[0].line, "an impl that means something else in a module of the order");
         }
         let key = attributes.iter().map(|words| format!("#[{words}] ")).collect::<String>() + &shown(&head);
-        let name = name_of_impl(&head);
+        let name = name_of_impl(&with_single_closings(head.clone()));
         let (is_of_trait, is_model) = (head.iter().any(|token| token.is("for")), name.ends_with(" as Model>"));
         if is_of_trait && !is_model {
             self.push(around, &key, &name, start..self.at, Vec::new());
@@ -1007,16 +1006,16 @@ pub fn between_commas(tokens: &[Token]) -> Vec<&[Token]> {
 
 // ---- Rewrites ----
 
-/// What the made functions are read by: the functions that are `unsafe`, and how often each entry of a list was used.
+/// What the made functions are read by: the functions that are `unsafe`, and which entries of the lists were used.
 #[derive(Default)]
 struct Reading {
     unsafe_names: BTreeSet<String>,
-    used: BTreeMap<String, usize>,
+    used: BTreeSet<String>,
 }
 
 impl Reading {
     fn note(&mut self, entry: &str) {
-        *self.used.entry(entry.to_string()).or_default() += 1;
+        self.used.insert(entry.to_string());
     }
 }
 
@@ -1847,7 +1846,7 @@ fn entries(lists: &'static Lists) -> Vec<(String, &'static str)> {
 fn faults_of_lists(comparison: &Comparison) -> Vec<String> {
     let mut faults = Vec::new();
     for (entry, why) in entries(comparison.lists) {
-        if !comparison.reading.used.contains_key(&entry) {
+        if !comparison.reading.used.contains(&entry) {
             faults.push(format!("nothing uses the entry `{entry}` of a list"));
         }
         if why.trim().is_empty() {
@@ -1885,46 +1884,47 @@ pub fn read_all(root: &Path) -> Result<Files, String> {
 
 fn main() -> ExitCode {
     let words: Vec<String> = std::env::args().skip(1).collect();
-    let root = match &words[..] {
-        [] => PathBuf::from("."),
-        [word, root] if word == "--root" => PathBuf::from(root),
-        _ => {
-            eprintln!("compare: the arguments are [--root FOLDER]");
-            return ExitCode::from(2);
-        }
+    told(outcome(&words))
+}
+
+/// The status and what is told, for these arguments.
+fn outcome(words: &[String]) -> (u8, String) {
+    let root = match words {
+        [] => ".",
+        [word, root] if word == "--root" => root,
+        _ => return (2, "compare: the arguments are [--root FOLDER]\n".to_string()),
     };
-    match read_all(&root) {
+    match read_all(Path::new(root)) {
         Ok(files) => report(&compare(&files, &LISTS)),
-        Err(why) => {
-            eprintln!("compare: {why}");
-            ExitCode::from(2)
-        }
+        Err(why) => (2, format!("compare: {why}\n")),
     }
 }
 
-/// Prints the differences, or how much was compared.
-fn report(comparison: &Comparison) -> ExitCode {
-    let mut text = String::new();
-    for difference in &comparison.differences {
-        let _ = writeln!(text, "compare: {difference}");
-    }
-    for fault in faults_of_lists(comparison) {
-        let _ = writeln!(text, "compare: {fault}");
-    }
-    eprint!("{text}");
-    let Comparison { functions, items, lists, .. } = comparison;
-    let rewrites = REWRITES.len() + HEADS.len() + ASKED.len() + 1 + BY_CODE.len() + USES.len() + LAWS.len();
-    let safe: usize = lists.safe.iter().map(|safe| safe.functions.len()).sum();
-    let places = lists.places.len() + safe + lists.required.len() + lists.left_out.len() + lists.added.len();
-    if text.is_empty() {
-        println!(
-            "compare: {functions} functions and {items} items are as in the sources; {rewrites} rewrites, {places} places"
-        );
-        ExitCode::SUCCESS
+/// Prints what is told, where it belongs.
+pub fn told((status, text): (u8, String)) -> ExitCode {
+    if status == 0 {
+        print!("{text}");
     } else {
-        eprintln!("compare: {} differences", text.lines().count());
-        ExitCode::FAILURE
+        eprint!("{text}");
     }
+    ExitCode::from(status)
+}
+
+/// The differences, or how much was compared.
+fn report(comparison: &Comparison) -> (u8, String) {
+    let faults = faults_of_lists(comparison);
+    let differences: Vec<&String> = comparison.differences.iter().chain(&faults).collect();
+    if differences.is_empty() {
+        let Comparison { functions, items, lists, .. } = comparison;
+        let count = entries(lists).len();
+        let text = format!(
+            "compare: {functions} functions and {items} items are as in the sources, by {count} entries of lists\n"
+        );
+        return (0, text);
+    }
+    let mut text: String = differences.iter().map(|difference| format!("compare: {difference}\n")).collect();
+    let _ = writeln!(text, "compare: {} differences", differences.len());
+    (1, text)
 }
 
 #[cfg(test)]

@@ -173,22 +173,23 @@ fn listed<'a>(files: &'a Files, path: &str) -> (File<'a>, Item) {
 }
 
 /// Whether a change of a source from an index on, the same text with a blank before it, is seen.
-fn is_seen(files: &Files, file: File, at: usize) -> bool {
+fn is_seen(files: &Files, names: &BTreeSet<String>, file: File, at: usize) -> bool {
     let text = format!("{} {}", &file.text[..at], &file.text[at..]);
     let made = path_of_made(&module_of(file.path).expect("a source").1);
     let made = File { path: &made, text: &files[&made] };
-    !differences(&LISTS, &unsafe_names(files), File { text: &text, ..file }, made).is_empty()
+    !differences(&LISTS, names, File { text: &text, ..file }, made).is_empty()
 }
 
 #[test]
 fn a_change_of_what_a_place_was_read_for_is_seen() {
     let files = tree();
+    let names = unsafe_names(&files);
     for place in LISTS.places {
         let (file, item) = listed(&files, place.path);
         let clauses = item.clauses.iter().map(|clause| clause.at.1 - 1);
         let last = item.body.last().or(item.head.last()).expect("an item");
         for at in clauses.chain([last.at.0]) {
-            assert!(is_seen(&files, file, at), "{}", place.path);
+            assert!(is_seen(&files, &names, file, at), "{}", place.path);
         }
     }
 }
@@ -196,10 +197,11 @@ fn a_change_of_what_a_place_was_read_for_is_seen() {
 #[test]
 fn a_change_of_what_a_safe_function_requires_is_seen() {
     let files = tree();
+    let names = unsafe_names(&files);
     for path in LISTS.safe.iter().flat_map(|safe| safe.functions) {
         let (file, item) = listed(&files, path);
         for clause in item.clauses.iter().filter(|clause| clause.text.starts_with("requires")) {
-            assert!(is_seen(&files, file, clause.at.1 - 1), "{path}");
+            assert!(is_seen(&files, &names, file, clause.at.1 - 1), "{path}");
         }
     }
 }
@@ -216,7 +218,9 @@ fn what_is_made_of_no_source_is_seen() {
     seen(&more, "it has no source, and is not in the list of what is by hand");
     let path = format!("{MADE}arraystring_base/utf8.rs");
     let mut marked = files.clone();
-    marked.insert(path.clone(), format!("// NOT PROVED: a mark.\n{}", files[&path]));
+    let mark = |text: &str| format!("// NOT PROVED: a mark.\n{text}");
+    let unmarked = files[&path].find("// Made from").map_or("", |at| &files[&path][at..]);
+    marked.insert(path.clone(), mark(unmarked));
     assert_eq!(compare(&marked, &LISTS).differences, [""; 0]);
     marked.insert(path.clone(), files[&path].replace("utf8.rt", "utf16.rt"));
     seen(&marked, "it does not name crates/arraystring_base/src/utf8.rt as its source");
@@ -704,10 +708,11 @@ fn a_public_function_tests_what_it_requires() {
 #[test]
 fn a_change_of_what_a_public_function_tests_is_seen() {
     let files = tree();
+    let names = unsafe_names(&files);
     for required in LISTS.required {
         let (file, item) = listed(&files, required.path);
         for clause in item.clauses.iter().filter(|clause| clause.text.starts_with("requires")) {
-            assert!(is_seen(&files, file, clause.at.1 - 1), "{}", required.path);
+            assert!(is_seen(&files, &names, file, clause.at.1 - 1), "{}", required.path);
         }
     }
 }
@@ -822,4 +827,772 @@ fn each_item_is_there_once_and_no_other() {
     differs("fn f() {}\n", "#![allow(unused)]\nfn f() {}\n", "attribute #![allow(unused)]");
     differs("fn f() {}\n", "fn f() {}\nmod more {\n}\n", "mod more");
     differs("pub(crate) fn f() {}\n", "pub fn f() {}\n", "for `pub ( crate )");
+}
+
+// ---- One function after the other ----
+
+fn rust_tokens(text: &str) -> Vec<Token> {
+    tokens(text, Language::Rust).expect("tokens")
+}
+
+/// The tokens of a text, as they are shown.
+fn shown_tokens(text: &str) -> Vec<String> {
+    rust_tokens(text).into_iter().map(|token| token.text).collect()
+}
+
+#[test]
+fn each_sign_is_one_token() {
+    let signs = "<<= >>= ... ..= :: -> => == != <= >= && || += -= *= /= %= ^= &= |= << >> ..";
+    for sign in signs.split(' ') {
+        assert_eq!(shown_tokens(&format!("a{sign}b")), ["a", sign, "b"]);
+        for at in 1..sign.len() {
+            let apart = format!("a{} {}b", &sign[..at], &sign[at..]);
+            assert_ne!(shown_tokens(&apart), ["a", sign, "b"], "{apart}");
+        }
+    }
+    for sign in "!#$%&()*+,-./:;<=>?@[]^{|}~".chars() {
+        assert_eq!(shown_tokens(&format!("a {sign} b")), ["a", &sign.to_string(), "b"]);
+    }
+}
+
+#[test]
+fn each_literal_is_one_token() {
+    for (literal, kind) in [
+        ("0", Kind::Number),
+        ("9", Kind::Number),
+        ("1_000u16", Kind::Number),
+        ("0x7F", Kind::Number),
+        ("1.5", Kind::Number),
+        ("1.5_f32", Kind::Number),
+        ("\"\"", Kind::Text),
+        ("\"a  b\"", Kind::Text),
+        ("\"\\\"//\"", Kind::Text),
+        ("\"\\\\\"", Kind::Text),
+        ("\"\\é\"", Kind::Text),
+        ("b\"\"", Kind::Text),
+        ("b\"a\\x20\"", Kind::Text),
+        ("c\"a\\\"\"", Kind::Text),
+        ("r\"\"", Kind::Text),
+        ("br\"\\\"", Kind::Text),
+        ("cr\"\\\"", Kind::Text),
+        ("r#\"a\"b\"#", Kind::Text),
+        ("br##\"a\"#b\"##", Kind::Text),
+        ("cr#\"a\"b\"#", Kind::Text),
+        ("'a'", Kind::Letter),
+        ("'_'", Kind::Letter),
+        ("'1'", Kind::Letter),
+        ("'\"'", Kind::Letter),
+        ("'é'", Kind::Letter),
+        ("'\\''", Kind::Letter),
+        ("'\\\\'", Kind::Letter),
+        ("'\\u{7F}'", Kind::Letter),
+        ("b'a'", Kind::Letter),
+        ("b'\\''", Kind::Letter),
+        ("b'\\x7F'", Kind::Letter),
+        ("'a", Kind::Lifetime),
+        ("'_", Kind::Lifetime),
+        ("'static_1", Kind::Lifetime),
+        ("_", Kind::Word),
+        ("_a", Kind::Word),
+        ("a_1", Kind::Word),
+        ("b", Kind::Word),
+        ("c", Kind::Word),
+        ("r", Kind::Word),
+        ("br", Kind::Word),
+        ("crab", Kind::Word),
+    ] {
+        for (before, behind) in [("", ""), ("", ";"), ("(", ")"), ("first, ", " , last"), ("{\n", "\n}")] {
+            let text = format!("{before}{literal}{behind}");
+            let found: Vec<_> = rust_tokens(&text).into_iter().filter(|token| token.text == literal).collect();
+            assert!(found.len() == 1 && found[0].kind == kind, "{text}: {found:?}");
+            assert_eq!(&text[found[0].at.0..found[0].at.1], literal);
+        }
+    }
+    for (text, wanted) in [
+        ("a.0.1", &["a", ".", "0", ".", "1"][..]),
+        ("1..5", &["1", "..", "5"]),
+        ("1.max(2)", &["1", ".", "max", "(", "2", ")"]),
+        ("1.5.0", &["1.5", ".", "0"]),
+        ("'a'b", &["'a'", "b"]),
+        ("'a,'b'", &["'a", ",", "'b'"]),
+        ("a/*/ b */c", &["a", "c"]),
+        ("a/* /* */* */c", &["a", "c"]),
+        ("a/**/b//c\nd", &["a", "b", "d"]),
+    ] {
+        assert_eq!(shown_tokens(text), wanted, "{text}");
+    }
+}
+
+#[test]
+fn a_token_has_the_line_that_it_begins_in() {
+    let text = "a\n\"b\nc\" /* d\n e */ f\n// g\n\nr\"h\n\" i";
+    let found: Vec<_> = rust_tokens(text).into_iter().map(|token| (token.text, token.line)).collect();
+    let wanted = [("a", 1), ("\"b\nc\"", 2), ("f", 4), ("r\"h\n\"", 7), ("i", 8)];
+    assert_eq!(found, wanted.map(|(text, line)| (text.to_string(), line)));
+}
+
+/// What is refused of a text of a language: the line and why.
+fn fault_of(text: &str, language: Language) -> String {
+    let origin = Origin { language, krate: "arraystring_base", module: "a", orders: &["first"] };
+    match items(text, origin) {
+        Ok(found) => format!("{} items", found.len()),
+        Err(fault) => format!("{}: {}", fault.line, fault.why),
+    }
+}
+
+/// Asserts that a text is refused with this sentence, and at this line also where lines stand before it.
+#[track_caller]
+fn refuses(language: Language, text: &str, sentence: &str) {
+    for lines in 0..3 {
+        let (line, why) = sentence.split_once(": ").expect("a line");
+        let line: usize = line.parse().expect("a number");
+        let moved = format!("{}{text}", "\n".repeat(lines));
+        assert_eq!(fault_of(&moved, language), format!("{}: {why}", line + lines), "{moved}");
+    }
+}
+
+#[test]
+fn what_is_no_program_is_refused_at_its_line() {
+    for (text, sentence) in [
+        ("fn f() {\n    g(\"a\n", "2: a text without its end"),
+        ("fn f() {\n    g(\"a\\", "2: a text without its end"),
+        ("fn f() {\n    g(r#\"a\"\n) }\n", "2: a raw text without its end"),
+        ("fn f() {\n    g('ab') }\n", "2: a character without its end"),
+        ("fn f() {\n    g('1) }\n", "2: a character without its end"),
+        ("fn f() {\n    g('", "2: a character without its end"),
+        ("fn f() {\n    g('\\x41)\n'; }\n", "2: a character without its end"),
+        ("fn f() {}\n/* /*\n */\n", "2: a comment without its end"),
+        ("fn f() {\n    g(rb\"\") }\n", "2: a word with a quote or a `#` behind it"),
+        ("fn f() {}\n// a\u{2028}\n", "2: a character that may end a line, and may not"),
+        ("fn f() {}\n// a\u{2029}\n", "2: a character that may end a line, and may not"),
+        ("fn f() {}\n// a\t\n", "2: a character that may end a line, and may not"),
+        ("fn f() {}\né\n", "2: `é` is no character of a program"),
+        ("fn f() {}\nrequires {}\n", "2: `requires` of a proof"),
+        ("fn f() {}\nensures {}\n", "2: `ensures` of a proof"),
+        ("fn f() {}\nghost use a;\n", "2: `ghost` of a proof"),
+        ("fn f() {\n    prove!(a) }\n", "2: `prove` of a proof"),
+        ("fn f() {}\n}\nfn g() {}\n", "2: `}` closes nothing"),
+        ("fn f() {}\n#[a]\n", "2: an attribute of nothing"),
+        ("fn f() {}\nimpl A {\n#[a]\n}\n", "4: an attribute of nothing"),
+        ("fn f() {}\n#(a)\nfn g() {}\n", "2: `#` that begins no attribute"),
+        ("fn f() {}\n#[a\nfn g() {}\n", "2: brackets that do not match"),
+        ("fn f() {}\n#[a)]\nfn g() {}\n", "2: brackets that do not match"),
+        ("fn f() {}\n;\n", "2: no item"),
+        ("fn f() {}\npub\n", "2: no item"),
+        ("fn f() {}\npub(a\n", "2: brackets that do not match"),
+        ("fn f() {}\nstruct A\n", "2: an item without its end"),
+        ("fn f() {}\nstruct A)\n;\n", "2: an item without its end"),
+        ("fn f() {}\nconst A: u8 = 1\n}\n", "2: an item without its end"),
+        ("fn f() {}\nuse a::b\n", "2: an item without its end"),
+        ("fn f() {}\nfn g()\n", "2: `g`: what is behind the clauses is no body"),
+        ("fn f() {}\nfn g() {\n", "2: brackets that do not match"),
+        ("fn f() {}\nimpl A\n", "2: an impl without its body"),
+        ("fn f() {}\nimpl A;\nfn g() {}\n", "2: an impl without its body"),
+        ("fn f() {}\nimpl A {\n    fn g() {}\n", "3: an item without its closing brace"),
+        ("fn f() {}\nmod a {\n    fn g() {}\n", "3: an item without its closing brace"),
+        ("fn f() {}\nmod a\n", "2: `mod a` without `;`"),
+        ("fn f() {}\nuse a b;\n", "2: a `use` that is no tree of names"),
+        ("fn f() {}\nuse ::a;\n", "2: a `use` that is no tree of names"),
+        ("fn f() {}\nuse a::;\n", "2: a `use` that is no tree of names"),
+        ("fn f() {}\nuse a::{b} c;\n", "2: a `use` that is no tree of names"),
+        ("fn f() {}\nuse a::{b, c d};\n", "2: a `use` that is no tree of names"),
+        ("fn f() {}\nuse a as 1;\n", "2: a `use` that is no tree of names"),
+        ("fn f() {}\nuse 1;\n", "2: a `use` that is no tree of names"),
+        ("fn f() {}\nfn g(str: u8) {}\n", "2: `str` as the name of a parameter"),
+        (
+            "fn f() {}\npub static A: u8 = 1;\n",
+            "2: `static` begins no item that a file may have: write it as functions, types and constants",
+        ),
+        ("fn f() {}\nimpl Model for A {}\n", "2: an impl of `Model` with what is not ghost"),
+    ] {
+        refuses(Language::Rust, text, sentence);
+    }
+}
+
+#[test]
+fn what_is_no_ghost_part_is_refused_at_its_line() {
+    for (text, sentence) in [
+        ("fn f() {}\n/* a */\n", "2: a comment of the form `/* */`: each line of a source has its own `//`"),
+        ("fn f() {}\nrequires {}\n", "2: a clause or a `prove!` that is in no function"),
+        ("fn f() {}\nprove!(a);\n", "2: a clause or a `prove!` that is in no function"),
+        ("fn f()\n    requires a b { c }\n{}\n", "2: a ghost part without `{`"),
+        ("fn f() {\n    prove! { a };\n}\n", "2: a ghost part without `(`"),
+        ("fn f() {\n    prove!(a;\n", "3: a ghost part without its end"),
+        ("fn f()\n    requires { \"a\" }\n{}\n", "2: a text in a ghost part: its end would not be clear"),
+        ("fn f()\n    requires { (a] }\n{}\n", "2: `]` in a ghost part closes nothing"),
+        ("fn f()\n    requires { [a) }\n{}\n", "2: `)` in a ghost part closes nothing"),
+        ("fn f()\n    requires { a }\n    prove!(b)\n{}\n", "3: `f`: what is behind the clauses is no body"),
+        ("fn f() {}\nghost use a b;\n", "2: a `ghost use` that is not a path on one line"),
+        ("fn f() {}\nghost a b;\n", "2: a ghost item that is neither `ghost use ..;` nor `ghost NAME = { .. };`"),
+        ("fn f() {}\nghost a = { b } c;\n", "2: a ghost item without `;`"),
+        ("fn f() {}\nghost a = b;\n", "2: a ghost part without `{`"),
+        (
+            "fn f() {}\nghost a = { \"b-c\" };\n",
+            "2: a text in a ghost part that is more than words: its end would not be clear",
+        ),
+        ("fn f() {}\n#[tactic(a - b)]\nfn g() {}\n", "2: a tactic that is more than paths: its end would not be clear"),
+        ("fn f() {}\n#[tactic(\"a\")]\nfn g() {}\n", "2: a tactic that is more than paths: its end would not be clear"),
+        ("fn f() {}\nuse a::*;\n", "2: a `use` of all names: one of them could take the place of what is left out"),
+        ("fn f() {}\nimpl A requires { b } {}\n", "2: an impl without its body"),
+        ("fn f() {}\n#[a ghost use b;]\nfn g() {}\n", "2: `#` that begins no attribute"),
+        ("fn f() {}\nimpl Model for A {\n    fn g() {}\n}\n", "2: an impl of `Model` with what is not ghost"),
+    ] {
+        refuses(Language::Rattle, text, sentence);
+    }
+    for sign in ["--", "//", "/*", "*/", "/-", "-/", "{-", "-}", "«", "»", "'", "`", "\\"] {
+        let why = format!("`{sign}` in a ghost part: its end would not be clear");
+        refuses(Language::Rattle, &format!("fn f()\n    requires {{ a {sign}\n}}\n{{}}\n"), &format!("2: {why}"));
+        refuses(Language::Rattle, &format!("fn f() {{\n    prove!(a {sign}\n);\n}}\n"), &format!("2: {why}"));
+        assert!(!is_ghost_path(&format!(" a.b{sign}")) && !is_ghost_path(&format!(" a.{{b{sign}}}")), "{sign}");
+    }
+}
+
+#[test]
+fn each_form_of_an_item_is_read() {
+    for (text, keys) in [
+        ("fn f();", &["fn f"][..]),
+        ("pub fn f() {} pub(crate) fn g() {}", &["fn f", "fn g"]),
+        ("pub(in super::a) const unsafe fn f() {} async fn g() {}", &["fn f", "fn g"]),
+        ("const unsafe fn f() {} const fn g() {} unsafe fn h() {}", &["fn f", "fn g", "fn h"]),
+        ("const A: [u8; 2] = { [1; 2] }; type B = C;", &["const A", "type B"]),
+        ("struct A; struct B(u8); struct C { d: u8 } enum D { E }", &["struct A", "struct B", "struct C", "enum D"]),
+        ("fn f(a: [u8; { 1 }]) -> u8 { 1 }", &["fn f"]),
+        ("compile_error!(\"a\"); compile_error! { \"b\" } fn f() {}", &["compile_error!", "compile_error!", "fn f"]),
+        ("mod a; mod b { fn f() {} }", &["mod a", "mod b", "mod b / fn f"]),
+        ("impl A { fn f() {} }", &["impl A / fn f"]),
+        ("#[a] impl A { fn f() {} }", &["#[a] impl A / fn f"]),
+        (
+            "impl<T> B for A<T> { const C: u8 = 1; }",
+            &["impl < T > B for A < T >", "impl < T > B for A < T > / const C"],
+        ),
+        ("#![a(b)] #[c] fn f() {}", &["attribute #![a(b)]", "fn f"]),
+        ("use a; use a::b; use a as c;", &["use a", "use a::b", "use a as c"]),
+        ("use a::{b, c::{d as e, self}, *};", &["use a::b", "use a::c::d as e", "use a::c::self", "use a::*"]),
+        ("mod first { use super::*; impl A { pub fn f() {} } }", &["impl A / fn f"]),
+        ("impl<T: B<C<D>>> A<T> { fn f() {} }", &["impl < T : B < C < D >> > A < T > / fn f"]),
+    ] {
+        let origin = Origin { language: Language::Rust, krate: "arraystring_base", module: "a", orders: &["first"] };
+        let found: Vec<_> = items(text, origin).expect("items").into_iter().map(|item| item.key).collect();
+        assert_eq!(found, keys, "{text}");
+    }
+    for word in [
+        "use",
+        "fn",
+        "struct",
+        "enum",
+        "union",
+        "const",
+        "static",
+        "type",
+        "trait",
+        "impl",
+        "mod",
+        "macro_rules",
+        "extern",
+    ] {
+        let sentence = format!("2: `f`: `{word}` in a function, which would not be looked at");
+        refuses(Language::Rust, &format!("fn f() {{\n    {word} a }}\n"), &sentence);
+    }
+    refuses(Language::Rust, "fn f(\n    use: a) {}\n", "2: `f`: `use` in a function, which would not be looked at");
+}
+
+#[test]
+fn an_item_is_named_in_lists_by_its_path() {
+    for (head, name) in [
+        ("impl A", "A"),
+        ("impl<T> A<T>", "A"),
+        ("impl<T: B<C>> A<T>", "A"),
+        ("impl<T: B<C<D>, E>> A", "A"),
+        ("impl B for A", "<A as B>"),
+        ("impl<'a, const N: usize> B<C<u8>> for A<'a, N>", "<A as B<C<u8>>>"),
+        ("impl a::B for A", "<A as a::B>"),
+    ] {
+        assert_eq!(name_of_impl(&with_single_closings(rust_tokens(head))), name, "{head}");
+    }
+    let inner = "mod b { impl<T: C<D<E>>> A { fn f() {} } }";
+    let origin = Origin { language: Language::Rust, krate: "", module: "a", orders: &[] };
+    assert_eq!(items(inner, origin).expect("items")[1].path, "a::b::A::f");
+    for (path, wanted) in [
+        ("crates/arraystring_base/src/utf8.rt", Some(("arraystring_base", "arraystring_base::utf8"))),
+        ("crates/arraystring_base/src/lib.rt", Some(("arraystring_base", "arraystring_base"))),
+        ("crates/arraystring_core/src/a/b.rt", Some(("arraystring_core", "arraystring_core::a::b"))),
+        ("crates/arraystring/src/lib.rt", Some(("arraystring", ""))),
+        ("crates/arraystring/src/a/b.rt", Some(("arraystring", "a::b"))),
+        ("crates/bounded_records/src/a.rt", None),
+        ("crates/arraystring/src/a.rs", None),
+        ("crates/arraystring/out/a.rt", None),
+        ("rust/arraystring/src/a.rt", None),
+    ] {
+        let found = module_of(path);
+        assert_eq!(found.as_ref().map(|(krate, module)| (*krate, module.as_str())), wanted, "{path}");
+    }
+    for (module, path) in [("", "lib.rs"), ("a", "a.rs"), ("a::b::c", "a/b/c.rs")] {
+        assert_eq!(path_of_made(module), format!("rust/arraystring/src/{path}"));
+    }
+}
+
+#[test]
+fn brackets_and_commas_are_those_around() {
+    for (text, from, wanted) in [
+        ("( [ { } ] ) a", 0, Some(6)),
+        ("( [ { } ] ) a", 1, Some(5)),
+        ("( [ { } ] ) a", 6, Some(7)),
+        ("( ] )", 0, None),
+        ("( [ ) ]", 0, None),
+        ("{ )", 0, None),
+        ("[ }", 0, None),
+        ("( (", 0, None),
+        (") a", 0, None),
+        ("( \")\" ')' )", 0, Some(4)),
+        ("", 0, None),
+    ] {
+        assert_eq!(behind_group(&rust_tokens(text), from), wanted, "{text}");
+    }
+    for (text, wanted) in [
+        ("", &[][..]),
+        ("a", &["a"]),
+        ("a, b c,", &["a", "b c"]),
+        (", a", &["", "a"]),
+        ("a(b, c), [d, e], {f, g}, h", &["a ( b , c )", "[ d , e ]", "{ f , g }", "h"]),
+        ("a, (b, c", &["a", "( b , c"]),
+    ] {
+        let tokens = rust_tokens(text);
+        assert_eq!(between_commas(&tokens).into_iter().map(shown).collect::<Vec<_>>(), wanted, "{text}");
+    }
+}
+
+#[test]
+fn a_call_and_a_path_of_fields_are_known() {
+    for (text, wanted) in [
+        ("f(a)", Some("f")),
+        ("f(a)(b)", None),
+        ("f(a).g()", None),
+        ("f(a) + 1", None),
+        ("f", None),
+        ("f(a", None),
+        ("(f)(a)", None),
+        ("a::f(b)", Some("f")),
+        ("a.b.f(c)", Some("f")),
+        ("A::<B>::f(c)", Some("f")),
+        ("f::<A, B>(c)", Some("f")),
+        ("f::<A(c)", None),
+        ("a + f(b)", None),
+        ("<A>(b)", None),
+        ("", None),
+    ] {
+        assert_eq!(called(&rust_tokens(text)), wanted, "{text}");
+    }
+    for (text, is_path, is_of_calls) in [
+        ("a", true, true),
+        ("self.a", true, true),
+        ("a.b.0", true, true),
+        ("a.b()", false, true),
+        ("a().b()", false, true),
+        ("a()", false, true),
+        ("a(b)", false, false),
+        ("0", false, false),
+        ("a.", false, false),
+        ("a b", false, false),
+        ("a.return", false, false),
+        ("a + b", false, false),
+        ("", false, false),
+    ] {
+        let tokens = rust_tokens(text);
+        assert_eq!(
+            (is_path_of_fields(&tokens, false), is_path_of_fields(&tokens, true)),
+            (is_path, is_of_calls),
+            "{text}"
+        );
+    }
+}
+
+#[test]
+fn a_ghost_use_is_a_path() {
+    for text in [" a", " a.b.c", " a.b as c", " a.{b, c}", " a.b.{◌≡◌, c} ", " a.{}"] {
+        assert!(is_ghost_path(text), "{text}");
+    }
+    for text in
+        [" a\n.b", " a\"b", " a b", " a-b", " a as b c", " a as b-c", " a.{b}{c}", " a.{b} c", " a-b.{c}", " a.{b"]
+    {
+        assert!(!is_ghost_path(text), "{text}");
+    }
+}
+
+#[test]
+fn a_difference_is_shown_with_what_is_around() {
+    let text = "a b c d e f g h i j k l m n";
+    for (other, wanted) in [
+        (text, None),
+        ("x b c", Some("`x b c` (line 1) for `a b c d e f g h` (line 1)")),
+        ("a b c d e x\ng h", Some("`b c d e x g h` (line 1) for `b c d e f g h i j k l m` (line 1)")),
+        ("a b\nc", Some("`a b c` (line 2) for `a b c d e f g h i j k` (line 1)")),
+        ("", Some("`` (line 0) for `a b c d e f g h` (line 1)")),
+    ] {
+        assert_eq!(first_difference(&rust_tokens(text), &rust_tokens(other)).as_deref(), wanted, "{other}");
+    }
+}
+
+#[test]
+fn a_rewrite_is_undone_where_what_is_around_allows_it() {
+    let undone_in = |text: &str, path: &str| shown(&undone(rust_tokens(text), REWRITES, path, &mut Reading::default()));
+    let (access, writing) = ("get_unchecked!(a, b)", "get_unchecked_mut!(a, b)");
+    for end in [")", ",", ";", "}"] {
+        assert_eq!(undone_in(&format!("{access} {end}"), "a::f"), format!("& a [ b ] {end}"));
+        assert_eq!(undone_in(&format!("{writing} {end}"), "a::f"), format!("& mut a [ b ] {end}"));
+    }
+    for end in [".c()", "?", "[c]", "(c)", "+ c", "== c", "{ c }", ""] {
+        let text = format!("{access} {end}");
+        assert_eq!(undone_in(&text, "a::f"), shown(&rust_tokens(&text)));
+    }
+    for end in ["+ c", "== c", "{ c }", ";", ")", ""] {
+        assert_eq!(undone_in(&format!("*{access} {end}"), "a::f"), shown(&rust_tokens(&format!("a[b] {end}"))));
+    }
+    for end in [".c()", "?", "[c]", "(c)"] {
+        let text = format!("*{access} {end}");
+        assert_eq!(undone_in(&text, "a::f"), shown(&rust_tokens(&text)));
+    }
+    let uppercase = format!("{writing}.make_ascii_uppercase();");
+    assert_eq!(undone_in(&uppercase, "a::f"), "a [ b ] . make_ascii_uppercase ( ) ;");
+    assert_eq!(undone_in(&format!("*{uppercase}"), "a::f"), shown(&rust_tokens(&format!("*{uppercase}"))));
+    for (path, wanted) in
+        [("arraystring_base::utf8::f", "look ( a )"), ("arraystring_base::utf8_b::f", "look_unchecked ( a )")]
+    {
+        assert_eq!(undone_in("look_unchecked(a)", path), wanted);
+    }
+}
+
+#[test]
+fn a_pattern_matches_what_it_says() {
+    for (text, of, from, wanted) in [
+        ("f($a)", "f(b + c)", 0, Some(6)),
+        ("f($a)", "g f(b)", 1, Some(5)),
+        ("f($a)", "f()", 0, None),
+        ("f($a)", "f(b, c)", 0, None),
+        ("f($a)", "f(b; c)", 0, None),
+        ("f($a)", "f(g(b, c), )", 0, None),
+        ("f($a, $b)", "f([b, c], {d, e})", 0, Some(14)),
+        ("f($a", "f(b}", 0, Some(3)),
+        ("$a = $a;", "b + 1 = b + 1;", 0, Some(8)),
+        ("$a = $a;", "b = c;", 0, None),
+        ("f($item)", "f(b)", 0, Some(4)),
+        ("f($item)", "f(b.c)", 0, None),
+        ("f($item)", "f(1)", 0, None),
+        ("f($item)", "f(return)", 0, None),
+        ("f($of)", "f(b.c())", 0, Some(8)),
+        ("f($fields)", "f(b.c())", 0, None),
+        ("f($fields)", "f(b.c)", 0, Some(6)),
+        ("for $item in $all {", "for a in b.c() { d }", 0, Some(9)),
+        ("f", "g", 0, None),
+        ("f g", "f", 0, None),
+    ] {
+        assert_eq!(matched(&pattern(text), &rust_tokens(of), from, &mut Bound::new()), wanted, "{text} {of}");
+    }
+    let known = "copy_from_slice_unchecked get_unchecked get_unchecked_mut look look_unchecked only_reading prove required \
+                 required_of_each text_fits unreachable unreachable_unchecked";
+    assert_eq!(known_names().into_iter().collect::<Vec<_>>().join(" "), known);
+}
+
+#[test]
+fn a_comma_is_free_where_it_makes_no_tuple() {
+    for (text, is_head, wanted) in [
+        ("f(a, b,)", false, "f(a, b)"),
+        ("f!(a,)", false, "f!(a)"),
+        ("[a,]", false, "[a]"),
+        ("A { b, }", false, "A { b }"),
+        ("(a,)", false, "(a,)"),
+        ("return (a,)", false, "return (a,)"),
+        ("f((a,),)", false, "f((a,))"),
+        ("f<A,>(b,)", true, "f<A>(b)"),
+        ("f<A, B<C>,>(d: (E,),)", true, "f<A, B<C> >(d: (E,))"),
+        ("A<B>,>", true, "A<B> >"),
+        ("a < b,>", false, "a < b,>"),
+    ] {
+        assert_eq!(shown(&without_commas(rust_tokens(text), is_head)), shown(&rust_tokens(wanted)), "{text}");
+    }
+    assert_eq!(shown(&with_single_closings(rust_tokens("a >> b > c"))), "a > > b > c");
+    for (head, wanted) in [
+        ("pub unsafe fn f()", Some(1)),
+        ("unsafe fn f()", Some(0)),
+        ("fn f(a: unsafe fn())", None),
+        ("pub fn f()", None),
+        ("fn", None),
+        ("unsafe", None),
+    ] {
+        assert_eq!(unsafe_of(&rust_tokens(head)), wanted, "{head}");
+    }
+    for (module, wanted) in [
+        ("laws", true),
+        ("laws::a", true),
+        ("lawsuit", false),
+        ("arraystring_base::laws::a::b", true),
+        ("arraystring_base::moves::move_pairs", false),
+        ("arraystring_base", false),
+        ("", false),
+    ] {
+        assert_eq!(is_left_out(&LISTS, module), wanted, "{module}");
+    }
+}
+
+#[test]
+fn each_entry_that_is_used_has_its_reason() {
+    let comparison = compare(&tree(), &LISTS);
+    let listed: BTreeSet<String> = entries(&LISTS).into_iter().map(|(entry, _)| entry).collect();
+    assert_eq!(comparison.reading.used, listed);
+    let unused = Comparison::new(&LISTS, BTreeSet::new());
+    assert_eq!(faults_of_lists(&unused).len(), entries(&LISTS).len());
+}
+
+#[test]
+fn what_is_told_has_its_status() {
+    let root = std::env::current_dir().expect("a folder");
+    let root = root.ancestors().find(|it| it.join("crates/arraystring_base").is_dir()).expect("the repository");
+    let with = |words: &[&str]| outcome(&words.iter().map(|word| word.to_string()).collect::<Vec<_>>());
+    let (status, text) = with(&["--root", root.to_str().expect("a path")]);
+    let Comparison { functions, items, .. } = compare(&tree(), &LISTS);
+    let all =
+        format!("{functions} functions and {items} items are as in the sources, by {} entries", entries(&LISTS).len());
+    assert!(status == 0 && text == format!("compare: {all} of lists\n"), "{text}");
+    for words in [&["--other", "a"][..], &["--root"], &["--root", "a", "b"]] {
+        assert_eq!(with(words), (2, "compare: the arguments are [--root FOLDER]\n".to_string()));
+    }
+    let (status, text) = with(&["--root", "/nowhere"]);
+    assert!(status == 2 && text.starts_with("compare: /nowhere/crates/arraystring_base/src: "), "{text}");
+    let mut files = tree();
+    files.insert(format!("{MADE}a.rs"), String::new());
+    files.insert(format!("{MADE}b.rs"), String::new());
+    let (status, text) = report(&compare(&files, &LISTS));
+    let no_source = "it has no source, and is not in the list of what is by hand";
+    let wanted =
+        format!("compare: {MADE}a.rs: {no_source}\ncompare: {MADE}b.rs: {no_source}\ncompare: 2 differences\n");
+    assert_eq!((status, text), (1, wanted));
+}
+
+#[test]
+fn what_a_list_adds_or_leaves_out_is_there_or_not() {
+    static CHANGED: Lists = Lists {
+        added: &[
+            Added { module: "arraystring_base::a", items: "fn more() -> u8 { 1 } impl A { fn g() {} }", why: "a test" },
+            Added { module: "arraystring_base::b", items: "fn other() {}", why: "a test" },
+        ],
+        left_out: &[("arraystring_base::a::lost", "a test"), ("arraystring_base::b::f", "a test")],
+        ..NONE
+    };
+    let source = "fn f() {}\nfn lost() {}\n";
+    let made = "fn f() {}\nfn more() -> u8 {\n    1\n}\nimpl A {\n    fn g() {}\n}\n";
+    assert_eq!(pair(&CHANGED, source, made), [""; 0]);
+    let list = "the list of what is added to `arraystring_base::a`";
+    for (from, to, words) in [
+        (
+            "    1\n",
+            "    2\n",
+            format!("{list}, rust/arraystring/src/arraystring_base/a.rs:3: `arraystring_base::a::more`: `"),
+        ),
+        ("fn more() -> u8 {\n    1\n}\n", "", format!("{list}: `arraystring_base::a::more` is missing in rust/")),
+        ("    fn g() {}\n", "", format!("{list}: `arraystring_base::a::A::g` is missing in rust/")),
+        ("fn f() {}\n", "", "a.rt:1: `arraystring_base::a::f` is missing in rust/".to_string()),
+        ("fn f() {}\n", "fn f() {}\nfn lost() {}\n", "a.rs:3: `arraystring_base::a::lost` is in no source".to_string()),
+        (
+            "fn f() {}\n",
+            "fn f() {}\nfn other() {}\n",
+            "a.rs:3: `arraystring_base::a::other` is in no source".to_string(),
+        ),
+    ] {
+        let found = pair(&CHANGED, source, &made.replacen(from, to, 1));
+        assert!(found.len() == 1 && found[0].contains(&words), "{words}: {found:?}");
+    }
+}
+
+#[test]
+fn a_use_has_the_path_of_the_list() {
+    same("use std::str;\n", "use crate::by_hand::str;\n");
+    same("pub use std::str;\n", "pub use crate::by_hand::str;\n");
+    differs("use std::str;\n", "use core::str;\n", "`arraystring_base::a::use crate::by_hand::str` is missing");
+    differs("pub use std::str;\n", "use crate::by_hand::str;\n", "[\"visibility \"] for [\"visibility pub\"]");
+    // (a vector is another one in the module of moves alone)
+    same("use std::simd::Simd;\n", "use core::simd::Simd;\n");
+    differs("#[cfg(test)]\nuse std::marker::Model;\n", "", "use core::marker::Model` is missing");
+}
+
+#[test]
+fn what_a_proof_alone_has_is_left_out_where_it_stands() {
+    same("fn f<T: A + Drop, U: B + Drop>() {}\n", "fn f<T: A, U: B>() {}\n");
+    differs("fn f() {\n    requires { a };\n}\n", "fn f() {}\n", "a.rt:2: `requires { a }` in a body");
+    differs("fn f() {\n    prove!(a)\n}\n", "fn f() {}\n", "a.rt:2: `prove!(a)` in a body");
+    same("fn f() {\n    if a {}\n    prove!(b);\n}\n", "fn f() {\n    if a {}\n}\n");
+    let uses = "use crate::laws::only_reading;\n";
+    let source = |body: &str| format!("{uses}fn f(a: u8) {{\n    {body}\n}}\n");
+    same(&source("only_reading(a); if a { only_reading(a); } only_reading(a);"), "fn f(a: u8) { if a { } }\n");
+    differs(&source("let b = only_reading(a);"), "fn f(a: u8) { let b = ; }\n", "for `");
+    let requires = "pub(crate) fn f()\n    requires { c }\n{}\n";
+    same(requires, "pub(crate) unsafe fn f() {}\n");
+    differs(&requires.replace("(crate)", ""), "pub unsafe fn f() {}\n", "does not say how it tests what it requires");
+}
+
+#[test]
+fn a_made_file_names_its_source_in_its_first_two_lines() {
+    let named = "// Made from crates/arraystring_base/src/a.rt by rust/erase.\n";
+    for (lines, count) in [("", 0), ("// a\n", 0), ("// a\n// b\n", 1)] {
+        let (source, made) = ("crates/arraystring_base/src/a.rt", "rust/arraystring/src/arraystring_base/a.rs");
+        let here = File { path: made, text: &format!("{lines}{named}") };
+        let found = differences(&NONE, &BTreeSet::new(), File { path: source, text: "" }, here);
+        let wanted = format!("{made}:1: it does not name {source} as its source");
+        assert_eq!(found, vec![wanted; count]);
+    }
+}
+
+#[test]
+fn the_sources_and_what_is_made_are_read_and_no_other_file() {
+    let root = std::env::temp_dir().join(format!("compare-{}", std::process::id()));
+    let write = |path: &str| {
+        let path = root.join(path);
+        std::fs::create_dir_all(path.parent().expect("a folder")).expect("a folder");
+        std::fs::write(&path, path.to_str().expect("a path")).expect("a file");
+    };
+    let read_files = [
+        "crates/arraystring/src/a.rt",
+        "crates/arraystring_base/src/b/c.rt",
+        "crates/arraystring_core/src/d.rt",
+        "rust/arraystring/src/e/f.rs",
+        "rust/arraystring/src/g.rs",
+    ];
+    read_files.into_iter().for_each(write);
+    ["crates/arraystring/src/a.rs", "crates/arraystring/h.rt", "crates/bounded/src/i.rt", "rust/arraystring/src/j.rt"]
+        .into_iter()
+        .for_each(write);
+    let files = read_all(&root).expect("the files");
+    std::fs::remove_dir_all(&root).expect("a folder");
+    assert_eq!(files.keys().collect::<Vec<_>>(), read_files);
+    assert!(files.iter().all(|(path, text)| text.ends_with(path)));
+}
+
+#[test]
+fn a_path_of_a_source_is_resolved_where_it_begins() {
+    let origin = |language| Origin { language, krate: "arraystring_base", module: "a", orders: &[] };
+    for (text, wanted) in [
+        ("crate::a", "crate :: arraystring_base :: a"),
+        ("std::a::b", "core :: a :: b"),
+        ("arraystring_core::a", "crate :: arraystring_core :: a"),
+        ("arraystring::a", "crate :: a"),
+        ("a::crate::b", "a :: crate :: b"),
+        ("a.std::b", "a . std :: b"),
+        ("std", "std"),
+        ("crate.a", "crate . a"),
+        ("use std::a; std::b", "use std :: a ; core :: b"),
+        ("alloc::a", "alloc :: a"),
+    ] {
+        let tokens = rust_tokens(text);
+        assert_eq!(shown(&resolved(tokens.clone(), origin(Language::Rattle))), wanted, "{text}");
+        assert_eq!(resolved(tokens.clone(), origin(Language::Rust)), tokens);
+    }
+    for (text, there, here) in [
+        ("use crate::b;", "use crate::arraystring_base::b", "use crate::b"),
+        ("use std::b::c;", "use core::b::c", "use std::b::c"),
+        ("use arraystring_core::b;", "use crate::arraystring_core::b", "use arraystring_core::b"),
+        ("use b::std;", "use b::std", "use b::std"),
+        ("use std as b;", "use core as b", "use std as b"),
+    ] {
+        for (language, wanted) in [(Language::Rattle, there), (Language::Rust, here)] {
+            assert_eq!(items(text, origin(language)).expect("items")[0].key, wanted);
+        }
+    }
+    for (text, attributes) in [
+        ("use b;", &["visibility "][..]),
+        ("pub use b;", &["visibility pub"]),
+        ("#[c(d)] pub(crate) use b;", &["c(d)", "visibility pub ( crate )"]),
+    ] {
+        let found = items(text, origin(Language::Rust)).expect("items").remove(0);
+        assert!(found.attributes == attributes && found.head.is_empty(), "{text}: {found:?}");
+    }
+}
+
+#[test]
+fn an_item_has_its_parts() {
+    let origin = Origin { language: Language::Rattle, krate: "arraystring_base", module: "a", orders: &[] };
+    let function = "#[b]\npub fn f(c: [u8; 2])\n    requires { d }\n    ensures e { g }\n{\n    h()\n}";
+    let found = items(&format!("\n{function}\nfn next() {{}}\n"), origin).expect("items").remove(0);
+    assert_eq!((found.key.as_str(), found.path.as_str(), found.line), ("fn f", "a::f", 3));
+    assert_eq!(found.attributes, ["b"]);
+    let shown_parts = [&found.head, &found.clauses, &found.body].map(|tokens| shown(tokens));
+    assert_eq!(shown_parts, ["pub fn f ( c : [ u8 ; 2 ] )", "requires { d } ensures e { g }", "{ h ( ) }"]);
+    assert!(found.is_function && found.at == (1, 1 + function.len()));
+    for (text, head) in [
+        ("#[b] struct C { d: u8 }", "struct C { d : u8 }"),
+        ("pub struct C(u8);", "pub struct C ( u8 ) ;"),
+        ("const C: u8 = 1;", "const C : u8 = 1 ;"),
+        ("pub mod c;", "pub mod c"),
+        ("pub mod c {}", "pub mod c {"),
+        ("impl B for C {}", "impl B for C"),
+    ] {
+        let found = items(&format!("{text} fn next() {{}}"), origin).expect("items").remove(0);
+        assert!(shown(&found.head) == head && !found.is_function && found.body.is_empty(), "{text}: {found:?}");
+        assert_eq!(found.at.0, 0, "{text}");
+    }
+    same("#[tactic(a::b(c, d), e)]\nfn f() {}\n", "fn f() {}\n");
+}
+
+#[test]
+fn a_function_may_be_moved_that_names_nothing_around() {
+    for (function, wanted) in [
+        ("pub fn f() { self.g() }", true),
+        ("pub(crate) fn f() { a::g() }", true),
+        ("fn f() {}", false),
+        ("pub(super) fn f() {}", false),
+        ("pub(in crate::a) fn f() {}", false),
+        ("pub fn f() { self::g() }", false),
+        ("pub fn f() { super::g() }", false),
+        ("pub fn f(a: super::A) {}", false),
+    ] {
+        assert_eq!(may_be_moved(&rust_tokens(function)).is_ok(), wanted, "{function}");
+    }
+}
+
+#[test]
+fn an_unsafe_block_is_around_what_the_list_has() {
+    let without = |text: &str| {
+        let mut reading = Reading { unsafe_names: ["put".to_string()].into(), ..Reading::default() };
+        let made = shown(&without_unsafe_blocks(rust_tokens(text), &mut reading));
+        (made, reading.used.contains(UNSAFE_BLOCK))
+    };
+    for (text, wanted) in [
+        ("unsafe { put(a) }", "put(a)"),
+        ("unsafe { a.b.put(c) };", "a.b.put(c);"),
+        ("unsafe { A::put::<B>(c) }", "A::put::<B>(c)"),
+        ("unsafe { put(unsafe { put(a) }) }", "put(put(a))"),
+        ("unsafe { get_unchecked!(a, b) }", "get_unchecked!(a, b)"),
+        ("unsafe { unreachable_unchecked!() }", "unreachable_unchecked!()"),
+    ] {
+        assert_eq!(without(text), (shown(&rust_tokens(wanted)), true), "{text}");
+    }
+    for text in [
+        "unsafe { other(a) }",
+        "unsafe { put(a); }",
+        "unsafe { put(a) + 1 }",
+        "unsafe { put }",
+        "unsafe {}",
+        "unsafe (put(a))",
+        "unsafe [put(a)]",
+        "unsafe fn put(a: u8)",
+        "unsafe { required!(a) }",
+        "unsafe { get_unchecked(a, b) }",
+        "unsafe { get_unchecked!(a, b).c() }",
+        "unsafe { unsafe }",
+        "safe { put(a) }",
+    ] {
+        assert_eq!(without(text), (shown(&rust_tokens(text)), false), "{text}");
+    }
+}
+
+#[test]
+fn what_is_compared_is_counted() {
+    let (source, made) = ("crates/arraystring_base/src/a.rt", "rust/arraystring/src/arraystring_base/a.rs");
+    let text = "fn f() {}\nfn g() {}\nstruct A;\nimpl B for A {\n    fn h() {}\n}\n";
+    let here = format!("// Made from {source} by rust/erase.\n{text}");
+    let mut comparison = Comparison::new(&NONE, BTreeSet::new());
+    comparison.file(
+        File { path: source, text },
+        File { path: made, text: &here },
+        "arraystring_base",
+        "arraystring_base::a",
+    );
+    assert_eq!((comparison.functions, comparison.items, comparison.differences.len()), (3, 2, 0));
 }

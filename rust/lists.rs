@@ -164,14 +164,14 @@ pub const REQUIRED: &[Required] = &[
         why: "what is written has to lie in the array; no sum can wrap",
     },
     Required {
-        path: "arraystring_core::array_string::construct::ArrayString::from_str_unchecked",
+        path: "arraystring_core::array_string::unchecked::ArrayString::from_str_unchecked",
         requires: &["requires { size (chars string.now) ≤ cap N }"],
         behind: "",
         lines: "required!(string.len() <= Self::capacity() as usize);",
         why: "the text has to fit",
     },
     Required {
-        path: "arraystring_core::array_string::construct::ArrayString::from_iterator_unchecked",
+        path: "arraystring_core::array_string::unchecked::ArrayString::from_iterator_unchecked",
         requires: &[
             "requires ends { IsFiniteIterable I.into_iter_gives I.IntoIter.can_next I.IntoIter.remaining pieces }",
             "requires fits { Fits I.into_iter_gives I.IntoIter.next_gives joined_pieces pieces (cap N) }",
@@ -181,7 +181,7 @@ pub const REQUIRED: &[Required] = &[
         why: "each piece has to fit behind those before it, which it is asked for one by one; an iterator that does not end is allowed",
     },
     Required {
-        path: "arraystring_core::array_string::construct::ArrayString::from_chars_unchecked",
+        path: "arraystring_core::array_string::unchecked::ArrayString::from_chars_unchecked",
         requires: &[
             "requires ends { IsFiniteIterable I.into_iter_gives I.IntoIter.can_next I.IntoIter.remaining characters }",
             "requires fits { Fits I.into_iter_gives I.IntoIter.next_gives (λ cs. cs) characters (cap N) }",
@@ -191,28 +191,28 @@ pub const REQUIRED: &[Required] = &[
         why: "each character has to fit behind those before it; an iterator that does not end is allowed",
     },
     Required {
-        path: "arraystring_core::array_string::construct::ArrayString::from_utf8_unchecked",
+        path: "arraystring_core::array_string::unchecked::ArrayString::from_utf8_unchecked",
         requires: &["requires well_formed { IsWellFormed given.now }", "requires fits { length given.now ≤ cap N }"],
         behind: "",
         lines: "required!(str::from_utf8(given).is_ok()); required!(given.len() <= Self::capacity() as usize);",
         why: "the bytes have to be UTF-8, and to fit",
     },
     Required {
-        path: "arraystring_core::array_string::push::ArrayString::push_unchecked",
+        path: "arraystring_core::array_string::unchecked::ArrayString::push_unchecked",
         requires: &["requires { size self.old.text + width ch ≤ cap N }"],
         behind: "",
         lines: "required!(self.len() as usize + ch.len_utf8() <= Self::capacity() as usize);",
         why: FITS,
     },
     Required {
-        path: "arraystring_core::array_string::push::ArrayString::push_str_unchecked",
+        path: "arraystring_core::array_string::unchecked::ArrayString::push_str_unchecked",
         requires: &["requires { size self.old.text + size (chars string.now) ≤ cap N }"],
         behind: "",
         lines: "required!(self.len() as usize + string.len() <= Self::capacity() as usize);",
         why: FITS,
     },
     Required {
-        path: "arraystring_core::array_string::insert::ArrayString::insert_unchecked",
+        path: "arraystring_core::array_string::unchecked::ArrayString::insert_unchecked",
         requires: &[
             "requires boundary { IsTrue (boundary self.old.text index) }",
             "requires room { size self.old.text + width ch ≤ cap N }",
@@ -224,7 +224,7 @@ pub const REQUIRED: &[Required] = &[
         why: AT_BOUNDARY,
     },
     Required {
-        path: "arraystring_core::array_string::insert::ArrayString::insert_str_unchecked",
+        path: "arraystring_core::array_string::unchecked::ArrayString::insert_str_unchecked",
         requires: &[
             "requires boundary { IsTrue (boundary self.old.text index) }",
             "requires room { size self.old.text + size (chars string.now) ≤ cap N }",
@@ -395,6 +395,15 @@ pub const PLACES: &[Place] = &[
         why: MEMMOVE,
     },
     Place {
+        path: "arraystring_base::moves::move_long_run_of_array",
+        source: 0x2726_20B0_1A84_089A,
+        here: "
+            unsafe fn move_long_run_of_array<const N: usize>(all: &mut [u8], from: usize, to: usize, len: usize) {
+                unsafe { move_bytes(all, from, to, len) };
+            }",
+        why: "what `move_bytes` moves here is moved by one call",
+    },
+    Place {
         path: "arraystring_base::steps::Steps::count_moves",
         source: 0x0ECD_4EB4_8C1A_0C39,
         here: "
@@ -434,7 +443,7 @@ pub const PLACES: &[Place] = &[
                 }
                 Ok(())
             }",
-        why: "it takes more types, as the Rust crate 0.3.0 does, and each is asked once",
+        why: "it takes more types, as arraystring 0.3.0 does, and converts each argument once",
     },
     Place {
         path: "arraystring_core::array_string::ArrayString::as_str",
@@ -465,7 +474,7 @@ pub const PLACES: &[Place] = &[
         why: SPLITS,
     },
     Place {
-        path: "arraystring_core::array_string::range::ArrayString::slice",
+        path: "arraystring_core::array_string::borrowed_range::ArrayString::slice",
         source: 0xB09A_1F3E_A40D_7C6C,
         here: "
             pub fn slice<R: RangeBounds<u8>>(&self, range: R) -> &str {
@@ -475,7 +484,7 @@ pub const PLACES: &[Place] = &[
         why: LIKE_STR,
     },
     Place {
-        path: "arraystring_core::array_string::range::ArrayString::get",
+        path: "arraystring_core::array_string::borrowed_range::ArrayString::get",
         source: 0x4914_C8A9_BF9F_A62C,
         here: "
             pub fn get<R: RangeBounds<u8>>(&self, range: R) -> Option<&str> {
@@ -485,7 +494,7 @@ pub const PLACES: &[Place] = &[
         why: "std makes the tests of the source, and gives the part without making them again",
     },
     Place {
-        path: "arraystring_core::array_string::range::ArrayString::make_ascii_uppercase_in",
+        path: "arraystring_core::array_string::ascii::ArrayString::make_ascii_uppercase_in",
         source: 0x9FBB_390C_DFBC_CBB7,
         here: "
             pub fn make_ascii_uppercase_in<R: RangeBounds<u8>>(&mut self, range: R) {
@@ -496,7 +505,7 @@ pub const PLACES: &[Place] = &[
         why: LIKE_STR,
     },
     Place {
-        path: "arraystring_core::array_string::range::ArrayString::make_ascii_lowercase_in",
+        path: "arraystring_core::array_string::ascii::ArrayString::make_ascii_lowercase_in",
         source: 0xA4C7_FDF2_F207_E58E,
         here: "
             pub fn make_ascii_lowercase_in<R: RangeBounds<u8>>(&mut self, range: R) {
@@ -584,12 +593,12 @@ pub const SAFE: &[Safe] = &[
     Safe {
         requires: &["requires looks { steps.old.looked ≤ 2 ^ 63 }", "requires moves { steps.old.moved ≤ 2 ^ 63 }"],
         functions: &[
-            "arraystring_core::array_string::insert::ArrayString::try_insert_str_counted",
-            "arraystring_core::array_string::range::ArrayString::drain_counted",
-            "arraystring_core::array_string::range::ArrayString::replace_range_counted",
-            "arraystring_core::array_string::remove::ArrayString::pop_counted",
-            "arraystring_core::array_string::remove::ArrayString::remove_counted",
-            "arraystring_core::array_string::trim::ArrayString::trim_counted",
+            "arraystring_core::array_string::counted::ArrayString::try_insert_str_counted",
+            "arraystring_core::array_string::counted::ArrayString::drain_counted",
+            "arraystring_core::array_string::counted::ArrayString::replace_range_counted",
+            "arraystring_core::array_string::counted::ArrayString::pop_counted",
+            "arraystring_core::array_string::counted::ArrayString::remove_counted",
+            "arraystring_core::array_string::counted::ArrayString::trim_counted",
         ],
         why: COUNTS,
     },
@@ -606,8 +615,8 @@ pub const SAFE: &[Safe] = &[
     Safe {
         requires: &["requires { steps.old.moved ≤ 2 ^ 63 }"],
         functions: &[
-            "arraystring_core::array_string::range::ArrayString::drain_through",
-            "arraystring_core::array_string::range::ArrayString::replace_between",
+            "arraystring_core::array_string::drained_range::ArrayString::drain_through",
+            "arraystring_core::array_string::replaced_range::ArrayString::replace_between",
         ],
         why: COUNTS,
     },
@@ -651,7 +660,7 @@ pub const LEFT_OUT: &[(&str, &str)] = &[
     ("arraystring_base::moves::move_pairs", BY_STD),
     ("arraystring_base::moves::put_pair", BY_STD),
     (
-        "arraystring_core::array_string::range::ArrayString::between",
+        "arraystring_core::array_string::borrowed_range::ArrayString::between",
         "`get` asks std for the part, and `slice` has the index itself",
     ),
     ("arraystring_core::fast::equal::use core::simd::Simd", BY_STD),
@@ -686,7 +695,7 @@ pub const LEFT_OUT: &[(&str, &str)] = &[
     ("arraystring_core::fast::well_formed::is_ascii_block", BY_STD),
 ];
 
-const SERDE: &str = "it stands on `serde_json`, and the Rust crate has no dependency";
+const SERDE: &str = "it needs `serde_json`, and the Rust crate has no dependency";
 const NO_PROOF: &str = "a Rust program has no proof that could cite a law";
 pub const BY_STD: &str = "std does here what it is for, and nothing else calls it";
 
@@ -768,7 +777,7 @@ pub const ADDED: &[Added] = &[
                     (len.div_ceil(4), Some(len))
                 }
             }",
-        why: "callers that make room ask for it",
+        why: "it is the size hint, which a caller needs to reserve room",
     },
     Added {
         module: "arraystring_base::utf16",
@@ -781,42 +790,46 @@ pub const ADDED: &[Added] = &[
                     (len.div_ceil(2), Some(len))
                 }
             }",
-        why: "callers that make room ask for it",
+        why: "it is the size hint, which a caller needs to reserve room",
     },
 ];
 
 /// The files by hand, and what is in each. Each other one is made of the source of its path.
 pub const BY_HAND: &[(&str, &str)] = &[
-    ("by_hand.rs", "the module of what follows, and this page"),
+    ("by_hand.rs", "the module of the files below, and this page"),
     (
         "by_hand/traits.rs",
-        "`Deref`, `AsRef`, `Borrow`, `FromIterator`, `Extend`, `Index` and some `From`, each one call of the string. `DerefMut` of \
-         `CacheString` lends the string inside. `==` with a `str` on the left, `PartialOrd` with one on the right, and `AddAssign`, \
-         each one call of the texts. `Debug`, `Default`, `PartialEq` and `Eq` of `Steps`, and `Hash` of the errors of one case",
+        "`Deref`, `AsRef`, `Borrow`, `FromIterator`, `Extend`, `Index` and some `From`. Each is one call of the string. `DerefMut` of \
+         `CacheString` lends the string inside. `==` with a `str` on the left, `PartialOrd` with one on the right, and `AddAssign`. \
+         Each is one call of the texts. `Debug`, `Default`, `PartialEq` and `Eq` of `Steps`, and `Hash` of the errors of one case",
     ),
     (
         "by_hand/loan.rs",
-        "the text lent to be written: `as_mut_str`, and `DerefMut`, `AsMut`, `BorrowMut` and `IndexMut` over it. Safe code can write \
-         nothing there that is not UTF-8. A fault in `as_mut_str` could break it",
+        "calls that lend the text to be written: `as_mut_str`, and `DerefMut`, `AsMut`, `BorrowMut` and `IndexMut` over it. Safe code \
+         can write only UTF-8 there. A fault in `as_mut_str` could break UTF-8",
     ),
     (
         "by_hand/constructors.rs",
-        "`const_try_from_str`, a fault in which could break UTF-8; `try_from_format`, over `try_write`, and `From<char>`, each one \
-         call of the string",
+        "`const_try_from_str`, in which a fault could break UTF-8. `try_from_format`, over `try_write`, and `From<char>`. Each of the \
+         two is one call of the string",
     ),
-    ("by_hand/owned.rs", "what a string takes of `String`, `Box<str>` and `Cow<str>`, each one call of the string"),
+    (
+        "by_hand/owned.rs",
+        "`==` with `String` and `Cow<str>`, and `collect` and `extend` over these and `Box<str>`. Each is one call of the string",
+    ),
     (
         "by_hand/copies.rs",
-        "what `String`, `Box<str>`, `Cow<str>` and `Vec<u8>` take of a string, each one call of the text",
+        "`From` a string for `String`, `Box<str>`, `Cow<str>` and `Vec<u8>`, `collect` of strings into the first three, and `extend` of a \
+         `String`. Each is one call of the text",
     ),
-    ("by_hand/paths.rs", "`AsRef<OsStr>` and `AsRef<Path>`, each one call of the text"),
+    ("by_hand/paths.rs", "`AsRef<OsStr>` and `AsRef<Path>`. Each is one call of the text"),
     ("by_hand/room.rs", "`is_full` and `remaining_capacity`"),
     ("by_hand/write.rs", "`try_write`, over `write_str` and `truncate`"),
     ("by_hand/constant.rs", "`arraystring!`, over `const_try_from_str`"),
     ("by_hand/simd.rs", "the vectors of the sources, as arrays or words. A fault in it could break UTF-8"),
     (
         "by_hand/access.rs",
-        "what is read and written without a test, and `from_utf8_unchecked` and `from_u32_unchecked`, which `checked` tests. A fault in it could break UTF-8",
+        "the reads and writes without a test, and `from_utf8_unchecked` and `from_u32_unchecked`, which `checked` tests. A fault in it could break UTF-8",
     ),
     ("by_hand/contracts.rs", "the page on contracts"),
     ("by_hand/count_tests.rs", "tests"),

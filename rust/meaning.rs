@@ -15,12 +15,12 @@
 //! place and with what to do. Status 2: it was called wrongly, or a file can't be read. Its tests are in `meaning_tests.rs`.
 
 use std::collections::{BTreeMap, BTreeSet};
-use std::path::PathBuf;
+use std::path::Path;
 use std::process::ExitCode;
 
 use compare::{
     Fault, Files, Item, Kind, Language, MADE, Origin, Token, behind_group, between_commas, items, module_of,
-    path_of_made, pattern, position, read_all, tokens, with_single_closings,
+    path_of_made, pattern, position, read_all, tokens, told, with_single_closings,
 };
 
 // (what compares is not called here)
@@ -191,13 +191,27 @@ impl Program {
 /// The names of the fields of a struct, or the variants of an enum, by its tokens.
 fn members(head: &[Token]) -> Vec<String> {
     let open = group_of_type(head);
-    let Some(end) = behind_group(head, open).filter(|end| open < *end) else { return Vec::new() };
+    let Some(end) = behind_group(head, open) else { return Vec::new() };
+    let inside = without_angles(&head[open + 1..end - 1]);
+    let is_struct = head[..open].iter().any(|token| token.is("struct"));
     let name = |(count, part): (usize, &[Token])| match position(part, &pattern(":")) {
-        Some(at) if at > 0 => part[at - 1].text.clone(),
         _ if head[open].is("(") => count.to_string(),
+        Some(at) if is_struct => part[at - 1].text.clone(),
         _ => part.iter().find(|token| token.kind == Kind::Word).map(|token| token.text.clone()).unwrap_or_default(),
     };
-    between_commas(&head[open + 1..end - 1]).into_iter().enumerate().map(name).collect()
+    between_commas(&inside).into_iter().enumerate().map(name).collect()
+}
+
+/// Tokens without what stands in angles, where a comma is none between fields.
+fn without_angles(tokens: &[Token]) -> Vec<Token> {
+    let mut depth = 0;
+    let is_outside = |token: &&Token| {
+        depth += i32::from(token.is("<"));
+        let is_outside = depth == 0;
+        depth -= i32::from(token.is(">"));
+        is_outside
+    };
+    tokens.iter().filter(is_outside).cloned().collect()
 }
 
 /// Where the group of a type's fields or variants begins, behind its name and its generics.
@@ -506,7 +520,7 @@ impl Check {
             return self.refused.push(part.refused(part.item.line, MAY_UNWIND));
         };
         self.note(&format!("played {path}"));
-        if played.calls.is_empty() && part.item.head[0].is("pub") && takes_code(part, self) {
+        if played.calls.is_empty() && is_open(part, files) && takes_code(part, self) {
             self.refused.push(part.refused(part.item.line, HANDED_IN));
         }
         let tests = files.get(UNWINDING).map_or("", String::as_str);
@@ -536,6 +550,14 @@ impl Check {
             }
         }
     }
+}
+
+/// Whether what no list has may call a function: another crate, or a file by hand. (Who calls it in the sources is listed, too.)
+fn is_open(part: &Part, files: &Files) -> bool {
+    let (head, name) = (&part.item.head, part.item.path.rsplit("::").next().unwrap_or_default());
+    let words = |text| tokens(text, Language::Rust).unwrap_or_default();
+    let mut by_hand = files.iter().filter(|(path, _)| path.contains("/by_hand/")).flat_map(|(_, text)| words(text));
+    head[0].is("pub") && (!head[1].is("(") || by_hand.any(|token| token.is(name)))
 }
 
 /// Whether a function can write anything that is not a count or what a caller gave to write into. Where a type holds a `&mut`, each
@@ -594,12 +616,12 @@ const BOUNDED: &[(&str, &str)] = &[
     ("arraystring_core::array_string::construct::ArrayString::from_iterator", NEW_TEXT),
     ("arraystring_core::array_string::construct::ArrayString::try_from_chars", NEW_TEXT),
     ("arraystring_core::array_string::construct::ArrayString::from_chars", NEW_TEXT),
-    ("arraystring_core::array_string::construct::ArrayString::from_iterator_unchecked", SAFETY),
+    ("arraystring_core::array_string::unchecked::ArrayString::from_iterator_unchecked", SAFETY),
     ("cache_string::CacheString::from_iterator_unchecked", SAFETY),
     ("cache_string::CacheString::from_chars_unchecked", SAFETY),
-    ("arraystring_core::array_string::range::ArrayString::drain_through", ENDS),
-    ("arraystring_core::array_string::range::ArrayString::make_ascii_uppercase_in", ENDS),
-    ("arraystring_core::array_string::range::ArrayString::make_ascii_lowercase_in", ENDS),
+    ("arraystring_core::array_string::drained_range::ArrayString::drain_through", ENDS),
+    ("arraystring_core::array_string::ascii::ArrayString::make_ascii_uppercase_in", ENDS),
+    ("arraystring_core::array_string::ascii::ArrayString::make_ascii_lowercase_in", ENDS),
     (
         "arraystring_core::array_string::retain::ArrayString::retain",
         "what it hands to `retain_at` is read from the fields, before the closure is called",
@@ -616,7 +638,7 @@ const BOUNDED: &[(&str, &str)] = &[
 
 const BETWEEN: &str = "between two items the array, its start and its size are those of the text so far";
 const BEFORE: &str = "the range and the text are asked before anything is written";
-const OWN_CLOSURE: &str = "the closure is a function of this file, which can't panic, and no caller hands one in";
+const OWN_CLOSURE: &str = "the closure is a function of `trim`, which can't panic, and no caller hands one in";
 
 /// Functions that run a caller's code and write what an invariant is about, and the calls by which rust/arraystring/tests/unwinding.rs
 /// plays code that panics there.
@@ -645,13 +667,13 @@ const PLAYED: &[Played] = &[
     },
     Played {
         functions: &[
-            "arraystring_core::array_string::range::ArrayString::drain",
-            "arraystring_core::array_string::range::ArrayString::drain_counted",
-            "arraystring_core::array_string::range::ArrayString::drain_through",
-            "arraystring_core::array_string::range::ArrayString::replace_range",
-            "arraystring_core::array_string::range::ArrayString::replace_range_counted",
-            "arraystring_core::array_string::range::ArrayString::make_ascii_uppercase_in",
-            "arraystring_core::array_string::range::ArrayString::make_ascii_lowercase_in",
+            "arraystring_core::array_string::drained_range::ArrayString::drain",
+            "arraystring_core::array_string::counted::ArrayString::drain_counted",
+            "arraystring_core::array_string::drained_range::ArrayString::drain_through",
+            "arraystring_core::array_string::replaced_range::ArrayString::replace_range",
+            "arraystring_core::array_string::counted::ArrayString::replace_range_counted",
+            "arraystring_core::array_string::ascii::ArrayString::make_ascii_uppercase_in",
+            "arraystring_core::array_string::ascii::ArrayString::make_ascii_lowercase_in",
         ],
         calls: &["drain", "replace_range", "make_ascii_uppercase_in", "make_ascii_lowercase_in"],
         why: BEFORE,
@@ -667,7 +689,7 @@ const PLAYED: &[Played] = &[
     Played {
         functions: &[
             "arraystring_core::array_string::trim::ArrayString::trim",
-            "arraystring_core::array_string::trim::ArrayString::trim_counted",
+            "arraystring_core::array_string::counted::ArrayString::trim_counted",
             "arraystring_core::array_string::trim::ArrayString::trim_spaces",
             "arraystring_core::array_string::trim::ArrayString::drop_trailing",
             "arraystring_core::array_string::trim::ArrayString::drop_leading",
@@ -879,7 +901,7 @@ fn head_of_path(tokens: &[Token], colons: usize) -> &str {
         match tokens[at].text.as_str() {
             ">" => depth += 1,
             "<" => depth -= 1,
-            "::" if depth == 0 => {}
+            "::" => {}
             word if depth == 0 && tokens[at].kind == Kind::Word => return word,
             _ if depth == 0 => return "",
             _ => {}
@@ -1273,7 +1295,7 @@ fn check(files: &Files, lists: &'static Lists) -> Vec<String> {
     check.refused.into_iter().chain(faults).collect()
 }
 
-fn read(root: &PathBuf) -> Result<Files, String> {
+fn read(root: &Path) -> Result<Files, String> {
     let mut files = read_all(root)?;
     let tests = std::fs::read_to_string(root.join(UNWINDING)).map_err(|error| format!("{UNWINDING}: {error}"))?;
     files.insert(UNWINDING.to_string(), tests);
@@ -1282,30 +1304,26 @@ fn read(root: &PathBuf) -> Result<Files, String> {
 
 fn main() -> ExitCode {
     let words: Vec<String> = std::env::args().skip(1).collect();
-    let root = match &words[..] {
-        [] => PathBuf::from("."),
-        [word, root] if word == "--root" => PathBuf::from(root),
-        _ => {
-            eprintln!("meaning: the arguments are [--root FOLDER]");
-            return ExitCode::from(2);
-        }
+    told(outcome(&words))
+}
+
+/// The status and what is told, for these arguments.
+fn outcome(words: &[String]) -> (u8, String) {
+    let root = match words {
+        [] => ".",
+        [word, root] if word == "--root" => root,
+        _ => return (2, "meaning: the arguments are [--root FOLDER]\n".to_string()),
     };
-    let refused = match read(&root) {
+    let refused = match read(Path::new(root)) {
         Ok(files) => check(&files, &LISTS),
-        Err(why) => {
-            eprintln!("meaning: {why}");
-            return ExitCode::from(2);
-        }
+        Err(why) => return (2, format!("meaning: {why}\n")),
     };
-    for line in &refused {
-        eprintln!("meaning: {line}");
+    if refused.is_empty() {
+        let count = entries(&LISTS).len();
+        return (0, format!("meaning: {count} entries of lists say why both languages mean the same\n"));
     }
-    if !refused.is_empty() {
-        eprintln!("meaning: {} are refused", refused.len());
-        return ExitCode::FAILURE;
-    }
-    println!("meaning: {} entries of lists say why both languages mean the same", entries(&LISTS).len());
-    ExitCode::SUCCESS
+    let lines: String = refused.iter().map(|line| format!("meaning: {line}\n")).collect();
+    (1, format!("{lines}meaning: {} are refused\n", refused.len()))
 }
 
 #[cfg(test)]

@@ -381,8 +381,14 @@ fn what_may_unwind_is_played_by_the_tests() {
         found.len() == 1 && found[0].contains("is said to run no caller's code, and others may hand some in"),
         "{found:#?}"
     );
-    let private = source.replace("pub fn f", "fn f");
-    assert_eq!(refused(&pair(&private, &made(&private)), &OWN), [""; 0]);
+    for visibility in ["", "pub(super) ", "pub(crate) "] {
+        let (source, by_hand) =
+            (source.replace("pub fn f", &format!("{visibility}fn f")), ACCESS.replace("access", "a"));
+        let mut files = pair(&source, &made(&source));
+        assert_eq!(refused(&files, &OWN), [""; 0]);
+        files.insert(by_hand, "fn g(a: &mut A) -> bool {\n    a.f(&1, &2)\n}\n".to_string());
+        assert_eq!(refused(&files, &OWN).len(), usize::from(!visibility.is_empty()), "{visibility}");
+    }
 }
 
 // ---- Words ----
@@ -639,4 +645,621 @@ fn a_clause_changes_nothing() {
     {
         passes(&source(clause), &without_ghosts(&source(clause)));
     }
+}
+
+// ---- One function after the other ----
+
+/// The item of a small made file with a key.
+fn part_of(text: &str, key: &str) -> Part {
+    let origin = Origin { language: Language::Rust, krate: "arraystring_base", module: "a", orders: &[] };
+    let found = items(text, origin).expect("items").into_iter().find(|item| item.key.ends_with(key));
+    let item = found.unwrap_or_else(|| panic!("{key}"));
+    Part { file: HERE.to_string(), item: Item { head: with_single_closings(item.head.clone()), ..item } }
+}
+
+#[test]
+fn a_function_has_the_type_of_its_impl() {
+    for (text, owner) in [
+        ("fn f() {}", None),
+        ("mod b { fn f() {} }", None),
+        ("impl A { fn f() {} }", Some("A")),
+        ("mod b { impl A { fn f() {} } }", Some("A")),
+        ("impl<T: B<C>> A<T> { fn f() {} }", Some("A")),
+        ("impl B<C> for A { fn f() {} }", Some("A")),
+        ("impl<'a, T: Ord> B for &'a A<T> { fn f() {} }", Some("A")),
+    ] {
+        let part = part_of(text, "fn f");
+        assert_eq!((part.owner().as_deref(), part.name()), (owner, "f"), "{text}");
+    }
+    let part = part_of("mod b { impl<T: C<D<E>>> A { fn f() {} } }", "fn f");
+    assert_eq!(compare::shown(&part.around()), "mod b / impl < T : C < D < E > > > A");
+    assert_eq!(part.refused(7, "is refused"), format!("{HERE}:7: `a::b::A::f` is refused"));
+}
+
+#[test]
+fn a_type_has_its_fields_or_variants() {
+    for (head, wanted) in [
+        ("struct A;", &[][..]),
+        ("struct A { b: u8, pub c: D<E, F>, }", &["b", "c"]),
+        ("pub(crate) struct A { b: [u8; 3] }", &["b"]),
+        ("struct A<const N: usize> { b: [u8; N] }", &["b"]),
+        ("struct A(u8, pub u8);", &["0", "1"]),
+        ("struct A(B<C, D>, u8);", &["0", "1"]),
+        ("struct A();", &[]),
+        ("pub enum A { B, C(u8, u8), D { e: u8 } }", &["B", "C", "D"]),
+    ] {
+        assert_eq!(members(&pattern(head)), wanted, "{head}");
+    }
+    for (head, wanted) in
+        [("struct A { b: u8 }", 2), ("pub(crate) struct A(u8);", 6), ("struct A;", 3), ("pub(a) enum B {}", 6)]
+    {
+        assert_eq!(group_of_type(&pattern(head)), wanted, "{head}");
+    }
+}
+
+#[test]
+fn a_type_parameter_is_no_lifetime_and_no_number() {
+    for (head, wanted) in [
+        ("fn f()", &[][..]),
+        ("fn f<T>()", &["T "]),
+        ("fn f<'a, const N: usize, T: B<C> + D, U>()", &["T : B < C > + D", "U "]),
+        ("fn f<'a, const N: usize>(a: B<T>)", &[]),
+    ] {
+        let tokens = with_single_closings(pattern(head));
+        let shown = |(name, bounds): (&str, &[Token])| format!("{name} {}", compare::shown(bounds));
+        assert_eq!(type_parameters(&tokens, 2).into_iter().map(shown).collect::<Vec<_>>(), wanted, "{head}");
+    }
+    for (text, wanted) in [("< a > b", "a"), ("< a < b > c > d", "a < b > c"), ("< >", ""), ("< a", "a")] {
+        assert_eq!(compare::shown(between_angles(&pattern(text), 0)), wanted, "{text}");
+    }
+}
+
+#[test]
+fn a_name_is_called_or_handed_on() {
+    for text in ["f(a)", "f::<A>(b)", "g(f)", "g(a, f)", "g(f, a)", "a::f;", "let b = f;", "g(&f)"] {
+        let tokens = pattern(text);
+        let at = tokens.iter().position(|token| token.is("f")).expect("it");
+        assert!(is_call(&tokens, at), "{text}");
+    }
+    for text in ["f", "f;", "f.a", "f + (a)", "f::A", "let b = f + 1;", "a.f;", "let f = b;", "g(a.f)", "f[0]", "f::<"]
+    {
+        let tokens = pattern(text);
+        let at = tokens.iter().position(|token| token.is("f")).expect("it");
+        assert_eq!(is_call(&tokens, at), text == "f::<", "{text}");
+    }
+}
+
+/// A program of a type with an invariant, whose fields are `start` and `size`.
+fn program_of(function: &str) -> Program {
+    let source = guarded(function);
+    Program::new(&pair(&source, &made(&source))).expect("a program")
+}
+
+#[test]
+fn what_writes_a_field_of_an_invariant_is_known() {
+    let program = program_of("");
+    for body in [
+        "{ self.size = 1; }",
+        "{ self.size += 1; }",
+        "{ self.size <<= 1; }",
+        "{ self.size[1] = 1; }",
+        "{ self.size.put(1); }",
+        "{ self.size[1].put(1); }",
+        "{ (a, self.size) = b; }",
+        "{ [self.size, a] = b; }",
+        "{ g(&mut self.size); }",
+        "{ g(&mut a.b.size); }",
+        "{ copy_bytes!(self.size, 1, b); }",
+        "{ get_unchecked_mut!(self.size, 1); }",
+        "{ *self = b; }",
+        "{ *a += 1; }",
+    ] {
+        assert!(writes(&pattern(body), &program).is_some(), "{body}");
+    }
+    for body in [
+        "{ self.size }",
+        "{ self.size == 1 }",
+        "{ a = self.size; }",
+        "{ self.other = 1; }",
+        "{ size = 1; }",
+        "{ g(&self.size); }",
+        "{ g(self.size, &mut a); }",
+        "{ get_unchecked!(self.size, 1); }",
+        "{ g!(a, self.size); }",
+        "{ *a == b }",
+        "{ (a, self.size) == b }",
+    ] {
+        assert!(writes(&pattern(body), &program).is_none(), "{body}");
+    }
+    for sign in "= += -= *= /= %= ^= &= |= <<= >>=".split(' ') {
+        assert!(is_assignment(&pattern(sign)[0]), "{sign}");
+    }
+    for sign in "== != <= >= < > + => .. : ! && ||".split(' ') {
+        assert!(!is_assignment(&pattern(sign)[0]), "{sign}");
+    }
+}
+
+#[test]
+fn a_new_value_of_a_type_with_an_invariant_is_known() {
+    for (body, wanted) in [
+        ("let a = A { start: 0, size: 1 };", Some("a new `A`")),
+        ("let a = Self { start: 0, size: 1 };", Some("a new `Self`")),
+        ("let a = Alias { size: 1, ..b };", Some("a new `Alias`")),
+        ("let a = A(1);", Some("a new `A`")),
+        ("let a = Self(1);", Some("a new `Self`")),
+        ("let a = B(1);", None),
+        ("let a = B { other: 1 };", None),
+        ("let a = b { size: 1 };", None),
+        ("if a { size }", None),
+        ("let a = A::new();", None),
+        ("unsafe { g() }", Some("`unsafe`")),
+        ("get_unchecked!(a, 1);", Some("`get_unchecked!`")),
+        ("self.size = 1;", Some("a write of `size`")),
+        ("self.size", None),
+    ] {
+        let program = program_of("");
+        let part = part_of(&format!("impl A {{\nfn f(&mut self) {{\n{body}\n}}\n}}\n"), "fn f");
+        let found = needs_facts(&part, &program);
+        assert_eq!(found.as_ref().map(|(line, what)| (*line, what.as_str())), wanted.map(|what| (3, what)), "{body}");
+    }
+    let other = part_of("impl B {\nfn f() {\nSelf(1)\n}\n}\n", "fn f");
+    assert_eq!(needs_facts(&other, &program_of("")), None);
+}
+
+#[test]
+fn a_pattern_is_what_it_binds() {
+    for (body, sign, wanted) in [
+        ("let a = b;", "let", "a"),
+        ("let (a, b): (u8, u8) = c;", "let", "( a , b )"),
+        ("let a;", "let", "a"),
+        ("for (a, b) in c {}", "for", "( a , b )"),
+        ("g(|a, b| c)", "|", "a , b"),
+        ("g(d, |a: u8| c)", "|", "a"),
+        ("let d = |a| c;", "|", "a"),
+        ("g(move |a| c)", "|", "a"),
+        ("a | b", "|", ""),
+        ("match a { B(c) => d, _ => e }", "=>", "B ( c )"),
+        ("match a { _ => e, B(c) if f(c) => d }", "=>", "_"),
+        ("a", "a", ""),
+    ] {
+        let tokens = pattern(body);
+        let at = tokens.iter().position(|token| token.is(sign)).expect("the sign");
+        assert_eq!(compare::shown(pattern_at(&tokens, at)), wanted, "{body}");
+    }
+    for (body, wanted) in [
+        ("match a { b => c, D(e, { f }) if g => h }", "D ( e , { f } ) if g"),
+        ("match a { b => { c } D { e } => h }", "D { e }"),
+        ("match a { D[e, f] => h }", "D [ e , f ]"),
+        ("=> h", ""),
+    ] {
+        let tokens = pattern(body);
+        let arrow = tokens.iter().rposition(|token| token.is("=>")).expect("the sign");
+        assert_eq!(compare::shown(&tokens[start_of_arm(&tokens, arrow)..arrow]), wanted, "{body}");
+    }
+    for (text, wanted) in [
+        ("A::b", "A"),
+        ("a::b::c", "b"),
+        ("A::<B, C>::d", "A"),
+        ("A::<B<C>>::d", "A"),
+        ("<A as B>::c", ""),
+        ("(a)::b", ""),
+        ("::b", ""),
+        ("c < A::d", "A"),
+    ] {
+        let tokens = with_single_closings(pattern(text));
+        let at = tokens.iter().rposition(|token| token.is("::")).expect("the sign");
+        assert_eq!(head_of_path(&tokens, at), wanted, "{text}");
+    }
+}
+
+#[test]
+fn each_word_and_sign_is_listed_by_what_it_is() {
+    let mut names = Names::default();
+    names.types.insert("Own".to_string());
+    names.functions.insert("own".to_string());
+    names.methods.insert("method".to_string());
+    names.fields.insert("field".to_string());
+    names.modules.insert("module".to_string());
+    let bound = ["bound".to_string()].into();
+    for (text, word, wanted) in [
+        ("a as u8", "u8", Some("as:u8")),
+        ("a.method()", "method", None),
+        ("a.other()", "other", Some(".other()")),
+        ("a.other::<u8>()", "other", Some(".other()")),
+        ("a.field", "field", None),
+        ("a.field()", "field", Some(".field()")),
+        ("a.method", "method", Some(".method")),
+        ("Own::own", "own", None),
+        ("Own::method", "method", None),
+        ("Own::Own", "own", None),
+        ("Own::other", "other", Some("Own::other")),
+        ("Self::own", "own", None),
+        ("Self::other", "other", Some("Self::other")),
+        ("module::own", "own", None),
+        ("bound::own", "own", None),
+        ("other::own", "own", Some("other::own")),
+        ("Own::<u8>::own", "own", None),
+        ("while", "while", Some("while")),
+        ("own", "own", None),
+        ("own(a)", "own", None),
+        ("Own", "Own", None),
+        ("bound", "bound", None),
+        ("_", "_", None),
+        ("other", "other", Some("other")),
+        ("other(a)", "other", Some("other()")),
+        ("Other(a)", "Other", Some("Other")),
+        ("other!(a)", "other", Some("other!")),
+        ("other![a]", "other", Some("other!")),
+        ("other! {}", "other", Some("other!")),
+        ("other != a", "other", Some("other")),
+        ("module::a", "module", None),
+        ("module", "module", Some("module")),
+        ("fn other()", "other", None),
+        ("mod other;", "other", None),
+        ("type other;", "other", None),
+        ("A { field: 1 }", "field", None),
+        ("A { field }", "field", None),
+        ("A { a, field }", "field", None),
+        ("A { field(1) }", "field", Some("field()")),
+        ("a + field", "field", Some("field")),
+        ("{ ..a }", "..", Some("..")),
+        ("a[b..]", "..", Some("a..]")),
+        ("a[..]", "..", Some("a..]")),
+        ("a[..b]", "..", Some("..")),
+        ("a[b..c]", "..", Some("..")),
+        ("A { .. }", "..", Some("{..}")),
+        ("for a in b..c {}", "..", Some("in:a..b")),
+        ("for a in (b..c) {}", "..", Some("in:a..b")),
+        ("for a in b.. {}", "..", Some("a..")),
+        ("for a in b { c[d..e]; }", "..", Some("..")),
+        ("for a in b; c..d", "..", Some("..")),
+        ("g(b..)", "..", Some("a..")),
+        ("let a = b..;", "..", Some("a..")),
+        ("g(b.., c)", "..", Some("a..")),
+        ("match a { b.. => c }", "..", Some("a..")),
+        ("g(..)", "..", Some("..")),
+        ("g(.., a)", "..", Some("..")),
+        ("matches!(a, b..)", "..", Some("matches!(a..)")),
+        ("matches!(a, b..=c)", "..=", Some("matches!(a..=b)")),
+        ("other!(a, b..=c)", "..=", Some("..=")),
+        ("matches(a, b..=c)", "..=", Some("..=")),
+        ("a..=b", "..=", Some("..=")),
+        ("a + b", "+", Some("+")),
+        ("a + 1", "1", None),
+        ("a + 'b'", "'b'", None),
+        ("&'a b", "'a", None),
+    ] {
+        let tokens = pattern(text);
+        let at = tokens.iter().position(|token| token.text == word).or(tokens.len().checked_sub(1)).expect("a token");
+        let spelling = Spelling { tokens: &tokens, names: &names, bound: &bound };
+        assert_eq!(spelling.listed(at).as_deref(), wanted, "{text}");
+    }
+    for (text, wanted) in [
+        ("0", None),
+        ("1_000", None),
+        ("0x7F", None),
+        ("0xFF_ab", None),
+        ("1u8", Some("number:u8")),
+        ("0x7Fusize", Some("number:usize")),
+        ("1.5", Some("number:.5")),
+        ("0b1", Some("number:b1")),
+    ] {
+        assert_eq!(number(text).as_deref(), wanted, "{text}");
+    }
+    for (text, wanted) in [
+        ("\"a\"", None),
+        ("'a'", None),
+        ("\"\\n\"", Some("literal:\\")),
+        ("'\\n'", Some("literal:\\")),
+        ("b\"a\"", Some("literal:b")),
+        ("b'\\n'", Some("literal:b\\")),
+        ("br#\"a\"#", Some("literal:br#")),
+    ] {
+        assert_eq!(literal(text).as_deref(), wanted, "{text}");
+    }
+    assert_eq!(attribute("derive(A,B)"), ["#[derive(A)]", "#[derive(B)]"]);
+    assert_eq!(attribute("inline(always)"), ["#[inline(always)]"]);
+}
+
+#[test]
+fn an_operand_ends_before_its_index() {
+    for (text, sign, wanted) in [
+        ("a.b[c]", "[", Some(0)),
+        ("d + a.b.0[c]", "[", Some(2)),
+        ("self.a[c]", "[", Some(0)),
+        ("self.as_str()[c]", "[", Some(0)),
+        ("self.other()[c]", "[", None),
+        ("self.as_str(a)[c]", "[", None),
+        ("return[c]", "[", None),
+        ("a::b[c]", "[", None),
+        ("a?.b[c]", "[", None),
+        ("(a)[c]", "[", None),
+    ] {
+        let tokens = pattern(text);
+        let at = tokens.iter().position(|token| token.is(sign)).expect("the sign");
+        let found = start_of_path(&tokens, at, &BTreeSet::new(), &mut Check::new(&RULES));
+        assert_eq!(found, wanted, "{text}");
+    }
+    for (text, wanted) in [("a.b", 1), ("a[1].b", 1), ("a[1][2].b", 4), ("a[b[1]].c", 1)] {
+        let tokens = pattern(text);
+        let at = tokens.iter().rposition(|token| token.is(".")).expect("the sign");
+        assert_eq!(operand_end(&tokens, at), wanted, "{text}");
+    }
+    for (text, wanted) in [
+        ("a", true),
+        ("self", true),
+        ("1", true),
+        (")", true),
+        ("]", true),
+        ("?", true),
+        ("return", false),
+        ("&", false),
+        ("(", false),
+    ] {
+        assert_eq!(is_behind_operand(&pattern(text)[0]), wanted, "{text}");
+    }
+    for (text, wanted) in [
+        ("a[b] = c;", ["[ b ]", "c"]),
+        ("a[b] += c + d; e", ["[ b ]", "c + d"]),
+        ("a[b] + c;", ["[ b ]", ""]),
+        ("a[b] = c", ["[ b ]", "c"]),
+        ("a.copy_from_slice(b) ; c", ["( b )", ""]),
+    ] {
+        let tokens = pattern(text);
+        assert_eq!(beside(&tokens, 1).map(compare::shown), wanted, "{text}");
+    }
+    let changing = ["step".to_string()].into();
+    for (text, wanted) in [
+        ("step()", true),
+        ("step", false),
+        ("other()", false),
+        ("&mut a", true),
+        ("a = b", true),
+        ("a += b", true),
+        ("a == b", false),
+    ] {
+        assert_eq!(changes(&pattern(text), &changing), wanted, "{text}");
+    }
+}
+
+#[test]
+fn a_clause_assigns_nothing() {
+    for (clause, wanted) in [
+        ("requires { x = 3 }", true),
+        ("requires { let a = x in a ≡ 3 }", false),
+        ("requires { let a = x in b = 3 }", true),
+        ("requires { let a = x ; b = 3 }", true),
+        ("requires { record { a = x } ≡ y }", false),
+        ("requires { record { a = { b = x } } ≡ y }", false),
+        ("requires { record { a = { b } } ≡ y = z }", true),
+        ("requires { { a = x } }", true),
+        ("requires { x == 3 }", false),
+        ("requires { x <= 3 }", true),
+        ("requires { x ≤ 3 }", false),
+    ] {
+        assert_eq!(has_assignment(clause), wanted, "{clause}");
+    }
+    assert_eq!(effect_of_step("prove!(a < 3)"), None);
+    let empty = "`prove!()` is no expression: a step has comparisons of names and numbers alone, so bind a call before by `let`";
+    assert_eq!(effect_of_step("prove!()").as_deref(), Some(empty));
+}
+
+#[test]
+fn what_is_told_has_its_status() {
+    let root = std::env::current_dir().expect("a folder");
+    let root = root.ancestors().find(|it| it.join("crates/arraystring_base").is_dir()).expect("the repository");
+    let with = |words: &[&str]| outcome(&words.iter().map(|word| word.to_string()).collect::<Vec<_>>());
+    let all = format!("meaning: {} entries of lists say why both languages mean the same\n", entries(&LISTS).len());
+    assert_eq!(with(&["--root", root.to_str().expect("a path")]), (0, all));
+    for words in [&["--other", "a"][..], &["--root"], &["--root", "a", "b"]] {
+        assert_eq!(with(words), (2, "meaning: the arguments are [--root FOLDER]\n".to_string()));
+    }
+    let (status, text) = with(&["--root", "/nowhere"]);
+    assert!(status == 2 && text.starts_with("meaning: /nowhere/crates/arraystring_base/src: "), "{text}");
+}
+
+#[test]
+fn what_an_access_calls_is_read_off_its_file() {
+    let names = |set: &BTreeSet<String>| set.iter().map(String::as_str).collect::<Vec<_>>().join(" ");
+    let access = Access::new(include_str!("arraystring/src/by_hand/access.rs")).expect("macros");
+    let untested = "copy_from_slice_unchecked copy_within_unchecked get_unchecked get_unchecked_mut split_at_unchecked \
+                    unreachable_unchecked";
+    assert_eq!(names(&access.untested), untested);
+    let tested = access.macros.difference(&access.untested).map(String::as_str);
+    assert_eq!(tested.collect::<Vec<_>>(), ["required", "required_of_each"]);
+    assert_eq!(
+        names(&access.methods),
+        "as_mut_ptr copy_within get_unchecked get_unchecked_mut split_at split_at_unchecked"
+    );
+    for (body, is_untested) in [
+        ("$of.a(b)", false),
+        ("$of.a(unsafe { b })", true),
+        ("ptr::a($of.b())", true),
+        ("$of.a_unchecked()", true),
+        ("$of.a(unchecked_b)", true),
+    ] {
+        let text = format!("macro_rules! m {{ ($of:expr) => {{ {body} }}; }}\nfn f() {{ unsafe {{ g() }} }}\n");
+        assert_eq!(Access::new(&text).expect("a macro").untested.contains("m"), is_untested, "{body}");
+    }
+    let fault = Access::new("macro_rules! m { ($a:expr) => { $a.b() }; }\n").err().expect("a fault");
+    assert_eq!((fault.line, fault.why.as_str()), (1, "no macro calls anything on its operand, `$of`"));
+    let tokens = pattern("m!(a); get_unchecked!(b); get_unchecked(c); required!(d)");
+    let found = (0..tokens.len()).filter_map(|at| Some((at, access.macro_at(&tokens, at)?)));
+    assert_eq!(found.collect::<Vec<_>>(), [(6, "get_unchecked")]);
+}
+
+#[test]
+fn the_names_of_the_sources_are_known_by_their_kind() {
+    let source = "
+pub struct A { b: u8 }
+pub enum C { D, E }
+const F: u8 = 1;
+type G = A;
+mod h;
+impl A {
+    fn i(&self) {}
+    fn j(&mut self) {}
+    fn k(mut self) {}
+    fn l() {}
+}
+fn m(mut n: A) {}
+";
+    let origin = Origin { language: Language::Rattle, krate: "arraystring_base", module: "a", orders: &[] };
+    let parts = items(source, origin).expect("items").into_iter().map(|item| Part { file: SOURCE.to_string(), item });
+    let names = Names::new(&parts.collect::<Vec<_>>());
+    let shown = |set: &BTreeSet<String>| set.iter().map(String::as_str).collect::<Vec<_>>().join(" ");
+    assert_eq!(shown(&names.types), "A C D E F G");
+    assert_eq!(shown(&names.fields), "b");
+    assert_eq!(shown(&names.methods), "i j k");
+    assert_eq!(shown(&names.changing), "j k");
+    assert_eq!(shown(&names.functions), "l m");
+    assert_eq!(shown(&names.modules), "arraystring arraystring_base arraystring_core crate h self super");
+}
+
+#[test]
+fn an_invariant_is_of_the_type_of_its_model() {
+    for (text, wanted) in [
+        ("ghost invariant = { a };", true),
+        ("ghost invariant={ a };", true),
+        ("ghost  invariant\n= { a };", true),
+        ("ghost invariants = { a };", false),
+        ("ghost view = { invariant };", false),
+        ("requires invariant { a }", false),
+    ] {
+        let all = tokens(text, Language::Rattle).expect("tokens");
+        assert_eq!(is_ghost_item(&all[0], "invariant"), wanted, "{text}");
+    }
+    let two = "pub struct A(u8);\npub struct B { c: u8, d: u8 }\nimpl Model for A {\n    ghost view = { a };\n}\n\
+               impl Model for B {\n    ghost invariant = { a };\n}\n";
+    let program = Program::new(&pair(two, "")).expect("a program");
+    assert_eq!(program.guarded.len(), 1);
+    assert!(program.is_guarded("B") && !program.is_guarded("A"));
+    assert!(program.is_guarded_field("c") && program.is_guarded_field("d") && !program.is_guarded_field("0"));
+    stops("ghost invariant = { a };\n", "", "a.rt:1: an invariant of no type");
+    let model = "impl Model for B {\n    ghost invariant = { λ b. IsIt b };\n}\n";
+    stops(&format!("\n{model}"), "", "a.rt:3: an invariant of `B`, which is no type");
+}
+
+#[test]
+fn what_may_write_takes_something_to_write() {
+    let program = program_of("");
+    for (function, wanted) in [
+        ("fn f(a: &u8) { g(a) }", false),
+        ("fn f(a: &mut u8) { g(a) }", true),
+        ("fn f(a: &u8) { let mut b = a; }", true),
+        ("fn f(steps: &mut Steps) { g(steps) }", false),
+        ("fn f(a: &u8) { let b = &mut Steps::new(); }", false),
+        ("fn f(f: &mut fmt::Formatter<'_>) { g(f) }", false),
+        ("fn f(f: &mut fmt::Other<'_>) { g(f) }", true),
+        ("fn f<H: Hasher>(state: &mut H) { g(state) }", false),
+        ("fn f<H: Other>(state: &mut H) { g(state) }", true),
+    ] {
+        assert_eq!(may_write(&part_of(function, "fn f"), &program), wanted, "{function}");
+    }
+}
+
+#[test]
+fn the_names_that_an_item_binds_are_known() {
+    for (function, wanted) in [
+        ("fn f() {}", ""),
+        ("fn f<T: A, const N: usize>(a: T, b: u8) {}", "N T a b"),
+        ("fn f() { let (a, mut b) = c; }", "a b"),
+        ("fn f() { for a in b {} }", "a"),
+        ("fn f() { g(|a, b| c); }", "a b"),
+        ("fn f() { match a { B(c) if d => e, f => g, h::I => j } }", "c f"),
+        ("fn f() { if let Some(a) = b {} }", "a"),
+    ] {
+        let found = bound_names(&part_of(function, "fn f"));
+        assert_eq!(found.into_iter().collect::<Vec<_>>().join(" "), wanted, "{function}");
+    }
+    let of_impl = part_of("impl<T: A, const N: usize> B<T> { fn f(c: T) {} }", "fn f");
+    assert_eq!(bound_names(&of_impl).into_iter().collect::<Vec<_>>().join(" "), "N T c");
+}
+
+#[test]
+fn a_function_by_hand_takes_no_name_of_an_access() {
+    let mut files = pair("", "");
+    files.insert(
+        format!("{MADE}by_hand/b.rs"),
+        "\nfn split_at() {}\nfn other() {}\nfn g() { split_at() }\n".to_string(),
+    );
+    let found = refused(&files, &RULES);
+    assert!(found.len() == 1 && found[0].starts_with("rust/arraystring/src/by_hand/b.rs:2: is what"), "{found:#?}");
+}
+
+#[test]
+fn what_can_not_be_read_is_told() {
+    for (path, why) in
+        [(ACCESS, "it is not there"), (HERE, "a.rs:1: `}` closes nothing"), (SOURCE, "a.rt:1: `}` closes nothing")]
+    {
+        let mut files = pair("fn f() {}\n", "fn f() {}\n");
+        match path {
+            ACCESS => _ = files.remove(path),
+            _ => _ = files.insert(path.to_string(), "}\n".to_string()),
+        }
+        let found = refused(&files, &RULES);
+        assert!(found.len() == 1 && found[0].contains(why), "{path}: {found:?}");
+    }
+    let mut files = pair("fn f() {}\n", "fn f() {}\n");
+    files.insert(ACCESS.to_string(), "\nmacro_rules! m { \"".to_string());
+    let wanted = format!("{ACCESS}:2: a text without its end");
+    assert_eq!(refused(&files, &RULES), [wanted]);
+}
+
+#[test]
+fn each_entry_that_is_used_has_its_reason() {
+    let mut check = Check::new(&LISTS);
+    check.all(&tree());
+    let listed: BTreeSet<String> = entries(&LISTS).into_iter().map(|(entry, _)| entry).collect();
+    assert_eq!(check.used, listed);
+    assert_eq!(faults_of_lists(&Check::new(&LISTS)).len(), listed.len());
+}
+
+#[test]
+fn a_call_is_of_a_function_by_its_name_and_its_type() {
+    let mut names = Names::default();
+    names.types.extend(["A", "B"].map(str::to_string));
+    let text = |call: &str| {
+        format!(
+            "fn g() {{}} fn free() {{ {call} }} impl A {{ fn g() {{}} fn own() {{ {call} }} }} impl B {{ fn far() {{ {call} }} }}"
+        )
+    };
+    // (whether the free `g` is called from `free`, and whether that of `A` is called from `free`, `own` and `far`)
+    for (call, of_none, of_type) in [
+        ("g()", true, [false; 3]),
+        ("h(g)", true, [false; 3]),
+        ("a.g()", false, [true; 3]),
+        ("A::g()", false, [true; 3]),
+        ("A::<u8>::g()", false, [true; 3]),
+        ("B::g()", false, [false; 3]),
+        ("a::g()", true, [true; 3]),
+        ("Self::g()", true, [false, true, false]),
+        ("g", false, [false; 3]),
+        ("a.g", false, [false; 3]),
+        ("h()", false, [false; 3]),
+    ] {
+        let part = |key: &str| part_of(&text(call), key);
+        let (free, method) = (part_of("fn g() {}", "fn g"), part("impl A / fn g"));
+        assert_eq!(calls(&part("fn free"), &free, &names), of_none, "{call}");
+        let found = ["fn free", "fn own", "fn far"].map(|key| calls(&part(key), &method, &names));
+        assert_eq!(found, of_type, "{call}");
+    }
+    let chain = "fn a() {} fn b() { a() } fn c() { b() } fn d() { e() } fn e() {}";
+    let parts: Vec<Part> = ["a", "b", "c", "d", "e"].map(|name| part_of(chain, &format!("fn {name}"))).into();
+    let functions: Vec<&Part> = parts.iter().collect();
+    for (seed, wanted) in [(0, &[0, 1, 2][..]), (1, &[1, 2]), (2, &[2]), (3, &[3]), (4, &[3, 4])] {
+        let found = with_callers(&functions, [seed].into(), &names);
+        assert_eq!(found.into_iter().collect::<Vec<_>>(), wanted);
+    }
+}
+
+/// What is named of the sources has to have its like in what is made; what has none is not looked at.
+#[test]
+fn what_is_in_both_is_looked_at() {
+    let source = "fn f() {\n    other!(1);\n}\nfn g() {\n    other!(1);\n}\nimpl A {\n    fn h() {}\n}\n";
+    let program = Program::new(&pair(source, "fn f() {}\nfn more() {}\n")).expect("a program");
+    let paths = |parts: Vec<&Part>| parts.iter().map(|part| part.item.path.clone()).collect::<Vec<_>>();
+    assert_eq!(paths(program.in_both().collect()), ["arraystring_base::a::f"]);
+    assert_eq!(paths(program.functions().collect()), ["arraystring_base::a::f", "arraystring_base::a::more"]);
+    stops(source, "fn f() {}\n", "a.rt:2: `arraystring_base::a::f` has `other!`, which is in no list");
 }

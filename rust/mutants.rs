@@ -3,6 +3,7 @@
 //!
 //!     rust/mutants                        all files, some hours: before a release
 //!     rust/mutants FILE..                 these, some minutes each: who changes one
+//!     rust/mutants FILE:FUNCTION..        these functions, as --list names them
 //!     rust/mutants --sample DAY SECONDS   as many as fit into the time, chosen by the number DAY
 //!     rust/mutants --list FILE..          prints the changes and runs nothing
 //!
@@ -15,10 +16,11 @@
 //! default; two arguments swapped; a cast narrowed; a word for its opposite; a derived trait, a `cfg` and an attribute out. What does
 //! not compile is no change. An attribute that changes no result (`FREE`) is left.
 //!
-//! A body stands in the program once for each change and once as it is, and `MUTANT` in the environment says which runs, so all
-//! changes share a build. What is outside of bodies has a build of its own, and so has what survives in a `const fn`, since a constant
-//! is made of the body as it is. The repository is copied first, and never written. A change that runs too long is ended, and counts as
-//! seen. Nothing but tests is asked: what clippy says of a change is not heard.
+//! A body stands in the program once for each change and once as it is, and `MUTANT` in the environment says which runs. So changes
+//! share a build: all of a crate, and of a program some hundred (`TOGETHER`). What is outside of bodies has a build of its own, and so
+//! has what survives in a `const fn`, since a constant is made of the body as it is. The repository is copied first, and never written.
+//! A change that takes too much of a processor is ended, and counts as seen. Nothing but tests is asked: what clippy says of a change
+//! is not heard.
 //!
 //! The file for serde takes one processor minute. One by hand takes some, most of them for the builds, and those that stand in each
 //! access (`access.rs`, `simd.rs`) more. `compare.rs` and `meaning.rs` have some thousand changes each. A sample has `SAMPLE` changes of
@@ -28,6 +30,7 @@ use std::collections::{BTreeMap, BTreeSet};
 use std::fmt::Write as _;
 use std::fs::{self, File};
 use std::ops::Range;
+use std::os::unix::process::ExitStatusExt;
 use std::path::{Path, PathBuf};
 use std::process::{Command, ExitCode, Stdio};
 use std::sync::Mutex;
@@ -221,9 +224,22 @@ const SUBJECTS: &[Subject] = &[
     },
 ];
 
-/// The tests that see most changes of what is by hand.
-const FIRST: &[&str] =
-    &["--features", "checked,std", "--lib", "--test", "by_hand", "--test", "traits", "--test", "constants"];
+/// The tests that see most changes of what is by hand, and of what a public call tests of its caller.
+const FIRST: &[&str] = &[
+    "--features",
+    "checked,std",
+    "--lib",
+    "--test",
+    "by_hand",
+    "--test",
+    "traits",
+    "--test",
+    "constants",
+    "--test",
+    "preconditions",
+    "--test",
+    "panics",
+];
 
 impl Subject {
     fn chosen(&self, root: &Path) -> Result<BTreeMap<String, Chosen>, String> {
@@ -272,7 +288,13 @@ fn switched(text: &str, mutants: &[(usize, &Mutant)]) -> (String, Vec<(Range<usi
         }
     }
     let (mut made, mut lines, mut done) = (String::new(), Vec::new(), 0);
-    let line = |made: &str| made.matches('\n').count() + 1;
+    // (counted from where it was counted last, since the text is long)
+    let (mut counted, mut count) = (0, 1);
+    let mut line = |made: &str| {
+        count += made[counted..].matches('\n').count();
+        counted = made.len();
+        count
+    };
     for (start, (end, changes)) in bodies {
         made.push_str(&text[done..start]);
         // (what is unchanged comes first, since it says which type the others have to have)
@@ -329,8 +351,8 @@ impl Tree {
             command.args([words[0], "--offline", "-j", "2", "--message-format", "short"]).args(&words[1..]);
             command
         } else {
-            let mut command = Command::new("rustc");
-            command.args(["--edition", "2024", "-O", "--cap-lints", "allow", "--error-format", "short"]).args(words);
+            let mut command = Command::new(std::env::var("RUSTC").unwrap_or("rustc".to_string()));
+            command.args(["--edition", "2024", "--cap-lints", "allow", "--error-format", "short"]).args(words);
             command
         };
         command.current_dir(self.folder.join(subject.folder)).env("CARGO_TARGET_DIR", &self.target);
@@ -400,62 +422,70 @@ struct Unit {
     path: PathBuf,
     folder: PathBuf,
     tests: Vec<String>,
-    limit: Duration,
+    seconds: u64,
 }
 
-/// What a process of a change may take of memory, in KB: a loop may ask for all there is.
-const MEMORY: &str = "ulimit -v 6000000; exec \"$0\" \"$@\"";
+/// What a process of a change may take of memory, in KB, and of a processor's time, in seconds: a loop may ask for all there is.
+const LIMITED: &str = "ulimit -v 3000000; ulimit -t \"$0\"; exec \"$@\"";
+
+/// Says behind a program's end how much of a processor it took. (The clock would count what others took of it.)
+const TIMED: &str = "\"$@\" > /dev/null 2>&1 || exit 1; times";
 
 impl Unit {
-    fn command(&self) -> Command {
+    fn command(&self, script: &str) -> Command {
         let mut command = Command::new("sh");
-        command.args(["-c", MEMORY]).arg(&self.path).current_dir(&self.folder).env("CARGO_MANIFEST_DIR", &self.folder);
+        command.args(["-c", script, &self.seconds.to_string()]).arg(&self.path);
+        command.current_dir(&self.folder).env("CARGO_MANIFEST_DIR", &self.folder);
         command.env("RUST_TEST_THREADS", "1").env("RUST_BACKTRACE", "0").stdin(Stdio::null()).stderr(Stdio::null());
         command
     }
 
     /// The names of all tests of the program.
     fn names(&self) -> Vec<String> {
-        let said = self.command().arg("--list").output().map(|output| output.stdout).unwrap_or_default();
+        let said = self.command(LIMITED).arg("--list").output().map(|output| output.stdout).unwrap_or_default();
         let said = String::from_utf8_lossy(&said).to_string();
         let names = said.lines().filter_map(|line| line.strip_suffix(": test").map(str::to_string));
         // (what compares is a module of what reads the meaning, and has its tests there, too)
         names.filter(|name| self.program != "meaning" || !name.starts_with("compare::")).collect()
     }
 
+    /// How much of a processor the tests take where nothing is changed, or none where one fails.
+    fn time(&self) -> Option<Duration> {
+        let output = self.command(TIMED).arg("--exact").args(&self.tests).env("MUTANT", "0").output().ok()?;
+        let said = String::from_utf8_lossy(&output.stdout).to_string();
+        let words: Option<Vec<f64>> = said.lines().nth(1)?.split_whitespace().map(seconds_of).collect();
+        words.filter(|_| output.status.success()).map(|words| Duration::from_secs_f64(words.iter().sum()))
+    }
+
     /// Runs the tests under a change. `Some` is what saw it.
     fn seen_by(&self, number: usize) -> Option<String> {
         static LOGS: AtomicUsize = AtomicUsize::new(0);
         let log = self.path.with_extension(format!("{}.log", LOGS.fetch_add(1, Ordering::Relaxed)));
-        let mut command = self.command();
+        let mut command = self.command(LIMITED);
         command.arg("--exact").args(&self.tests).env("MUTANT", number.to_string()).stdout(File::create(&log).ok()?);
-        let status = self.status(&mut command);
+        let status = command.status();
         let text = String::from_utf8_lossy(&fs::read(&log).unwrap_or_default()).to_string();
         let _ = fs::remove_file(&log);
         let failed = first_failed(&text).or(self.tests.first().map(String::as_str)).unwrap_or("");
-        match status {
-            Some(true) => None,
-            Some(false) => Some(format!("{}::{failed}", self.program)),
-            None => Some(format!("{}::{failed} (it ran too long)", self.program)),
-        }
-    }
-
-    /// Whether a process ended well, or none where it did not end.
-    fn status(&self, command: &mut Command) -> Option<bool> {
-        let (mut child, start) = (command.spawn().ok()?, Instant::now());
-        loop {
-            match child.try_wait() {
-                Ok(Some(status)) => return Some(status.success()),
-                Ok(None) if start.elapsed() < self.limit => std::thread::sleep(Duration::from_millis(2)),
-                _ => {
-                    let _ = child.kill();
-                    let _ = child.wait();
-                    return None;
-                }
+        match status.ok() {
+            Some(status) if status.success() => None,
+            Some(status) if matches!(status.signal(), Some(SIGKILL | SIGXCPU)) => {
+                Some(format!("{}::{failed} (it ran too long)", self.program))
             }
+            _ => Some(format!("{}::{failed}", self.program)),
         }
     }
 }
+
+/// The seconds of `1m2.34s`.
+fn seconds_of(word: &str) -> Option<f64> {
+    let (minutes, seconds) = word.strip_suffix('s')?.split_once('m')?;
+    Some(minutes.parse::<f64>().ok()? * 60.0 + seconds.parse::<f64>().ok()?)
+}
+
+/// What ends a process that has taken the time it may take.
+const SIGKILL: i32 = 9;
+const SIGXCPU: i32 = 24;
 
 fn first_failed(said: &str) -> Option<&str> {
     said.lines().find_map(|line| line.strip_prefix("test ")?.strip_suffix(" ... FAILED")).or_else(|| {
@@ -502,21 +532,20 @@ fn units(programs: &[(String, PathBuf)], folder: &Path) -> Vec<Unit> {
         path: path.clone(),
         folder: folder.to_path_buf(),
         tests,
-        limit: Duration::from_secs(300),
+        seconds: 300,
     };
     let names = programs.iter().flat_map(|it| unit(it, Vec::new()).names().into_iter().map(move |name| (it, name)));
     let ones: Vec<_> = names.map(|(it, name)| (it, unit(it, vec![name]))).collect();
-    let times = of_each(ones.len(), |at| {
-        let start = Instant::now();
-        (ones[at].1.seen_by(0), start.elapsed())
-    });
+    let times = of_each(ones.len(), |at| ones[at].1.time());
     let mut timed = Vec::new();
     let mut together = BTreeMap::<&str, (Duration, Unit)>::new();
-    for (at, (seen, time)) in times {
+    for (at, time) in times {
         let (program, one) = &ones[at];
-        if let Some(by) = seen {
-            eprintln!("mutants: {by} fails where nothing is changed, and is not asked");
-        } else if time < Duration::from_millis(30) {
+        let Some(time) = time else {
+            eprintln!("mutants: {}::{} fails where nothing is changed, and is not asked", one.program, one.tests[0]);
+            continue;
+        };
+        if time < Duration::from_millis(30) {
             let all = together.entry(&program.0).or_insert_with(|| (Duration::ZERO, unit(program, Vec::new())));
             all.0 += time;
             all.1.tests.extend(one.tests.iter().cloned());
@@ -526,9 +555,19 @@ fn units(programs: &[(String, PathBuf)], folder: &Path) -> Vec<Unit> {
     }
     timed.extend(together.into_values());
     timed.sort_by_key(|(time, _)| *time);
-    let limited = timed.into_iter().map(|(time, unit)| Unit { limit: time * 20 + Duration::from_secs(20), ..unit });
+    let limited = timed.into_iter().map(|(time, unit)| Unit { seconds: time.as_secs() * 10 + 5, ..unit });
     limited.collect()
 }
+
+/// How a build ended: with what was said, without changes that do not compile, or with an error where nothing is changed.
+enum Built {
+    Done(String),
+    Fewer,
+    Stuck(String),
+}
+
+/// How many changes of a program share a build: it has to fit into what the machine has of memory, and be there soon.
+const TOGETHER: usize = 400;
 
 /// The changes of a subject, and how each ended.
 struct Run<'a> {
@@ -537,6 +576,8 @@ struct Run<'a> {
     mutants: Vec<Mutant>,
     fates: Vec<Fate>,
     end: Option<Instant>,
+    /// Those that are tried now.
+    part: Range<usize>,
 }
 
 impl Run<'_> {
@@ -548,7 +589,7 @@ impl Run<'_> {
     fn left(&self) -> Vec<usize> {
         let is_left =
             |at: &usize| self.mutants[*at].body.is_some() && matches!(self.fates[*at], Fate::NotTried | Fate::Survived);
-        (0..self.mutants.len()).filter(is_left).collect()
+        self.part.clone().filter(is_left).collect()
     }
 
     /// Files of tests that take a changed file as a module, and so need the number of the change, too.
@@ -566,16 +607,15 @@ impl Run<'_> {
         Ok(())
     }
 
-    /// Writes the changed files, and returns where each change stands in them.
-    fn write(&self, tree: &Tree) -> Result<BTreeMap<String, Vec<(Range<usize>, usize)>>, String> {
+    /// Writes the files with those changes, and returns where each change stands in them.
+    fn write(&self, tree: &Tree, those: &[usize]) -> Result<BTreeMap<String, Vec<(Range<usize>, usize)>>, String> {
         self.write_tests(tree)?;
         let mut lines = BTreeMap::new();
         let mut files: BTreeSet<&str> = self.mutants.iter().map(|mutant| mutant.file.as_str()).collect();
         files.insert(self.subject.root_file);
         for file in files {
-            let left = self.left();
             let changes: Vec<(usize, &Mutant)> =
-                left.iter().map(|&at| (at + 1, &self.mutants[at])).filter(|(_, mutant)| mutant.file == file).collect();
+                those.iter().map(|&at| (at + 1, &self.mutants[at])).filter(|(_, mutant)| mutant.file == file).collect();
             let (mut text, mut at) = switched(&read(&self.root.join(file))?, &changes);
             // (a body that stands there fifty times is not put into each caller)
             text = text.replace("#[inline(always)]", "#[inline(never)]");
@@ -606,23 +646,64 @@ impl Run<'_> {
         numbers
     }
 
-    /// Builds without the changes that do not compile. `what` becomes of those. Returns what the last build said.
+    /// Builds with those changes, once. `what` becomes of those that do not compile.
+    fn built_once(&mut self, tree: &Tree, words: &[&str], what: &Fate, those: &[usize]) -> Result<Built, String> {
+        let lines = self.write(tree, those)?;
+        let (is_built, said) = tree.build(self.subject, words)?;
+        if is_built {
+            return Ok(Built::Done(said));
+        }
+        let refused = self.refused(&said, &lines);
+        if refused.is_empty() {
+            return Ok(Built::Stuck(said));
+        }
+        eprintln!("mutants: {}: {} changes do not compile", self.subject.name, refused.len());
+        for number in refused {
+            self.fates[number - 1] = what.clone();
+        }
+        Ok(Built::Fewer)
+    }
+
+    /// Builds without the changes that do not compile. `what` becomes of those. Returns what the last build said. rustc may blame who
+    /// calls a macro for a change of it, so these are built first, without others, and by halves where no line says which it is.
     fn built(&mut self, tree: &Tree, words: &[&str], what: &Fate) -> Result<String, String> {
-        loop {
-            let lines = self.write(tree)?;
-            let (is_built, said) = tree.build(self.subject, words)?;
-            if is_built {
-                return Ok(said);
-            }
-            let refused = self.refused(&said, &lines);
-            if refused.is_empty() {
-                return Err(format!("what is unchanged does not compile:\n{said}"));
-            }
-            eprintln!("mutants: {}: {} changes do not compile", self.subject.name, refused.len());
-            for number in refused {
-                self.fates[number - 1] = what.clone();
+        let mut macros = self.left_of_macros();
+        while !macros.is_empty() {
+            match self.built_once(tree, words, what, &macros)? {
+                Built::Done(_) => break,
+                Built::Fewer => macros = self.left_of_macros(),
+                Built::Stuck(_) => {
+                    self.built_by_halves(tree, words, what, &macros)?;
+                    break;
+                }
             }
         }
+        loop {
+            match self.built_once(tree, words, what, &self.left())? {
+                Built::Done(said) => return Ok(said),
+                Built::Fewer => {}
+                Built::Stuck(said) => return Err(format!("what is unchanged does not compile:\n{said}")),
+            }
+        }
+    }
+
+    fn left_of_macros(&self) -> Vec<usize> {
+        self.left().into_iter().filter(|at| self.mutants[*at].function.ends_with('!')).collect()
+    }
+
+    fn built_by_halves(&mut self, tree: &Tree, words: &[&str], what: &Fate, those: &[usize]) -> Result<(), String> {
+        self.write(tree, those)?;
+        if those.is_empty() || tree.build(self.subject, words)?.0 {
+            return Ok(());
+        }
+        if let [one] = those {
+            eprintln!("mutants: {} does not compile where it is called", self.mutants[*one].name());
+            self.fates[*one] = what.clone();
+            return Ok(());
+        }
+        let (front, back) = those.split_at(those.len() / 2);
+        self.built_by_halves(tree, words, what, front)?;
+        self.built_by_halves(tree, words, what, back)
     }
 
     /// The tests of a build with all changes that share it.
@@ -634,8 +715,11 @@ impl Run<'_> {
             let test: Vec<&str> = ["test", "--no-run"].iter().chain(build.arguments).copied().collect();
             self.built(tree, &test, &Fate::Seen("(the build of the tests)".to_string()))?
         } else {
-            let (words, _) = self.program(tree)?;
-            self.built(tree, &words.iter().map(String::as_str).collect::<Vec<_>>(), &Fate::NotCompiled)?
+            let (words, _) = self.program(tree, &["-C", "codegen-units=2"])?;
+            let words: Vec<&str> = words.iter().map(String::as_str).collect();
+            let check: Vec<&str> = words[..3].iter().copied().chain([&words[3], "--emit", "metadata"]).collect();
+            self.built(tree, &check, &Fate::NotCompiled)?;
+            self.built(tree, &words, &Fate::NotCompiled)?
         };
         Ok(units(&tree.programs(self.subject, &said), &tree.folder.join(self.subject.folder)))
     }
@@ -711,20 +795,24 @@ impl Run<'_> {
     }
 
     /// The arguments that build a program's tests, and where they are then.
-    fn program(&self, tree: &Tree) -> Result<(Vec<String>, PathBuf), String> {
+    fn program(&self, tree: &Tree, more: &[&str]) -> Result<(Vec<String>, PathBuf), String> {
         fs::create_dir_all(&tree.target).map_err(|error| error.to_string())?;
         let (file, path) = (self.subject.root_file.trim_start_matches("rust/"), tree.target.join(self.subject.name));
-        let words = ["--test", file, "-o"].map(str::to_string).into_iter().chain([path.display().to_string()]);
-        Ok((words.collect(), path))
+        let output = path.display().to_string();
+        let words =
+            ["--test", file, "-o", output.as_str(), "-C", "opt-level=1"].into_iter().chain(more.iter().copied());
+        Ok((words.map(str::to_string).collect(), path))
     }
 
     fn fate_of_program(&self, tree: &Tree) -> Result<Fate, String> {
-        let (words, path) = self.program(tree)?;
+        // (the next change finds what this one left as it was)
+        let incremental = format!("incremental={}", tree.target.join("parts").display());
+        let (words, path) = self.program(tree, &["-C", &incremental])?;
         if !tree.build(self.subject, &words.iter().map(String::as_str).collect::<Vec<_>>())?.0 {
             return Ok(Fate::NotCompiled);
         }
         let (program, folder) = (self.subject.name.to_string(), tree.folder.join(self.subject.folder));
-        let all = Unit { program, path, folder, tests: Vec::new(), limit: Duration::from_secs(600) };
+        let all = Unit { program, path, folder, tests: Vec::new(), seconds: 60 };
         let all = Unit { tests: all.names(), ..all };
         Ok(all.seen_by(0).map_or(Fate::Survived, Fate::Seen))
     }
@@ -764,15 +852,21 @@ impl Run<'_> {
         let outcome = self.all_in(&tree);
         let _ = fs::remove_dir_all(&tree.folder);
         let _ = fs::remove_dir_all(&tree.target);
+        let _ = tree.folder.parent().map(fs::remove_dir);
         outcome
     }
 
     fn all_in(&mut self, tree: &Tree) -> Result<(), String> {
-        for build in self.subject.builds {
-            if !self.left().is_empty() && !self.is_over() {
-                self.try_switched(tree, build)?;
+        let (count, together) = (self.mutants.len(), if self.subject.is_crate { usize::MAX } else { TOGETHER });
+        for first in (0..count).step_by(together) {
+            self.part = first..count.min(first.saturating_add(together));
+            for build in self.subject.builds {
+                if !self.left().is_empty() && !self.is_over() {
+                    self.try_switched(tree, build)?;
+                }
             }
         }
+        self.part = 0..count;
         if self.subject.is_crate && !self.is_over() {
             self.try_examples(tree, self.subject.builds.last().expect("a build"))?;
         }
@@ -890,9 +984,13 @@ fn sample_of(mut mutants: Vec<Mutant>, day: u64) -> Vec<Mutant> {
 fn those_of(root: &Path, subject: &Subject, asked: &Asked) -> Result<(Vec<Mutant>, Vec<String>), String> {
     let (mut mutants, mut files) = (Vec::new(), Vec::new());
     for (file, chosen) in subject.chosen(root)? {
+        let functions: Vec<&str> = asked.files.iter().filter_map(|it| it.strip_prefix(&format!("{file}:"))).collect();
         if asked.files.is_empty() || asked.files.contains(&file) {
             mutants.extend(mutants_of(root, &file, &chosen)?);
             files.push(file);
+        } else if !functions.is_empty() {
+            let found = mutants_of(root, &file, &chosen)?.into_iter();
+            mutants.extend(found.filter(|mutant| functions.contains(&mutant.function.as_str())));
         }
     }
     Ok((mutants, files))
@@ -927,13 +1025,13 @@ fn run_all(root: &Path, asked: &Asked) -> Result<bool, String> {
         }
         let fates = vec![Fate::NotTried; mutants.len()];
         let end = asked.sample.map(|(_, seconds)| start + Duration::from_secs(seconds));
-        let mut run = Run { root, subject, mutants, fates, end };
+        let mut run = Run { root, subject, mutants, fates, end, part: 0..0 };
         run.all()?;
         tried += run.fates.iter().filter(|fate| matches!(fate, Fate::Seen(_) | Fate::Survived)).count();
         is_well &= told(&run, &listed, &mut met);
     }
-    if let Some(file) = asked.files.iter().find(|file| !read_files.contains(*file)) {
-        return Err(format!("{file} is no file of what is changed, as --list names them"));
+    if let Some(of) = asked.files.iter().find(|of| !of.contains(".rs:") && !read_files.contains(*of)) {
+        return Err(format!("{of} is no file of what is changed, as --list names them"));
     }
     if asked.is_list {
         return Ok(true);

@@ -261,13 +261,14 @@ impl<'a> Source<'a> {
         behind
     }
 
-    /// A macro. One that has functions is read as what stands around it.
+    /// A macro. One that has items is read as what stands around it.
     fn behind_macro(&self, at: usize, regions: &mut Vec<Region>) -> usize {
         let (name, open) = (self.word(at + 2), at + 3);
         let end = self.partner[open];
-        if (open..end).any(|inside| self.is(inside, "fn")) {
+        if (open..end).any(|inside| ["fn", "struct", "enum", "impl"].iter().any(|word| self.is(inside, word))) {
             return open + 1;
         }
+        self.attributes_within(open..end, &format!("{name}!"), regions);
         let mut from = open + 1;
         while let Some(arrow) = self.next_of(from, end, &["=>"]) {
             let (first, last) = (arrow + 1, self.partner[arrow + 1]);
@@ -283,6 +284,13 @@ impl<'a> Source<'a> {
             from = last + 1;
         }
         end + 1
+    }
+
+    /// The attributes inside of a body.
+    fn attributes_within(&self, body: Range<usize>, function: &str, regions: &mut Vec<Region>) {
+        for at in body.filter(|at| self.is(*at, "#")) {
+            self.attribute(at, function, regions);
+        }
     }
 
     /// A function; returns what is behind it.
@@ -303,8 +311,10 @@ impl<'a> Source<'a> {
             first -= 1;
         }
         let name = self.word(at + 1);
+        let function = if owner.is_empty() { name.to_string() } else { format!("{owner}::{name}") };
+        self.attributes_within(open..end, &function, regions);
         regions.push(Region {
-            function: if owner.is_empty() { name.to_string() } else { format!("{owner}::{name}") },
+            function,
             tokens: open + 1..end,
             body: (!is_opaque).then(|| self.all[open].at.1..self.all[end].at.0),
             returned,

@@ -111,10 +111,79 @@ fn each_number_has_its_change() {
 }
 
 #[test]
-fn a_list_has_a_reason_above_its_names() {
+fn the_list_has_a_reason_above_its_names_and_each_is_a_change() {
     assert_eq!(without_parents("src/a/../by_hand/b.rs"), "src/by_hand/b.rs");
     let root = std::env::current_dir().expect("a folder");
     let root = root.ancestors().find(|it| it.join("rust/equivalent.txt").is_file()).expect("the repository");
     let listed = equivalent(root).expect("the list");
     assert!(listed.values().all(|reason| reason.len() > 20), "{listed:?}");
+    let all = Asked { files: Vec::new(), sample: None, is_list: true };
+    let changes = SUBJECTS.iter().flat_map(|subject| those_of(root, subject, &all).expect("changes").0);
+    let names: BTreeSet<String> = changes.map(|mutant| mutant.name()).collect();
+    let stale: Vec<_> = listed.keys().filter(|name| name.starts_with("rust/") && !names.contains(*name)).collect();
+    assert!(stale.is_empty(), "no such changes: {stale:#?}");
+}
+
+/// What a macro makes is changed as what stands in the file, and so are the attributes inside of a body.
+#[test]
+fn what_a_macro_makes_is_changed() {
+    let derived = "macro_rules! m {\n    () => {\n        #[derive(Clone, Copy)]\n        struct F;\n    };\n}\n";
+    assert_eq!(
+        changes(derived),
+        [
+            "attribute: `#[derive( Copy)]` for `#[derive(Clone, Copy)]`",
+            "attribute: `#[derive(Clone, )]` for `#[derive(Clone, Copy)]`"
+        ]
+    );
+    for (text, function) in [
+        ("macro_rules! m {\n    () => {\n        #[cfg(a)]\n        let b = c;\n    };\n}\n", "m!"),
+        ("fn f() {\n    #[cfg(a)]\n    g();\n}\n", "f"),
+        (
+            "macro_rules! m {\n    () => {\n        impl F {\n            #[cfg(a)]\n            fn f() {}\n        }\n    };\n}\n",
+            "F",
+        ),
+    ] {
+        let wanted = format!("{function}::attribute: nothing for `#[cfg(a)]`");
+        assert!(changes(text).contains(&wanted), "{wanted}: {:?}", changes(text));
+    }
+}
+
+/// rustc blames the caller for a macro without its `?`. That is no change, and the others are tried all the same.
+#[test]
+fn a_change_of_a_macro_may_be_refused_where_it_is_called() {
+    static SMALL: Subject = Subject {
+        name: "small",
+        folder: "rust",
+        root_file: "rust/small.rs",
+        builds: &[Build { name: "tests", arguments: &[] }],
+        is_crate: false,
+    };
+    let text = "macro_rules! more {\n    ($of:expr) => {\n        Some(u8::saturating_add($of?, 1))\n    };\n}\n\n\
+                fn f(given: &[u8]) -> Option<u8> {\n    more!(given.first().copied())\n}\n\n\
+                #[test]\nfn it_is_one_more() {\n    assert_eq!((f(&[4]), f(&[])), (Some(5), None));\n}\n";
+    let root = std::env::temp_dir().join(format!("mutants-small-{}", std::process::id()));
+    fs::create_dir_all(root.join("rust")).expect("a folder");
+    fs::write(root.join("rust/small.rs"), text).expect("a file");
+    let whole = Chosen { is_whole: true, ..Chosen::default() };
+    let mutants = mutants_of(&root, "rust/small.rs", &whole).expect("changes");
+    let fates = vec![Fate::NotTried; mutants.len()];
+    let mut run = Run { root: &root, subject: &SMALL, mutants, fates, end: None, part: 0..0 };
+    run.all().expect("it runs");
+    fs::remove_dir_all(&root).expect("a folder");
+    let shown: Vec<String> = (0..run.fates.len())
+        .map(|at| format!("{}: {}", run.mutants[at].change.split(" for ").next().unwrap_or_default(), run.shown(at)))
+        .collect();
+    let seen = "seen by tests: small::it_is_one_more";
+    let wanted = [
+        "`None(u8::saturating_add($of?, 1))`: does not compile".to_string(),
+        "`Some(u8::wrapping_add($of?, 1))`: SURVIVED".to_string(),
+        "`Some(u8::saturating_add(1, $of?))`: SURVIVED".to_string(),
+        "`Some(u8::saturating_add($of, 1))`: does not compile".to_string(),
+        format!("`Some(u8::saturating_add($of?, 2))`: {seen}"),
+        format!("`Some(u8::saturating_add($of?, 0))`: {seen}"),
+        format!("`Default::default()`: {seen}"),
+        format!("`Some(Default::default())`: {seen}"),
+        "`more!(given.last().copied())`: SURVIVED".to_string(),
+    ];
+    assert_eq!(shown, wanted);
 }

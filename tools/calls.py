@@ -6,9 +6,13 @@ on the pages that have to name them; the calls of the Rust crate that its tests,
 counted calls, laws, the words of commands, and crates. A page names what is in its inline code. A call whose name ends in `_counted`
 or `_unchecked` is named by `.._counted` or `.._unchecked`, too. A trait with arguments is named whole, such as `From<&str>`. Of what
 is lacking it says where it would stand: a file and a line, and that line as a neighbour of it stands there.
+
+tools/run calls             compares
+tools/run calls --added     prints the proved calls of the string that arraystring 0.3.0 lacks, but for the counted ones
 """
 import importlib.util
 import re
+import textwrap
 from collections import namedtuple
 
 import neighbours
@@ -23,6 +27,8 @@ HIDDEN = re.compile(r"#\[doc\(hidden\)\][^{]*")  # from the reference of the Rus
 STRING = re.compile(r"(?ms)^( *)impl<[^>]*> ArrayString<\w+> \{$.*?^\1\}$")
 IMPL = re.compile(rf"(?m)^impl(?:<[^>]*>)? (?:\w+::)*(\S.*) for (?:{TYPES})\b")
 DERIVE = re.compile(rf"(?m)^#\[derive\((.*)\)\]\n(?:#.*\n)*pub struct (?:{TYPES})\b")
+# The crates that an item of a list begins with.
+DESCRIBED = re.compile(r"(?m)^- ((?:\[?`\w+`\S* (?:and )?)+)")
 ARM = re.compile(r'"(\w+)"(?= =>| \|| if)')
 
 
@@ -106,6 +112,12 @@ def made_in(names, files):
     return names.intersection(name for both in made for name in both)
 
 
+def added(root):
+    """The calls that docs/differences.md has as `tools/run calls --added` prints them: `.._counted` names the others."""
+    proved = string_calls(text_of(root, "crates/arraystring_core/src/**/*.rt"))
+    return {it for it in proved if not it.endswith("_counted")} - {*OF_THE_CRATE.split()}
+
+
 def of_files(root, name, names, *patterns):
     """What some files have, which are all that match."""
     return Place(name, [it for pattern in patterns for it in sorted(root.glob(pattern))], names)
@@ -144,9 +156,10 @@ def call_places(root):
     yield "calls in every state", rust_calls(tested), \
         of_files(root, "rust/arraystring/tests/every_state", made_in(tested, every_state), "rust/arraystring/tests/every_state/*.rs")
     differences = "docs/differences.md"
-    added = calls - {*OF_THE_CRATE.split()}
-    yield "calls that arraystring 0.3.0 lacks", rust_calls(added), \
-        of_files(root, differences, named(added, inline_code(section(read(root / differences), "Added"))), differences)
+    lacking, page = calls - {*OF_THE_CRATE.split()}, section(read(root / differences), "Added")
+    # (whether what is printed there is what this prints, `quotes` says)
+    code = inline_code(page) + [it for it in added(root) if "tools/run calls --added" in inline_code(page)]
+    yield "calls that arraystring 0.3.0 lacks", rust_calls(lacking), of_files(root, differences, named(lacking, code), differences)
 
     proved, rust = "crates/arraystring_tests/src/tests/calls.rt", "rust/arraystring/tests/tables/calls.rs"
     arms = set(ARM.findall(source(root / proved).partition("match call {")[2]))
@@ -168,24 +181,27 @@ def places(root):
     yield "counted calls", of_files(root, "src/ of the string", counted, *sources_of_string), \
         of_files(root, "the table of bodies in README.md", bodies, "README.md")
 
-    promises, surface = "docs/promises.md", "crates/arraystring_tests/src/tests/surface.rt"
+    promises, public_api = "docs/promises.md", "crates/arraystring_tests/src/tests/public_api.rt"
     promised = " ".join(it.removeprefix("laws") for it in inline_code(read(root / promises)) if it.startswith("laws::"))
     laws = calls_of(text_of(root, "crates/*/src/laws.rt"))
     yield "laws", of_files(root, "crates/*/src/laws.rt", laws, "crates/*/src/laws.rt"), \
         of_files(root, promises, set(re.findall(r"\w+", promised)), promises)
     files = [f"crates/{it}/src/laws.rt" for it in STRING_CRATES]
     laws = set().union(*(calls_of(text_of(root, it)) for it in files))
-    called = set(re.findall(r"\blaws::(\w+)\(", read(root / surface)))
-    yield "laws of the string", of_files(root, "src/laws.rt of the string", laws, *files), of_files(root, surface, called, surface)
+    called = set(re.findall(r"\blaws::(\w+)\(", read(root / public_api)))
+    there = of_files(root, "src/laws.rt of the string", laws, *files)
+    yield "laws of the string", there, of_files(root, public_api, called, public_api)
 
     lines, rows = "crates/arraystring_run/src/line.rt", "docs/scripts.md"
     words = set(ARM.findall(source(root / lines)))
     yield "commands", of_files(root, lines, words, lines), of_files(root, rows, first_words(read(root / rows)), rows)
 
-    drawn = re.search(r"```text\n([^`]*)|$", section(readme, "The crates, and what is proved"))[1] or ""
-    products = {it for it in crates(root) if "test" not in it}
-    yield "crates", of_files(root, "crates.txt", products, "crates.txt"), \
-        of_files(root, "the drawing in README.md", set(re.findall(r"\w+", drawn)), "README.md")
+    of_crates = section(readme, "The crates, and what is proved")
+    drawn = re.search(r"```text\n([^`]*)|$", of_crates)[1] or ""
+    products = of_files(root, "crates.txt", {it for it in crates(root) if "test" not in it}, "crates.txt")
+    yield "crates", products, of_files(root, "the drawing in README.md", set(re.findall(r"\w+", drawn)), "README.md")
+    described = {name for names in DESCRIBED.findall(of_crates) for name in re.findall(r"`(\w+)`", names)}
+    yield "crates with a line", products, of_files(root, "the list below the drawing in README.md", described, "README.md")
 
 
 def faults_of(root, shapes, what, here, there):
@@ -196,6 +212,9 @@ def faults_of(root, shapes, what, here, there):
             yield f"{lacking.name} lacks {name}, which {having.name} has"
             place = neighbours.place_of(root, lacking.files, name, both, shapes)
             yield from [f"    {place}"] * bool(place)
+            # (what is no call may be one that was taken out)
+            stands = name not in shapes and neighbours.standing(root, having.files, name)
+            yield from [f"    or it has to go there: {stands}"] * bool(stands)
     if not both:
         yield f"{here.name} and {there.name} have no {what} in common"
 
@@ -221,6 +240,9 @@ def faults_of_moves(root):
 
 
 def main(arguments, root):
+    if arguments == ["--added"]:
+        print(textwrap.fill(" ".join(sorted(added(root))), 100))
+        return False
     twice = list(places(root))
     files = ["rust/arraystring/src/**/*.rs", *(f"crates/{it}/src/**/*.rt" for it in STRING_CRATES)]
     shapes = neighbours.shapes_of("\n".join(string_blocks(text_of(root, it)) for it in files))

@@ -1,15 +1,23 @@
-"""What a change has to pass before anything is proved: the tests of the tools; specs/ has definitions alone, with comments, and
-the page has those of `run`; something cites each lemma; callers are told of each law that crates above the string import; `==`
-is derived, and tested, where it is not listed as written by hand; the pages are as the files that they quote; what stands in two
-places is the same in both; a wrong body touches each public function and impl; each control and each source of the Rust crate is
-as it was when it proved; and the reasons of the Rust crate were read since what they stand on changed. The last line says how many
-seconds each part took.
+"""What a change has to pass before anything is proved:
+
+- the tests of the tools pass;
+- specs/ has definitions alone, with comments, and the page has those of `run`;
+- the page on contracts explains a word as that page does, and docs/promises.md is as the comments of the calls say;
+- something cites each lemma, and callers are told of each law that crates above the string import;
+- `==` is derived, and tested, where it is not listed as written by hand;
+- the pages are as the files that they quote, and what stands in two places is the same in both;
+- a wrong body touches each public function and impl;
+- each control and each source of the Rust crate is as it was when it proved;
+- the reasons of the Rust crate were read since what they stand on changed.
+
+The last line says how many seconds each part took.
 
 tools/run check             writes nothing
 tools/run check --write     first lays out each crate by `rt fmt`, makes the Rust crate by rust/erase/run where cargo is there,
-                            and writes lines and counts into the pages by `quotes --write`
-tools/run check --record    before all that tries the controls without a fresh line, by `controls`, and proves the sources of the Rust
-                            crate, by `proved`; it takes minutes where much has changed
+                            and writes lines, counts and rows into the pages by `quotes --write`, `words --write` and
+                            `promises --write`
+tools/run check --record    before all that tries the controls without a fresh line, by `controls`, and proves the sources of the
+                            Rust crate, by `proved`; it takes minutes where much has changed
 """
 import ast
 import io
@@ -27,11 +35,13 @@ import dead
 import equality
 import evidence
 import imported
+import promises
 import proved
 import quotes
 import reasons
 import repository
 import trusted
+import words
 
 
 def declared_tests(folder):
@@ -63,8 +73,10 @@ def tests(arguments, root):
 # The parts, each with the words of its call, and how much it has to say at least that it looked at. A search that finds less than
 # there is fails at nothing else. So these are near what there is: what grows by more than a tenth is written here again.
 PARTS = [
-    (tests, [], {"{} tests of the tools": 182}),
+    (tests, [], {"{} tests of the tools": 238}),
     (trusted.main, [], {"run: {} definitions": 65, "all public contracts: {} definitions": 200}),
+    (words.main, [], {"{} rows of docs/definitions.md": 22}),
+    (promises.main, [], {"{} promises": 189}),
     (dead.main, [], {"{} lemmas and laws are cited": 760}),
     (imported.main, ["--check"], {"{} laws that crates above import": 41}),
     (equality.main, [], {"{} types have == by a derive": 14}),
@@ -77,10 +89,10 @@ PARTS = [
 ]
 
 
-def status_of(words, folder):
+def status_of(command, folder):
     """The status of a command, whose output nobody reads; one that is not there is told."""
     try:
-        return subprocess.run(words, cwd=folder, stdout=subprocess.DEVNULL).returncode
+        return subprocess.run(command, cwd=folder, stdout=subprocess.DEVNULL).returncode
     except OSError as error:
         print(error)
         return 1
@@ -91,7 +103,8 @@ def is_written(root):
     commands = [(["rt", "fmt"], root / "crates" / it) for it in repository.crates(root)]
     commands += [(["rust/erase/run"], root)] if shutil.which("cargo") else []
     statuses = [status_of(*it) for it in commands]
-    quotes.main(["--write"], root)
+    for page in (quotes, words, promises):
+        page.main(["--write"], root)
     return not any(statuses)
 
 

@@ -45,7 +45,7 @@ def grounds_at(file, line):
         return callers.union(("function", file, it) for it in changed)
     # (what is put in the place of a comment changes no contract that is there)
     callers = {("callers", it.name) for it in file.functions if code_of([file.lines[line]])}
-    return callers.union((("function", file, it) for it in file.functions), (("unit", file, it) for it in file.units))
+    return callers | {("function", file, it) for it in file.functions} | {("unit", file, it) for it in file.units}
 
 
 def grounds_of(edit, files):
@@ -103,7 +103,7 @@ def main(arguments, root):
     names = [] if is_checking else arguments[:1] if is_of_edits else arguments
     unknown = repository.unknown_crate(root, names)
     if unknown or is_of_edits:
-        return unknown or try_wrong_bodies(root, names[0], arguments[2])
+        return unknown or try_wrong_bodies(root, arguments[0], arguments[2])
     known = dict(line.split(" ") for line in repository.read(root / RECORD).splitlines())
     grounds, controls = Grounds(root, kit.logic()), controls_of(root, names or repository.crates(root))
     sums = {name: checksum_of(edit, grounds) for name, edit in controls.items()}

@@ -10,21 +10,29 @@ import re
 import shutil
 import subprocess
 import time
+from contextlib import contextmanager
 
 import repository
 import repository_copy
 
 
+@contextmanager
 def first_check(folder):
-    """Prints what the functions of a crate take; whether it does not prove."""
+    """The first check of a crate, by one job, as it runs."""
     # (the text is new, and the folder is there, so that it begins with nothing that a check on this machine kept)
     root = next(folder.glob("src/lib.rt"), folder / "src/main.rt")
     root.write_text(f"{repository.read(root)}// {time.time_ns()}\n", encoding="utf-8")
     shutil.rmtree(folder / "out", ignore_errors=True)
     (folder / "out/incremental").mkdir(parents=True)
-    seconds, before, line = {}, time.monotonic(), ""
     with subprocess.Popen(["rt", "check", "--jobs", "1"], cwd=folder, stdin=subprocess.DEVNULL, stdout=subprocess.PIPE,
                           stderr=subprocess.STDOUT, encoding="utf-8") as run:
+        yield run
+
+
+def functions(folder):
+    """Prints what the functions of a crate take; whether it does not prove."""
+    seconds, before, line = {}, time.monotonic(), ""
+    with first_check(folder) as run:
         for line in run.stdout:
             checked = re.match(r"checked \w+::(\S+), \d+ of \d+", line)
             if checked:
@@ -36,9 +44,14 @@ def first_check(folder):
     return run.returncode != 0
 
 
-def main(arguments, root):
+def of_crates(arguments, root, told):
+    """Has each crate that is named told of, in a copy of the repository; whether one does not prove, or what is wrong."""
     fault = repository.unknown_crate(root, arguments) if arguments else "name a crate"
     if fault:
         return fault
     with repository_copy.copied(root) as copy:
-        return any([first_check(copy / "crates" / it) for it in arguments])
+        return any([told(copy / "crates" / it) for it in arguments])
+
+
+def main(arguments, root):
+    return of_crates(arguments, root, functions)

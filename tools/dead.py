@@ -100,7 +100,7 @@ def unused_imports(text):
     """What a module imports and neither uses nor passes on. An operator is used by its signs, `◌∙◌` by `∙`."""
     without_comments = re.sub(r"(?m)(^|\s)--(\s.*)?$", "", re.sub('"[^"]*"', '""', text))
     words = set(re.findall(rf"\[\]|{NAME}", IMPORT.sub("", without_comments)))
-    names = imports(re.sub(r"(?m)^pub use .*", "", text))
+    names = imports(re.sub(r"(?m)^(unfoldable )?pub use .*", "", text))
     return [it for it in names if not words.issuperset(filter(None, it.split("◌")))]
 
 

@@ -32,7 +32,7 @@ def applied(edit, is_right=False):
             text = texts.get(file) or (read(file) if file.is_file() else "")
             if text.count(old) != 1:
                 raise ValueError(f"{path} does not have this once: {old}")
-            before, _, behind = text.partition(old)
+            before, behind = text.split(old)
             texts[file] = before + made + behind
             places += [(file, before.count("\n"))] * (made != old)
     return texts, places

@@ -41,7 +41,7 @@ def faults_of(text, tested):
 
 def main(arguments, root):
     tests = [test for file in sorted(root.glob("crates/*/src/**/*.rt")) for test in TEST.findall(code_of(file))]
-    tested = set(re.findall(r"\w+", " ".join(tests)))
+    tested = {word for test in tests for word in re.findall(r"\w+", test)}
     files = [file for crate in crates(root) if "test" not in crate for file in sources(root / "crates" / crate)]
     text = {file: code_of(file) for file in files}
     faults = [f"{file.relative_to(root)}: {it}" for file in files for it in faults_of(text[file], tested)]

@@ -52,7 +52,7 @@ class Crate:
 
     def owner(self, edit):
         """The name of the function for which an edit is named; None where there is none."""
-        return max((it for it in self.asked if edit.name.startswith(f"{it}.")), key=len, default=None)
+        return next((it for it in self.asked if edit.name.startswith(f"{it}.")), None)
 
     def rests_on(self, name):
         """The function of a name and what it names, directly or by others."""

@@ -15,6 +15,7 @@ fewer. What is not read here as an item is a ground of each function of its file
 """
 import hashlib
 import re
+from functools import cache
 
 import sources
 from closure import closed
@@ -22,17 +23,20 @@ from modules import IMPORT, NAME, Modules, imports, module_of
 from repository import crates, read
 
 WORD = re.compile(r"\w+")
-COMMENT = re.compile(r"\s*(//|--)")
 USE = re.compile(r"(?ms)^(?:pub(?:\(\w+\))? )?use ([^;]*);")
-# (the item that a line at the left edge begins, and an impl)
+# (the item that a line at the left edge begins, and an impl, whose head may have several lines)
 KINDS = "struct|enum|union|trait|type|const|static"
-NAMED = re.compile(rf"(?:pub(?:\(\w+\))? )?(?:unsafe )?(?:{KINDS}) (?:mut )?(\w+)|macro_rules! (\w+)")
-IMPL = re.compile(r"(?:unsafe )?impl\b")
+NAMED = re.compile(rf"(?m)^(?:(?:pub(?:\(\w+\))? )?(?:unsafe )?(?:{KINDS}) (?:mut )?(\w+)|macro_rules! (\w+))")
+IMPL = re.compile(r"(?m)^(?:unsafe )?impl\b([^{]*)")
+
+
+def is_comment(line):
+    return line.lstrip().startswith(("//", "--"))
 
 
 def code_of(lines):
     """Some lines without those of comments, as one text."""
-    return "\n".join(line for line in lines if line.strip() and not COMMENT.match(line))
+    return "\n".join(line for line in lines if line.strip() and not is_comment(line))
 
 
 def leaves(tree, before=""):
@@ -58,16 +62,12 @@ class Unit:
 
     def __init__(self, lines):
         self.text, self.comment = code_of(lines), ""
-        heads = [line for line in lines if line.strip() and line[0] not in " #/})"]
-        head = heads[0] if heads else ""
-        item = NAMED.match(head)
+        item, impl = NAMED.search(self.text), IMPL.search(self.text)
         if item:
             self.names = {item[1] or item[2]}
-            self.comment = "\n".join(line for line in lines if COMMENT.match(line))
+            self.comment = "\n".join(filter(is_comment, lines))
         else:
-            # (the head of an impl may have several lines)
-            whole = self.text[self.text.find(head):].partition("{")[0] if IMPL.match(head) else ""
-            self.names = set(WORD.findall(whole)) - {"impl", "for", "const", "unsafe", "N", "usize"}
+            self.names = set(WORD.findall(impl[1] if impl else "")) - {"for", "const", "N", "usize"}
 
 
 class File:
@@ -91,7 +91,7 @@ class File:
         without = re.sub(r"(?ms)^(?:#\[[^\n]*\]\n)*(?:pub(?:\(\w+\))? |ghost )?(?:use|mod) [^;]*;$", "", "\n".join(lines))
         block, has_head = [], False
         for line in without.split("\n"):
-            begins = line and line[0] not in " })" and not line.startswith("#![")
+            begins = line and line[0] not in " {})" and not line.startswith("#![")
             is_head = begins and not line.startswith(("//", "#["))
             # (what stands above a function, which was taken out, is no part of the next unit)
             block = block if line or has_head else []
@@ -100,7 +100,7 @@ class File:
                 block, has_head = [], False
             block.append(line)
             has_head = has_head or bool(is_head)
-        if code_of(line for line in block if not line.startswith("#![")):
+        if has_head:
             yield Unit(block)
 
     def text_of(self, function):
@@ -127,7 +127,7 @@ class Scope:
     then comes what it is of; `read` says what one has, and on which others it stands."""
 
     def __init__(self, root, tree, crate, files):
-        self.root, self.tree, self.crate, self.files, self.known = root, tree, crate, files, {}
+        self.root, self.tree, self.crate, self.files, self.read = root, tree, crate, files, cache(self.read_anew)
         self.functions, self.units, self.proofs, self.same = {}, {}, {}, {}
         for file in files:
             for function in file.functions:
@@ -139,10 +139,8 @@ class Scope:
         for item in tree.items:
             self.same.setdefault((item.module, item.name), set()).add(item)
 
-    def read(self, ground):
-        if ground not in self.known:
-            self.known[ground] = getattr(self, f"read_{ground[0]}")(*ground[1:])
-        return self.known[ground]
+    def read_anew(self, ground):
+        return getattr(self, f"read_{ground[0]}")(*ground[1:])
 
     def units_of(self, words):
         return {("unit", *it) for word in words for it in self.units.get(word, ())}
@@ -202,7 +200,7 @@ class Grounds:
     """The grounds of the functions of a repository, over a logic."""
 
     def __init__(self, root, logic):
-        self.root, self.tree, self.scopes, self.files = root, Modules(root), {}, {}
+        self.root, self.tree, self.files, self.scope = root, Modules(root), {}, cache(self.scope_of)
         self.needed = {name: line.split() for name, line in re.findall(r"(?m)^(\w+):(.*)$", read(root / "crates.txt"))}
         handles = root / "HANDLES"
         self.everywhere = {logic, read(handles) if handles.exists() else ""}
@@ -210,12 +208,9 @@ class Grounds:
             found = sources.functions(root / "crates" / crate)
             self.files |= {path: File(path, crate, functions) for path, functions in found.items()}
 
-    def scope(self, crate):
-        if crate not in self.scopes:
-            within = self.within(crate)
-            files = [file for file in self.files.values() if file.crate in within]
-            self.scopes[crate] = Scope(self.root, self.tree, crate, files)
-        return self.scopes[crate]
+    def scope_of(self, crate):
+        within = self.within(crate)
+        return Scope(self.root, self.tree, crate, [file for file in self.files.values() if file.crate in within])
 
     def within(self, crate):
         """A crate and those that it needs, but for those of std."""

@@ -16,7 +16,7 @@ from closure import closed
 from repository import read
 
 STRING = "arraystring"
-MODULE = re.compile(rf"Rattle\.{STRING}(_base|_core)?\.proofs\b")
+MODULE = re.compile(rf"Rattle\.{STRING}(_base|_core)?\.proofs(\..*)?")
 WHOLE_PATH = re.compile(rf"\b({STRING}(?:_base|_core)?::proofs(?:::\w+)*)::(\w+)")
 
 
@@ -30,7 +30,7 @@ def above(root):
 def imported_by(text):
     """What a file imports of proofs/ of the string, each by the path of its module and its name."""
     for name, (path, word) in imports(text).items():
-        if MODULE.match(path):
+        if MODULE.fullmatch(path):
             # (where the whole module is imported, what the file names of it)
             yield from ((path, it) for it in ([word] if word else re.findall(rf"\b{re.escape(name)}\.([\w-]+)", text)))
     for path, name in WHOLE_PATH.findall(re.sub("//.*", "", text)):
@@ -41,7 +41,7 @@ def importers(root):
     """By the path of each law that is imported the crates that do so."""
     found = {}
     for crate in above(root):
-        for file in sorted((root / "crates" / crate).glob("*/**/*.*t")):
+        for file in sorted((root / "crates" / crate).rglob("*.*t")):
             if file.suffix in (".rt", ".antt") and file.relative_to(root).parts[2] in ("src", "specs", "proofs"):
                 for law in imported_by(read(file)):
                     found.setdefault(law, {})[crate] = None

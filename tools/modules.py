@@ -5,7 +5,7 @@ from functools import cache
 from repository import crates, read
 
 NAME = r"[^\s(){}\[\];,.]+"
-IMPORT = re.compile(r"(?m)^ *(?:pub |ghost )*use (Rattle[^\s{;]*?)(?:\.\{([^}]*)\})?(?: as ([^\s;]+))?;?$")
+IMPORT = re.compile(r"(?m)^ *(?:unfoldable |pub |ghost )*use (Rattle[^\s{;]*?)(?:\.\{([^}]*)\})?(?: as ([^\s;]+))?;?$")
 
 
 def imports(text):
@@ -55,7 +55,7 @@ def parsed(path, text):
         code = line
         # (without comments, and what strings say)
         line = re.sub(r"(^|\s)--(\s.*)?$", "", re.sub('"[^"]*"', '""', line)).rstrip()
-        if not line or re.match(r"(pub )?(use|mod) ", line):
+        if not line or re.match(r"(unfoldable )?(pub )?(use|mod) ", line):
             continue
         indent = len(line) - len(line.lstrip())
         around = around[: indent // 2]

@@ -8,17 +8,26 @@ tools/run mutants --sample DAY SECONDS  as many as fit into the time, chosen by 
 tools/run mutants --list FILE..         prints the changes and runs nothing
 
 The rules: a comparison, `and`, `or` and a sum for its neighbour; a number by one, a text to the empty one; a condition to either
-value, and without its `not`; a statement out; a returned value to None; two arguments swapped; a bound of a part out; a word for its
-opposite. The tools are copied, with the repository that their tests read. Each change is tried on the tests named as its tool, then on
-those of what imports it, however far, and on those of `tools/run`. One that runs too long is ended, and counts as seen.
+value, and without its `not`; a statement out; a returned value to None; two arguments swapped; a bound of a part out; a word for
+its opposite. The tools are copied, with the repository that their tests read. Each change is tried on the tests named as its
+tool, then on those of what imports it, however far, and on those of `tools/run`. Each file of tests is run once without a change,
+too, and has to pass. One that takes ten times as long after a change is ended, and counts as seen.
+
+Two changes are tried at a time, each in a copy of its own among the temporary files; TMPDIR=/dev/shm keeps these in memory.
 """
 import ast
+import compileall
+import multiprocessing
+import os
+import py_compile
 import random
-import subprocess
+import resource
+import signal
 import sys
 import time
+import unittest
 from collections import Counter
-from concurrent.futures import ThreadPoolExecutor
+from contextlib import ExitStack
 from pathlib import Path
 
 from closure import closed
@@ -26,8 +35,10 @@ from repository import read
 from repository_copy import copied
 
 LISTED = "rust/equivalent.txt"
-WORKERS = 1
-LONGEST = 600
+WORKERS = 2
+# For how many seconds of a processor each file of tests may go on, and for how many of the clock.
+LEAST, LONGEST = 10, 600
+FORK = multiprocessing.get_context("fork")
 
 COMPARISONS = {
     ast.Lt: ["<=", ">="], ast.LtE: ["<", ">"], ast.Gt: [">=", "<="], ast.GtE: [">", "<"], ast.Eq: ["!="], ast.NotEq: ["=="],
@@ -210,48 +221,84 @@ def tests_of(root, file):
     files = {it.stem: it for it in folder.glob("*.py")}
     reached = lambda name: closed([name], lambda it: imported_by(files[it]) & files.keys())
     asked = [it for name, it in files.items() if name.startswith("test_") and (tool in reached(name) or name == "test_run")]
-    return [it.stem for it in sorted(asked, key=lambda it: (tool not in it.stem, tool not in imported_by(it), it.stem == "test_run", it.name))]
+    order = lambda it: (tool not in it.stem, tool not in imported_by(it), it.stem == "test_run", it.name)
+    return [it.stem for it in sorted(asked, key=order)]
 
 
-def seen_by(tree, file, text, tests):
-    """The file of tests that sees a change in a copy of the repository; None where none does."""
+def run_tests(folder, name, seconds):
+    """Runs a file of the tests in a folder of tools. The process of its own in which it does so forgets the tools that it has,
+    and keeps the modules of Python's library: to read those again takes longer than most tests."""
+    os.setsid()
+    os.chdir(folder)
+    for it in [it for it in sys.modules if (Path(__file__).parent / f"{it}.py").exists()]:
+        del sys.modules[it]
+    sys.path.insert(0, str(folder))
+    nowhere = os.open(os.devnull, os.O_RDWR)
+    for it in range(3):
+        os.dup2(nowhere, it)
+    sys.stdout = sys.stderr = open(os.devnull, "w")
+    resource.setrlimit(resource.RLIMIT_CPU, (seconds, seconds))
+    unittest.main(name, argv=["", "-f"])
+
+
+def ran(tree, name, seconds):
+    """How a file of tests ends in a copy of the repository, and how many seconds of a processor it took."""
+    before = resource.getrusage(resource.RUSAGE_CHILDREN)
+    run = FORK.Process(target=run_tests, args=(tree / "tools", name, seconds))
+    run.start()
+    run.join(LONGEST)
+    if run.is_alive():
+        os.killpg(run.pid, signal.SIGKILL)
+        run.join()
+    return run.exitcode, resource.getrusage(resource.RUSAGE_CHILDREN).ru_utime - before.ru_utime
+
+
+def seen_by(tree, file, text, tests, usual):
+    """The file of tests that sees a change in a copy of the repository; None where none does. `usual` has how long each that was
+    asked before takes without a change."""
     kept = (tree / file).read_bytes()
-    (tree / file).write_bytes(text)
-    try:
-        for it in tests:
-            command = [sys.executable, "-B", "-m", "unittest", "-f", it]
-            try:
-                run = subprocess.run(command, cwd=tree / "tools", stdin=subprocess.DEVNULL, stdout=subprocess.DEVNULL,
-                                     stderr=subprocess.DEVNULL, timeout=LONGEST)
-            except subprocess.TimeoutExpired:
-                return f"{it} (it ran too long)"
-            if run.returncode:
-                return it
-    finally:
+    for it in tests:
+        if it not in usual:
+            status, usual[it] = ran(tree, it, LONGEST)
+            if status:
+                raise SystemExit(f"{it} fails without a change")
+        (tree / file).write_bytes(text)
+        status, _ = ran(tree, it, LEAST + int(10 * usual[it]))
         (tree / file).write_bytes(kept)
+        if status:
+            return it if status > 0 else f"{it} (it ran too long)"
     return None
+
+
+def work(tree, asked, tests, end, fates):
+    """Tries changes in a copy of the repository while there is time, and hands on the name of each with what saw it; None at the
+    end."""
+    usual = {}
+    try:
+        for file, name, text in asked:
+            if end is None or time.monotonic() < end:
+                fates.put((name, seen_by(tree, file, text, tests[file], usual)))
+    finally:
+        fates.put(None)
 
 
 def tried(root, asked, end):
     """What saw each change, by its name: a file of tests, or None. Those that the time has no room for are left out."""
-    fates = {}
-    waiting = list(reversed(asked))
-
-    def work(tree):
-        while waiting and (end is None or time.monotonic() < end):
-            file, name, text = waiting.pop()
-            fates[name] = seen_by(tree, file, text, tests_of(root, file))
-            print(f"{name}: {fates[name] or 'not seen'}", file=sys.stderr, flush=True)
-
-    with ThreadPoolExecutor(WORKERS) as pool:
-        for it in [pool.submit(in_copy, root, work) for _ in range(WORKERS)]:
-            it.result()
+    fates, waiting = {}, FORK.SimpleQueue()
+    tests = {file: tests_of(root, file) for file in {it[0] for it in asked}}
+    with ExitStack() as copies:
+        for number in range(WORKERS):
+            tree = copies.enter_context(copied(root, "out", "target"))
+            # (which is read where a file is as it was, however short a time ago that was)
+            compileall.compile_dir(tree / "tools", quiet=1, invalidation_mode=py_compile.PycInvalidationMode.CHECKED_HASH)
+            worker = FORK.Process(target=work, args=(tree, asked[number::WORKERS], tests, end, waiting))
+            worker.start()
+            copies.callback(worker.join)
+        for _ in range(WORKERS):
+            for name, by in iter(waiting.get, None):
+                fates[name] = by
+                print(f"{name}: {by or 'not seen'}", file=sys.stderr, flush=True)
     return fates
-
-
-def in_copy(root, work):
-    with copied(root, "out", "target") as tree:
-        work(tree)
 
 
 def listed(root):
@@ -269,7 +316,8 @@ def told(fates, known):
     """Prints what saw the changes of each file, and those that nothing saw; whether there are such."""
     survivors = [name for name, by in fates.items() if by is None and name not in known]
     for file in sorted({name.partition(":")[0] for name in fates}):
-        kinds = Counter(by or ("equivalent" if name in known else "SURVIVED") for name, by in fates.items() if name.startswith(f"{file}:"))
+        of_file = {name: by for name, by in fates.items() if name.startswith(f"{file}:")}
+        kinds = Counter(by or ("equivalent" if name in known else "SURVIVED") for name, by in of_file.items())
         print(f"{file}: {sum(kinds.values())} changes: {', '.join(f'{count} {kind}' for kind, count in kinds.most_common())}")
     print("".join(f"survived: {it}\n" for it in survivors), end="")
     return bool(survivors)
@@ -289,6 +337,8 @@ def main(arguments, root):
         end = start + seconds
     fates = tried(root, asked, end)
     failed = told(fates, known)
+    if not end and len(fates) < len(asked):
+        return f"{len(fates)} of {len(asked)} changes were tried"
     stale = [] if end else [it for it in known if it.partition(":")[0] in files and fates.get(it, "it is not there") is not None]
     print("".join(f"no longer survives, or is no longer there: {it}\n" for it in stale), end="")
     print(f"{len(fates)} of {len(asked)} changes of the tools were tried in {time.monotonic() - start:.0f} seconds")

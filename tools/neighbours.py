@@ -58,3 +58,10 @@ def place_of(root, files, name, names, shapes):
             file, number, line = best
             return f"{file.relative_to(root)}:{number}: as `{other}` there: {with_name(line, name, other, known)}"
     return ""
+
+
+def standing(root, files, name):
+    """Where a name stands first in some files; nothing where it does not."""
+    lines = [(file, number, line) for file in files for number, line in enumerate(read(file).split("\n"), 1)]
+    found = next((it for it in lines if re.search(rf"\b{re.escape(name)}\b", it[2])), None)
+    return f"{found[0].relative_to(root)}:{found[1]}" if found else ""

@@ -15,4 +15,4 @@ def prose(page):
 
 def inline_code(page):
     """What stands between backticks, without the blocks of code."""
-    return re.findall(r"`([^`\n]+)`", prose(page))
+    return re.findall(r"`([^`]+)`", prose(page))

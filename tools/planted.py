@@ -12,6 +12,15 @@ from repository import ROOT, read
 from repository_copy import copied
 
 
+class Flushed(io.StringIO):
+    """What was written up to the last flush, so what a reader has seen while a command goes on."""
+
+    seen = ""
+
+    def flush(self):
+        self.seen = self.getvalue()
+
+
 class TreeTest(unittest.TestCase):
     """A test with a small repository of its own, which begins with FILES: texts by their paths."""
 
@@ -64,6 +73,12 @@ class TreeTest(unittest.TestCase):
         with redirect_stdout(io.StringIO()) as said, redirect_stderr(said):
             outcome = command.main(list(words), self.root)
         return bool(outcome), said.getvalue() + (outcome if isinstance(outcome, str) else "")
+
+    def seen_at_once(self, command, *words):
+        """What a reader has seen of what a command says before it ends."""
+        with redirect_stdout(Flushed()) as said:
+            command.main(list(words), self.root)
+        return said.seen
 
     def assert_finds(self, command, *plants, words=()):
         """Each is what the command has to say of some changes, and these. Of what is no mistake it says nothing new."""

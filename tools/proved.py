@@ -91,4 +91,3 @@ def main(arguments, root):
         return "a source changed while it was proved, so nothing is written"
     record.write_text("".join(f"{line}\n" for line in lines), encoding="utf-8")
     print(f"{len(lines) - 1} sources written to {RECORD}")
-    return False

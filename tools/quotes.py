@@ -1,7 +1,8 @@
 """Fails where a page and the files that it quotes differ.
 
 tools/run quotes            looks at all pages of the repository
-tools/run quotes --write    first writes what commands print
+tools/run quotes --write    first writes what commands print, and the row of a call that a table lacks, where its contract cites
+                            a row of specs/Edits.antt
 
 Nine things are compared:
 - a block after a line that ends in "From `PATH`:". Its lines stand in the file one after the other;
@@ -35,6 +36,7 @@ PUBLIC = re.compile(r"(?m)^(?:(?:abbrev|unfoldable) )?pub (?:data |record )?(\S+
 WRONG_BODY = re.compile(r"[\w.*]*\.[a-z]+_\w+")
 RUST_PAGE, FIRST = "rust/arraystring/README.md", "rust/arraystring/examples/first.rs"
 CALLS = re.compile(r"The files are in `(\S+)`\.\n\n\|Call\|.*\n\|[-|]*\n((?:\|.*\n)+)")
+MAKES = re.compile(r"\bMakes (?:\((.*?)\)|(\w+)) self\.old\.text")
 PATH = re.compile(r"(?!.*NAME)(?:crates|docs|rust|tools|bench|\.ci)/[\w./-]+")
 LAWS = re.compile(r"(?!X)[A-Z]\w*Laws")
 ANSWERED = re.compile(r"((?:`\w+`,?\s(?:and\s)?)+)have goals of this form")
@@ -46,8 +48,42 @@ def printed(root, command):
 
 
 def as_due(root, text):
-    """The text of a page with what commands print."""
-    return PRINTED.sub(lambda found: f"{found[1]}{printed(root, found[2])}```", text)
+    """The text of a page with what commands print, and with the rows of calls that its tables lack."""
+    text = PRINTED.sub(lambda found: f"{found[1]}{printed(root, found[2])}```", text)
+    return CALLS.sub(lambda found: found[0].replace(found[2], with_rows(root / found[1], found[2])), text)
+
+
+def error_of(header):
+    """The cell of a table for the error of a call."""
+    returned = re.search(r"-> Result<.*, (\w+)>$", header, re.M)
+    return f"`{returned[1]}`" if returned else ""
+
+
+def row_of(call, file):
+    """The row of a table for a call, with the page's words for text and capacity; nothing where its contract cites no row."""
+    made = MAKES.search(call.header)
+    if not made:
+        return ""
+    makes = (made[1] or made[2]).replace("self.old.text", "t").replace("(cap N)", "n").replace(".now", "")
+    takes = re.search(r"fn \w+(?:<[^(]*>)?\(([^{]*?)\)", call.header)[1]
+    named = ", ".join(re.findall(r"(\w+):", takes))
+    return f"|`{call.name}({named})`|`{makes}`|{error_of(call.header)}|`{file}`\n"
+
+
+def with_rows(folder, rows):
+    """The rows of a table of calls, with one for each call of its files that they lack, if `row_of` has one: behind that of the
+    call before it, or else first of its file."""
+    for file in dict.fromkeys(re.findall(r"\|`([^`|]*)`\n", rows)):
+        text = read(folder / file) if (folder / file).exists() else ""
+        of_file = re.findall(rf"(?m)^\|.*\|`{re.escape(file)}`\n", rows)
+        before, due = "", {it for it in calls.calls_of(text) if not it.endswith("_counted")}
+        for call in functions_of(text, False, frozenset()):
+            row = next((it for it in of_file if re.search(rf"`{call.name}\(", it)), "")
+            if call.name in due and not row:
+                row = row_of(call, file)
+                rows = rows.replace(before, before + row) if before else rows.replace(of_file[0], row + of_file[0])
+            before = row or before
+    return rows
 
 
 def faults_of(root, text):
@@ -72,7 +108,7 @@ def faults_of(root, text):
     for name in filter(WRONG_BODY.fullmatch, code):
         if not any(root.glob(f"crates/*/must-fail/{name}.edit")):
             yield f"no wrong body is named {name}"
-    for name in re.findall(r"\w+(?=`)", " ".join(ANSWERED.findall(text))):
+    for name in (it for listed in ANSWERED.findall(text) for it in re.findall(r"\w+(?=`)", listed)):
         if not any(root.glob(f"crates/*/proofs/**/{name}/Answers.antt")):
             yield f"{name} has no answers"
 
@@ -85,11 +121,11 @@ def faults_of_row(row, file):
     faults = [f"{file.name} has no call {it}" for it in names if it not in functions]
     contracts = [functions[it].header for it in names if it in functions]
     for header in contracts:
-        returned = re.search(r"-> Result<.*, (\w+)>$", header, re.M)
-        if error != (f"`{returned[1]}`" if returned else ""):
+        if error != error_of(header):
             faults.append(f"the error of {named} is not {error or 'none'}")
     words = {word for code in re.findall(r"`([^`]*)`", makes) for word in re.findall(r"[^\W\d]\w+", code)}
-    faults += [f"the contract of {named} has no {it}" for it in sorted(words - set(re.findall(r"\w+", "\n".join(contracts))))]
+    words -= {word for header in contracts for word in re.findall(r"\w+", header)}
+    faults += [f"the contract of {named} has no {it}" for it in sorted(words)]
     return faults, names
 
 

@@ -51,7 +51,7 @@ def main(arguments, root):
         known |= {path: sums[path] for path in read}
         record.write_text("".join(f"{it} {known[it]}\n" for it in sorted(known) if it in sums), encoding="utf-8")
         print(f"the reasons of {len(read)} functions were read")
-        return False
+        return None
     faults = [f"{path}: its reasons were not read since it changed" if is_checking else reasons[path] for path in stale]
     faults += [f"{path}: {PAGE} does not have it" for path in sorted(known.keys() - sums)]
     what_to_do = f"read these beside their bodies; `tools/run reasons --read` records it in {RECORD}"

@@ -18,7 +18,7 @@ class Function(namedtuple("Function", "name kind trait is_asked place span heade
 
     def hands_on_to(self, name):
         """Whether all that it does is one call of another function."""
-        return len(self.body) == 1 and bool(re.fullmatch(rf" *(self\.)?{name}\([^{{}}]*\)", self.body[0]))
+        return bool(re.fullmatch(rf" *(self\.)?{name}\([^{{}}\n]*\)", "\n".join(self.body)))
 
     def names(self):
         """By what the function can be called, the shortest first: `next`, `Drain.next`, `Drain.Iterator`, `Error.From.Utf8`."""
@@ -54,7 +54,7 @@ def functions_of(text, is_program, public):
             is_seen, place = kind in public and has_contract, of_impl
         else:
             is_seen, place = visibility == "pub " or is_program and name != "main", span
-        owner, words = (kind, trait) if indent else ("", ""), frozenset(re.findall(r"\w+", " ".join(body)))
+        owner, words = (kind, trait) if indent else ("", ""), frozenset(word for it in body for word in re.findall(r"\w+", it))
         found.append(Function(name, *owner, bool(body and is_seen), place, span, header, body, words))
     return found
 

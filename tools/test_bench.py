@@ -2,6 +2,7 @@
 import io
 import re
 import sys
+import unittest
 from contextlib import redirect_stdout
 from importlib.machinery import SourceFileLoader
 from importlib.util import module_from_spec, spec_from_loader
@@ -30,12 +31,69 @@ def loaded(path):
 
 
 OF_CRATE, OF_PORT = loaded("rust/bench/run"), loaded("bench/run")
+PROGRAMS = loaded("rust/bench/calls.py")
 
 
 def said_by(tell, *words):
     with redirect_stdout(io.StringIO()) as said:
         tell(*words)
     return said.getvalue()
+
+
+class Calls(unittest.TestCase):
+    SOURCE = """\
+    impl<const N: usize> ArrayString<N> {
+        pub fn pop_front(&mut self) -> Option<char> {
+        }
+
+        pub const fn all<S: AsRef<str>, R: RangeBounds<u8>>(
+            &mut self,
+            at: u8,
+            range: R,
+            with: S,
+            steps: &mut Steps,
+        ) -> Result<Drain<N>, Error> {
+        }
+
+        pub unsafe fn pop_unchecked(&mut self) {
+        }
+
+        #[doc(hidden)]
+        pub fn of_constant(text: &str) -> Self {
+        }
+
+        fn own(&self) {
+        }
+    }
+impl CacheString {
+    pub fn from_chars<I: IntoIterator<Item = char>>(characters: I) -> Self {
+    }
+
+    pub fn split_off(&mut self, at: u8) -> Result<Self, Error> {
+    }
+}
+
+impl<const N: usize> Drain<N> {
+    pub fn as_str(&self) -> &str {
+    }
+}
+"""
+
+    def test_a_program_is_made_of_the_signature_of_each_safe_call_of_a_string(self):
+        made = dict(PROGRAMS.of_strings(self.SOURCE))
+        self.assertEqual({name: call for name, call in made.items() if name.partition("::")[2] not in PROGRAMS.USED}, {
+            "ArrayString::pop_front": "v.s.pop_front()",
+            "ArrayString::all": "v.s.all(v.at, v.at..v.end, v.text, &mut v.steps)",
+            "CacheString::from_chars": "CacheString::from_chars(v.text.chars())",
+            "CacheString::split_off": "v.c.split_off(v.at)",
+        })
+        self.assertEqual(made["ArrayString::slice"], "v.s.slice(v.at..v.end).len()")
+
+    def test_a_call_with_a_parameter_that_has_no_value_has_no_program(self):
+        for parameter in ("index: usize", "other: S", "string: Option<S>"):
+            made = dict(PROGRAMS.of_strings(self.SOURCE.replace("pop_front(&mut self", f"pop_front(&mut self, {parameter}")))
+            self.assertNotIn("ArrayString::pop_front", made)
+            self.assertIn("ArrayString::all", made)
 
 
 class Pages(TreeTest):

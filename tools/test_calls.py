@@ -60,6 +60,9 @@ README = """\
 ```text
 arraystring_uses ── arraystring ── arraystring_base
 ```
+- [`arraystring_base`](docs/promises.md#base) has `moves`.
+- `arraystring` and `arraystring_uses` are for callers.
+- [docs/promises.md](docs/promises.md) has `laws`.
 
 ## What a reader checks in the counted calls
 |Body|
@@ -78,7 +81,7 @@ RUST_PAGE = """\
 """
 CORE, BASE = "crates/arraystring_core/src/array_string.rt", "crates/arraystring_base/src/moves.rt"
 PLAYERS = "crates/arraystring_tests/src/tests/calls.rt", "rust/arraystring/tests/tables/calls.rs"
-SURFACE, LAWS = "crates/arraystring_tests/src/tests/surface.rt", "crates/arraystring_core/src/laws.rt"
+PUBLIC_API, LAWS = "crates/arraystring_tests/src/tests/public_api.rt", "crates/arraystring_core/src/laws.rt"
 LINES, SCRIPTS, PROMISES = "crates/arraystring_run/src/line.rt", "docs/scripts.md", "docs/promises.md"
 IN_RUST, PROGRAM, PANICS = "rust/arraystring/src/array_string.rs", "rust/no_panic/src/main.rs", "rust/bench/calls.py"
 EVERY_STATE, DIFFERENCES = "rust/arraystring/tests/every_state", "docs/differences.md"
@@ -95,6 +98,7 @@ def expressions():
     return [f"ArrayString::{it}" for it in names.split()] + ["ArrayString::push behind `pop`", "CacheString::new"]
 """
 ON_RUST, BODIES = "rust/arraystring/README.md", "the table of bodies in README.md"
+BELOW = "the list below the drawing in README.md"
 
 
 class Calls(TreeTest):
@@ -111,7 +115,7 @@ class Calls(TreeTest):
         "crates/arraystring_run/src/laws.rt": "pub fn replies() {}\n",
         "crates/arraystring/CALLING.md": "`capacity()`\n",
         PROMISES: "`laws::{parts, replies}`\n",
-        SURFACE: "laws::parts();\n",
+        PUBLIC_API: "laws::parts();\n",
         PLAYERS[0]: PLAYED,
         PLAYERS[1]: LISTED,
         IN_RUST: RUST,
@@ -126,8 +130,8 @@ class Calls(TreeTest):
     def test_what_stands_in_two_places_is_counted(self):
         counts = "3 public calls, 3 traits, 4 Rust calls, 2 calls without panics, 3 calls of programs, 4 calls in every state, " \
             "3 calls that arraystring 0.3.0 lacks, 6 calls of tables, 4 calls in tables, 1 counted calls, 2 laws, " \
-            "1 laws of the string, 2 commands, 3 crates"
-        self.assertEqual(self.told(calls), (False, f"41 names stand in two places: {counts}\n"))
+            "1 laws of the string, 2 commands, 3 crates, 3 crates with a line"
+        self.assertEqual(self.told(calls), (False, f"44 names stand in two places: {counts}\n"))
 
     def test_what_one_of_two_places_lacks_is_told(self):
         here, lists = "src/ of the string", "what lists of calls and pages for callers name"
@@ -164,13 +168,16 @@ class Calls(TreeTest):
             (BODIES, "pop_counted", here, [("README.md", r"\|`pop_counted`\|", "|`pop`|`pop_counted`|")]),
             (here, "pop_counted", BODIES, [(CORE, "fn pop_counted", "fn popped")]),
             (PROMISES, "sums", "crates/*/src/laws.rt", [(LAWS, "parts", "sums")]),
-            (SURFACE, "sums", "src/laws.rt of the string", [(LAWS, "parts", "sums")]),
+            (PUBLIC_API, "sums", "src/laws.rt of the string", [(LAWS, "parts", "sums")]),
             (PROMISES, "replies", "crates/*/src/laws.rt", [(PROMISES, ", replies", "")]),
-            (SURFACE, "parts", "src/laws.rt of the string", [(SURFACE, "parts", "replies")]),
+            (PUBLIC_API, "parts", "src/laws.rt of the string", [(PUBLIC_API, "parts", "replies")]),
             (SCRIPTS, "add", LINES, [(LINES, '"push"', '"add"')]),
             (LINES, "push_str", SCRIPTS, [(SCRIPTS, "push C", "push_str T")]),
             ("the drawing in README.md", "records", "crates.txt", [("crates.txt", "_tests:", "_tests:\nrecords:")]),
             ("crates.txt", "uses", "the drawing in README.md", [("README.md", "arraystring_uses", "uses")]),
+            (BELOW, "records", "crates.txt", [("crates.txt", "_tests:", "_tests:\nrecords:")]),
+            (BELOW, "arraystring_uses", "crates.txt", [("README.md", "^- `arraystring` and", "- `arraystring`, and of")]),
+            ("crates.txt", "records", BELOW, [("README.md", "^- `arraystring` and", "- `records` and `arraystring` and")]),
         )))
 
     def test_it_says_where_what_is_lacking_would_stand(self):
@@ -194,6 +201,13 @@ class Calls(TreeTest):
              (IN_RUST, "^ *pub fn pop\\(.*\n", front)),
         )))
 
+    def test_it_says_where_a_call_that_was_taken_out_stands(self):
+        played = f"{PLAYERS[0]} lacks popped, which {PLAYERS[1]} has\n"
+        with self.changed((PLAYERS[1], "pop pop_counted", "pop popped pop_counted")):
+            self.assertIn(f"\n    or it has to go there: {PLAYERS[1]}:1\n", self.told(calls)[1].partition(played)[2])
+        with self.changed((IN_RUST, r"fn pop\(", "fn clear(")):
+            self.assertNotIn("has to go there: rust/arraystring/src", self.told(calls)[1])
+
     def test_a_page_that_names_a_call_that_was_taken_out_is_told(self):
         self.assert_finds(
             calls,
@@ -202,6 +216,16 @@ class Calls(TreeTest):
             ("", (ON_RUST, "## The calls", "## The calls\n`pop_counted`, `split_at_mut`, `arraystring_base`, `str`")),
             ("", (DIFFERENCES, "## Left out", "## Left out\n`pop_front`")),
         )
+
+    def test_the_calls_that_arraystring_lacks_are_printed_and_a_block_names_them(self):
+        with self.changed((CORE, "fn hidden", "pub fn more(&self) {}\n    pub fn get_counted")):
+            self.assertEqual(self.told(calls, "--added"), (False, "more\n"))
+        printed = (DIFFERENCES, "## Added\n`slice`, ", "## Added\n\nPrinted by `tools/run calls --added`:\n\n")
+        lacks = f"{DIFFERENCES} lacks slice, which rust/arraystring/src has\n"
+        sliced = (CORE, "fn hidden", "pub fn slice"), ("README.md", "`capacity", "`slice`, `capacity")
+        self.assert_finds(calls, (lacks, printed), (lacks, (*printed[:2], "## Added\n"), *sliced))
+        with self.changed(printed, *sliced):
+            self.assertFalse(self.told(calls)[0])
 
     def test_a_hidden_call_a_comment_and_a_model_are_none(self):
         with self.changed((IN_RUST, r"^ *#\[doc\(hidden\)\]\n", "")):

@@ -36,8 +36,9 @@ class Check(TreeTest):
 
     def test_each_part_is_asked_and_enough_to_fail(self):
         named = [f"{it.__module__}.{it.__name__} {' '.join(words)}".strip() for it, words, _ in check.PARTS]
-        due = ["check.tests", "trusted.main", "dead.main", "imported.main --check", "equality.main", "quotes.main", "calls.main",
-               "evidence.main", "controls.main --check", "reasons.main --check", "proved.main --check"]
+        due = ["check.tests", "trusted.main", "words.main", "promises.main", "dead.main", "imported.main --check",
+               "equality.main", "quotes.main", "calls.main", "evidence.main", "controls.main --check", "reasons.main --check",
+               "proved.main --check"]
         self.assertEqual(named, due)
         for failing, told in ((None, False), (0, True), (1, True)):
             self.parts(failing)
@@ -78,24 +79,26 @@ class Check(TreeTest):
                 raise FileNotFoundError("no such program")
             return subprocess.CompletedProcess(words, int(" ".join(words) == failing))
 
-        def quotes(words, root):
-            commands.append((f"quotes {' '.join(words)}", str(root.relative_to(self.root))))
+        def page(module):
+            return lambda words, root: commands.append((f"{module} {' '.join(words)}", str(root.relative_to(self.root))))
 
         self.parts()
         self.put(check.subprocess, "run", run)
-        self.put(check.quotes, "main", quotes)
+        for module in (check.quotes, check.words, check.promises):
+            self.put(module, "main", page(module.__name__))
         failed, said = self.told(check, "--write")
         return failed, commands, said
 
     def test_what_can_be_written_is_written_and_what_cannot_is_a_fault(self):
         formed = [("rt fmt", "crates/numbers"), ("rt fmt", "crates/letters")]
+        pages = [(f"{it} --write", ".") for it in ("quotes", "words", "promises")]
         self.put(check.shutil, "which", lambda name: name)
         for failing in ("", "rt fmt", "rust/erase/run", "missing"):
             failed, commands, said = self.written(failing)
             self.assertEqual((failed, "no such program" in said), (bool(failing), failing == "missing"))
-            self.assertEqual(commands, [*formed, ("rust/erase/run", "."), ("quotes --write", ".")])
+            self.assertEqual(commands, [*formed, ("rust/erase/run", "."), *pages])
         self.put(check.shutil, "which", lambda name: None)
-        self.assertEqual(self.written()[:2], (False, [*formed, ("quotes --write", ".")]))
+        self.assertEqual(self.written()[:2], (False, [*formed, *pages]))
 
     def test_what_is_to_be_recorded_is_tried_and_proved_before_it_is_written(self):
         for failing, wanted in (("", ["controls", "proved", "written"]), ("controls", ["controls"]),

@@ -64,6 +64,12 @@ class Controls(TreeTest):
         self.assertEqual(self.told(controls, "letters"), (False, "0 prove, 0 do not\n"))
         self.assertIn(NAME, self.record())
 
+    def test_each_is_told_as_soon_as_it_was_tried(self):
+        self.assertEqual(self.seen_at_once(controls), f"controls {NAME}: proves\n")
+        self.prove_where(lambda folder: "value + 0" not in read(folder / "src/lib.rt"))
+        told = "".join(f"twice.is_{it}: REFUSED: {OPEN}\n" for it in ("none", "once"))
+        self.assertEqual(self.seen_at_once(controls, "numbers", "--edits", "twice"), told)
+
     def test_a_control_that_is_refused_gets_none_and_its_line_goes(self):
         self.told(controls)
         with self.changed((FILE, "value: u8", "value: u16")):
@@ -95,11 +101,32 @@ class Controls(TreeTest):
             (f"{NAME}: there is no such control\n", (CONTROL, "^# right:.*\n", "")),
             ("numbers/none: there is no such control\n", (controls.RECORD, END, "numbers/none 0\n")),
             ("numbers/twice.is_none: not tried\n", (OTHER, END, RIGHT)),
+            (f"{STALE}numbers/none: there is no such control\n", (CONTROL, "{ value }", "{ { value } }"),
+             (controls.RECORD, END, "numbers/none 0\n")),
+            # (an edit stands in must-fail/ of its crate)
+            ("", (f"{FOLDER}/deep/must-fail/twice.is_none.edit", EDIT + RIGHT)),
             (f"{NAME}: not tried\n", (controls.RECORD, "")),
             words=["--check"],
         )
         self.put(kit, "logic", lambda: "another logic")
         self.assertEqual(self.told(controls, "--check"), (True, STALE))
+
+    def test_it_depends_on_what_it_changes_and_its_wrong_body_does_not(self):
+        self.write(CONTROL, f"{EDIT}{RIGHT}old:     1\nnew:     1\n# right:     {{ 1 }}\n")
+        self.told(controls)
+        self.assert_finds(controls, (STALE, (FILE, "fn other", "fn another")), words=["--check"])
+
+    def test_it_depends_on_the_contract_of_what_it_alone_names(self):
+        self.write(CONTROL, f"{EDIT}# right:     more(value)\n")
+        self.told(controls)
+        self.assert_finds(controls, (STALE, (f"{FOLDER}/src/more.rt", "fn more", "fn more<A>")), words=["--check"])
+
+    def test_words_of_the_form_of_an_edit_name_no_functions(self):
+        words = ("file", "old", "new", "right", "src", "lib", "rt")
+        self.write(f"{FOLDER}/src/more.rt", "".join(f"fn {it}() -> u8 {{\n    2\n}}\n\n" for it in words))
+        self.told(controls)
+        plants = [("", (f"{FOLDER}/src/more.rt", f"fn {it}", f"fn {it}<A>")) for it in words]
+        self.assert_finds(controls, *plants, words=["--check"])
 
     def test_one_that_changes_a_contract_depends_on_the_stored_proofs_of_callers(self):
         for old, new, right in (("fn twice(value: u8)", "fn twice(value: u16)", "fn twice(value: u8, )"),
@@ -180,6 +207,7 @@ class Controls(TreeTest):
         words, refused = ("numbers", "--edits", "twice"), f"twice.is_{{}}: REFUSED: {OPEN}\n".format
         self.write(f"{FOLDER}/must-fail/twice.is_one.edit", EDIT.replace("+ 0", "+ 1"))
         self.write(f"{FOLDER}/must-fail/twice_more.is_one.edit", EDIT)
+        self.write(f"{FOLDER}/deep/must-fail/twice.is_two.edit", EDIT)
         self.prove_where(holds)
         for wrong, told in (("1", (False, refused("none") + refused("once") + refused("one"))),
                             ("2", (True, f"{refused('none')}{refused('once')}twice.is_one: proves\n"))):

@@ -118,7 +118,8 @@ class Dead(TreeTest):
                         [(FILE, "refl}", "refl, []}"), (FILE, "= refl", "= refl []")],
                         [by_module, (ANSWER, "= half-even", "= half.half-even")],
                         [(f"{FOLDER}/proofs/Lib.antt", "mod HalfLemmas\nuse Rattle.numbers.specs.Numbers\n")],
-                        [(FILE, r"\A", "pub use Rattle.numbers.specs.Numbers.{other}\n")]):
+                        [(FILE, r"\A", "pub use Rattle.numbers.specs.Numbers.{other}\n")],
+                        [(FILE, r"\A", "unfoldable pub use Rattle.numbers.specs.Numbers.{other}\n")]):
             with self.subTest(changes), self.changed(*changes):
                 self.assert_passes()
 

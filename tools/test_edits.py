@@ -17,10 +17,10 @@ class Edits(TreeTest):
         f"{FOLDER}/out/kept": "all",
     }
 
-    def applied(self, text, is_right=False):
+    def applied(self, text, *is_right):
         """The texts of an edit of this text by their paths, and its places."""
         self.write(EDIT, text)
-        texts, places = edits.applied(self.root / EDIT, is_right)
+        texts, places = edits.applied(self.root / EDIT, *is_right)
         def path(file):
             return str(file.relative_to(self.root / FOLDER))
 
@@ -45,8 +45,8 @@ class Edits(TreeTest):
 
     def test_a_control_has_the_right_texts_and_the_new_ones_where_a_part_has_none(self):
         text = "file: src/lib.rt\nold:     1\nnew:     3\n# right:     { 1 }\nold: fn two\nnew: fn both\n"
-        for is_right, first in ((False, "3"), (True, "{ 1 }")):
-            texts, places = self.applied(text, is_right)
+        for is_right, first in (([], "3"), ([False], "3"), ([True], "{ 1 }")):
+            texts, places = self.applied(text, *is_right)
             self.assertEqual(texts, {"src/lib.rt": f"fn one() {{\n    {first}\n}}\n\nfn both() {{\n    2\n}}\n"})
             self.assertEqual(places, [("src/lib.rt", 1), ("src/lib.rt", 4)])
         self.assertTrue(edits.has_control(self.root / EDIT))
@@ -89,6 +89,7 @@ class Edits(TreeTest):
 
         self.put(kit, "check", check)
         self.write(EDIT, f"{PAIR}# right:     {{ 1 }}\n")
+        (self.root / FOLDER / "out/link").symlink_to("kept")
         for outcome, is_right, told in (((False, "src/lib.rt:1:1: open"), False, (True, "REFUSED: src/lib.rt:1:1: open")),
                                         ((False, "no"), True, (False, "REFUSED: no")),
                                         ((True, "logic"), False, (False, "proves")), ((True, "logic"), True, (True, "proves"))):
@@ -96,6 +97,7 @@ class Edits(TreeTest):
         wanted = [self.FILES[SOURCE].replace("    1", f"    {it}") for it in ("2", "{ 1 }", "2", "{ 1 }")]
         self.assertEqual(met, [(it, "all") for it in wanted])
         self.assertEqual(sorted(it.name for it in (self.root / "crates").iterdir()), ["numbers"])
-        self.assertEqual(sorted(it.name for it in (self.root / FOLDER / "out").iterdir()), ["kept"])
+        self.assertEqual(sorted(it.name for it in (self.root / FOLDER / "out").iterdir()), ["kept", "link"])
+        self.assertTrue((self.root / FOLDER / "out/link").is_symlink())
         self.write(EDIT, "what\n")
         self.assertEqual(edits.tried(self.root / EDIT, False), (False, "BAD EDIT: no line of an edit: what"))

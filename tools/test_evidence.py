@@ -42,13 +42,13 @@ impl {0} for Number {{
 
 class Evidence(TreeTest):
     FILES = {
-        "crates.txt": "# numbers\nnumbers:\nprogram:\ntest_support:\n",
+        "crates.txt": "# numbers\nnumbers:\nprogram:\ntest_support:\nmemory_tests:\n",
         FILE: SOURCE,
         "crates/numbers/src/tests.rt": "pub fn tried() {\n    1\n}\n",
         f"{FOLDER}/doubled.is_once.edit": ONCE,
         f"{FOLDER}/default.is_one.edit": f"file: src/lib.rt\nold:         Number {{ value: 0 }}\nnew:         {IS_ONE}\n",
         PROGRAM: "fn main() {\n    1\n}\n",
-        "crates/test_support/src/lib.rt": "pub fn for_tests() {\n    1\n}\n",
+        **{f"crates/{it}/src/lib.rt": "pub fn for_tests() {\n    1\n}\n" for it in ("test_support", "memory_tests")},
     }
 
     def renamed(self, name, other):
@@ -72,6 +72,15 @@ class Evidence(TreeTest):
             (MISSING("numbers fmt", 1), (OTHER, SHOWN.format("Debug"))),
             # (of a program all but `main`)
             (MISSING("program print", 1), (PROGRAM, END, "\nfn print() {\n    1\n}\n")),
+        )
+
+    def test_what_only_tests_call_needs_none_and_its_wrong_bodies_have_any_name(self):
+        self.assert_finds(
+            evidence,
+            ("", ("crates/test_support/must-fail/any.edit", ONCE)),
+            ("", ("crates/memory_tests/must-fail/any.edit", ONCE)),
+            ("", ("crates/numbers/deep/must-fail/any.edit", ONCE)),
+            (NO_NAME("any"), (f"{FOLDER}/any.edit", ONCE)),
         )
 
     def test_no_function_is_a_fault(self):
@@ -126,6 +135,8 @@ class Evidence(TreeTest):
         def kinds(name, controlled):
             return f"{name}: 2 wrong bodies of 2 functions: 1 change the function, 1 one that it names; {controlled} have a control\n"
 
+        # (one that is named for no function is none of them)
+        self.write(f"{FOLDER}/any.edit", ONCE)
         for controlled in (0, 1):
             self.assertEqual(self.told(evidence, "--kinds"), (False, kinds("numbers", controlled) + kinds("all", controlled)))
             self.write(f"{FOLDER}/doubled.is_once.edit", f"{ONCE}# right:     value + {{ value }}\n")
@@ -136,18 +147,19 @@ class Evidence(TreeTest):
             "all: 3 wrong bodies of 3 functions: 2 change the function, 1 one that it names; 1 have a control"])
 
     def test_what_decides_has_one_for_each_direction(self):
-        edit = f"{FOLDER}/doubled.is_thrice.edit"
+        more = [(f"{FOLDER}/doubled.is_{it}.edit", ONCE.replace("+ 0", f"+ {it}")) for it in range(7, 11)]
         for decides in ((FILE, r"pub fn doubled\(&self\) -> u8$", "pub fn doubled(&self) -> bool"),
                         (FILE, "result ≡ 2", "(result ≡ 0) ↔ 2")):
             with self.subTest(decides), self.changed(decides):
                 self.assertEqual(self.told(evidence), (True, MISSING("numbers doubled", 1)))
-                with self.changed((edit, ONCE.replace("+ 0", "+ 7"))):
-                    self.assertFalse(self.told(evidence)[0])
+                for count in range(1, len(more) + 1):
+                    with self.changed(*more[:count]):
+                        self.assertEqual(self.told(evidence), (False, "wrong bodies try 2 functions\n"))
                 with self.changed((f"{FOLDER}/doubled.is_once.edit", None)):
                     self.assertEqual(self.told(evidence), (True, MISSING("numbers doubled", 2)))
 
     def test_the_laws_that_borrow_need_none(self):
-        for name in evidence.LAWS_THAT_BORROW:
+        for name in ("text_fits", "text_spelled", "left_fits"):
             with self.changed((OTHER, f"pub fn {name}() {{\n    1\n}}\n")):
                 self.assertFalse(self.told(evidence)[0])
 
@@ -207,21 +219,30 @@ class Refusals(TreeTest):
         self.assertEqual(self.told_of(name, said), (True, f"moves {name}: {wanted}\n"))
 
     def test_each_is_refused_where_it_is_named_for(self):
+        """At each line of its function, from the first attribute on, and of what that names; and at no other line."""
         self.assertEqual(self.told_of(), (False, "wrong bodies try 3 functions\n"))
-        # (and in what that names, and in the attributes above it)
-        self.assertFalse(self.told_of("other.is_zero", GOAL.format(20, "returns"))[0])
-        self.assertFalse(self.told_of("counted.is_one", GOAL.format(3, "returns-clause-moved"))[0])
+        moved = [*range(13, 19)]
+        for name, clause, lines in (("counted.is_one", "returns-clause-moved", [*range(1, 6), *moved]),
+                                    ("plain.is_one", "returns-clause-text", [*range(7, 12), *moved]),
+                                    ("other.is_zero", "returns", [*range(20, 27)])):
+            for line in range(1, 28):
+                fault = f"moves {name}: refused at src/lib.rt:{line}, where nothing is that it is named for\n"
+                told = (False, "wrong bodies try 3 functions\n") if line in lines else (True, fault)
+                self.assertEqual(self.told_of(name, GOAL.format(line, clause)), told, line)
 
     def test_one_that_the_log_lacks_is_named(self):
-        self.assert_named("the log does not say that it is refused", "other.is_zero", "")
-        self.write("log", "rt: must-fail moves/other.is_zero.edit: NOT REFUSED\n")
-        self.assertIn("moves other.is_zero: the log does not say", self.told(evidence, "--refused", str(self.root / "log"))[1])
+        lacking = "the log does not say that it is refused"
+        self.assert_named(lacking, "other.is_zero", "")
+        # (what is said of another crate, and another verdict)
+        for line in ("moves_more/other.is_zero.edit: refused, as it must be: no", "moves/other.is_zero.edit: NOT REFUSED"):
+            self.write("log", f"rt: must-fail {line}\n")
+            self.assertIn(f"moves other.is_zero: {lacking}", self.told(evidence, "--refused", str(self.root / "log"))[1])
 
-    def test_a_goal_of_another_function_refuses_nothing(self):
-        at = "refused at src/lib.rt:{}, where nothing is that it is named for".format
-        self.assert_named(at(13), "other.is_zero", GOAL.format(13, "returns-clause-text"))
-        self.assert_named(at(22), "plain.is_one", GOAL.format(22, "returns"))
-        self.assert_named(at(6), "plain.is_one", GOAL.format(6, "returns"))
+    def test_one_that_is_named_for_no_function_is_refused_nowhere(self):
+        self.write(f"{MOVES}/nothing.is_one.edit", "file: src/lib.rt\nold:     0\nnew:     1\n")
+        faults = ["no public function has this name", "refused at src/lib.rt:13, where nothing is that it is named for"]
+        told = "".join(f"moves nothing.is_one: {it}\n" for it in faults)
+        self.assertEqual(self.told_of("nothing.is_one", GOAL.format(13, "returns")), (True, told))
 
     def test_counts_refuse_nothing_of_what_does_not_count(self):
         by_counts = GOAL.format(13, "returns-then-zero-clause-moved")

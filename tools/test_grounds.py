@@ -1,5 +1,7 @@
 """What a function stands on: each kind of it is changed in a small tree, and those functions are told that stand on it, and no
 others."""
+import re
+
 import grounds
 from planted import TreeTest
 
@@ -40,7 +42,7 @@ pub fn twice(value: Small) -> u8
     ensures { result ≡ sum value.now least }
 {
     // Once more.
-    value.get() + value.get() + deep::none()
+    value.get() + value.get() + deep::none() // (a comment behind code)
 }
 
 pub fn quadrupled(value: Small) -> u8
@@ -61,6 +63,10 @@ ghost use Rattle.numbers.specs.Sums.{viewed};
 
 /// The largest.
 pub const LARGEST: u8 = 9;
+
+macro_rules! round {
+    () => { 10 };
+}
 
 /// At most 9.
 #[derive(Clone, Copy)]
@@ -90,6 +96,7 @@ impl Add for Small {
 }
 """,
         LETTER: """\
+ghost use Rattle.letters.specs.Sums.{held, passed};
 use numbers::twice;
 
 pub fn letter() -> u8
@@ -99,13 +106,26 @@ pub fn letter() -> u8
 }
 
 pub fn alone() -> bool
-    ensures { result ≡ true }
+    ensures { result ≡ passed (held true) }
 {
-    true
+    round!() == none()
+}
+
+fn none() -> u8 { 9 }
+
+pub fn counts<const N: usize>(of: impl Fn) -> u8
+    ensures { result ≡ 4 }
+{
+    for it in of {
+        unsafe { 4 }
+    }
 }
 """,
+        f"{LETTERS}/specs/Lib.antt": "pub use Rattle.numbers.specs.Sums\n",
+        f"{NUMBERS}/specs/Others.antt": "use Rattle.std.specs.Prelude.{ℕ, ◌+◌}\n\nabbrev pub passed : ℕ → ℕ\npassed n = n\n",
         SUMS: """\
 use Rattle.std.specs.Prelude.{ℕ, ◌+◌}
+use Rattle.numbers.specs.declared.small.Small.{Small}
 
 -- the sum
 abbrev pub sum : ℕ → ℕ → ℕ
@@ -120,6 +140,12 @@ fits n = n ≡ n
 
 abbrev pub viewed : ℕ → ℕ
 viewed n = n
+
+abbrev pub passed : ℕ → ℕ
+passed n = n
+
+abbrev pub held : Small → ℕ
+held s = 1
 
 abbrev pub unused : ℕ → ℕ
 unused n = n
@@ -167,20 +193,20 @@ uncited n = refl
         return {function.name: of.checksum(file.crate, grounds_of(file, function), **more)
                 for file in of.files.values() for function in file.functions}
 
-    def stale_by(self, *changes, **more):
+    def assert_stale(self, *plants, **more):
         """The functions of which the checksum is another, where some files are."""
         before = self.sums(**more)
-        with self.changed(*changes):
-            after = self.sums(**more)
-        return " ".join(sorted(name for name in before if before[name] != after.get(name)))
-
-    def assert_stale(self, *plants, **more):
         for wanted, *changes in plants:
-            with self.subTest(changes):
-                self.assertEqual(self.stale_by(*changes, **more), wanted)
+            with self.subTest(changes), self.changed(*changes):
+                after = self.sums(**more)
+                self.assertEqual(" ".join(sorted(name for name in before if before[name] != after.get(name))), wanted)
 
-    ALL = "add alone get letter other quadrupled twice"
-    OF_TWICE, OF_SMALL = "letter quadrupled twice", "add get letter quadrupled twice"
+    ALL = "add alone counts get letter none other quadrupled twice"
+    OF_TWICE, OF_SMALL = "letter quadrupled twice", "add alone get letter quadrupled twice"
+    OF_LETTERS = "alone counts letter none"
+    # (an impl of a head of several lines, and one with words that each file may have)
+    LONG_HEAD = "\nimpl<A: One>\n    Sub<A> for Small\n{\n    ghost sub_gives = { λ a. a };\n}\n"
+    COMMON_WORDS = "\n#[holds(of)]\nunsafe impl<const N: usize> Shown for Small {\n    ghost shown = { 1 };\n}\n"
 
     def test_a_body_makes_its_function_stale_and_a_contract_those_that_name_it(self):
         self.assert_stale(
@@ -191,6 +217,7 @@ uncited n = refl
             ("get twice", (SMALL, "≡ self.now", "≡ 1")),
             ("other", (LIB, "^    1$", "    2")),
             ("twice", (LIB, r"^#\[tactic\(auto, using", "#[inline]\n#[tactic(auto, using")),
+            ("alone none", (LETTER, r"\{ 9 \}", "{ 8 }")),
             # (a body that begins to name a function stands on its contract)
             ("other", (LIB, "^    1$", "    value.get()"), (SMALL, "≡ self.now", "≡ self.now")),
         )
@@ -203,7 +230,7 @@ uncited n = refl
             ("quadrupled", (f"{quadrupled}/Answers.antt", None)),
             ("quadrupled", (f"{quadrupled}/Invariants.antt", "= refl", "= arith")),
             ("other", (f"{other}/Answers.antt", "= 1", "= 2")),
-            ("", (f"{NUMBERS}/proofs/nothing/Answers.antt", "new : ℕ\nnew = 1\n")),
+            *(("", (f"{NUMBERS}/{it}/Answers.antt", "new : ℕ\nnew = 1\n")) for it in ("proofs/nothing", "deep/proofs/twice")),
         )
 
     def test_the_stored_proofs_of_callers_count_where_they_are_asked_for(self):
@@ -242,7 +269,12 @@ uncited n = refl
             (self.OF_TWICE, (SUMS, '"one"', '"two"')),
             (self.OF_TWICE, (SUMS, "^fits n = n ≡ n", "fits n = n ≡ 1")),
             (self.OF_SMALL, (SUMS, "^viewed n = n", "viewed n = 1")),
+            (self.OF_TWICE, (SUMS, r"^sum a b = added a", "sum a b =\n added a")),
             ("", (SUMS, "^unused n = n", "unused n = 1")),
+            # (a type of src/ as Rattle declares it, and a definition of the same text that another module passes on)
+            ("alone", (SUMS, "^held s = 1", "held s = 2")),
+            ("", (SMALL, END, "\npub struct Prelude(u8);\n")),
+            ("alone", (f"{LETTERS}/specs/Lib.antt", r"specs.Sums\n\Z", "specs.Others as Sums\n")),
             (self.OF_TWICE, (LIB, "min as least", "max as least")),
         )
 
@@ -255,7 +287,9 @@ uncited n = refl
             (self.OF_SMALL, (SMALL, "c ≡ a", "c ≡ b")),
             ("add", (SMALL, "^        self$", "        other")),
             (self.OF_SMALL, (SMALL, END, "\nimpl Sub for Small {\n    ghost sub_gives = { λ a. a };\n}\n")),
-            (self.OF_SMALL, (SMALL, END, "\nimpl<A: One>\n    Sub<A> for Small\n{\n    ghost sub_gives = { λ a. a };\n}\n")),
+            (self.OF_SMALL, (SMALL, END, self.LONG_HEAD)),
+            (self.OF_SMALL, (SMALL, END, self.COMMON_WORDS)),
+            ("alone", (SMALL, "10", "11")),
             ("quadrupled", (LIB, "near as by", "far as by")),
             (self.OF_TWICE, (LIB, r"small::\{LARGEST, Small", "large::{LARGEST, Small")),
             ("", (LIB, "deep::{self, far", "deep::{self, further")),
@@ -265,11 +299,16 @@ uncited n = refl
             ("letter", (LETTER, "use numbers::twice;", "use numbers::{small::twice};")),
         )
 
+    def test_an_impl_of_which_the_head_has_several_lines_counts_whole(self):
+        self.write(SMALL, self.FILES[SMALL] + self.LONG_HEAD)
+        self.assert_stale((self.OF_SMALL, (SMALL, "λ a. a", "λ a. 1")))
+
     def test_what_is_read_with_each_function_makes_all_stale(self):
         self.assert_stale(
             (self.ALL, ("HANDLES", "one\n")),
+            (self.ALL, ("HANDLES", None)),
             (self.ALL, ("crates.txt", "^numbers:", "numbers: std_more")),
-            ("alone letter", ("crates.txt", "^letters: numbers", "letters: numbers std_more")),
+            (self.OF_LETTERS, ("crates.txt", "^letters: numbers", "letters: numbers std_more")),
             ("", ("crates.txt", END, "digits: numbers\n")),
             ("other quadrupled twice", (LIB, r"^#!\[tactic\(auto\)\]", "#![tactic(none)]")),
             # (of what is no item it is not known what it means)
@@ -277,6 +316,7 @@ uncited n = refl
         )
         before, after = self.sums(), self.sums(logic="another")
         self.assertEqual([name for name in before if before[name] == after[name]], [])
+        self.assertTrue(all(re.fullmatch("[0-9a-f]{16}", it) for it in before.values()))
 
     def test_what_no_proof_reads_makes_nothing_stale(self):
         self.assert_stale(
@@ -300,14 +340,34 @@ uncited n = refl
             (self.OF_SMALL, (SMALL, "^    // At most 9, too.", "    // Below 10, too.")),
             ("", (LIB, "^/// Twice.", "/// Two times.")),
             ("other", (LIB, "^    1$", "    2")),
+            # (where a line of it ends)
+            (self.OF_SMALL, (SMALL, "^    // At most 9, too.\n", ""),
+             (SMALL, "^/// At most 9.", "/// At most 9.    // At most 9, too.")),
+            ("", (SMALL, "^    value: u8,", "\n    value: u8,")),
             # (comments of functions, in an impl and above a type)
             ("", (SMALL, "^    pub fn get", "    /// The value.\n    pub fn get")),
             ("", (SMALL, r"^\n/// At most 9.", "\n/// No type.\nfn ten() {\n    10\n}\n\n/// At most 9.")),
             has_comments=True,
         )
 
+    def test_what_stands_beside_functions_is_found_by_its_names(self):
+        files = grounds.Grounds(self.root, "a logic").files
+        of_small = ["LARGEST", "round", "Small", "Model Small", "Small", "Add Small"]
+        for path, wanted in ((LIB, []), (LETTER, []), (SMALL, of_small)):
+            self.assertEqual([" ".join(sorted(it.names)) for it in files[self.root / path].units], wanted)
+
+    def test_the_body_of_a_function_begins_behind_its_contract(self):
+        files = grounds.Grounds(self.root, "a logic").files
+        twice = ["// Once more.", "value.get() + value.get() + deep::none() // (a comment behind code)", "}"]
+        for path, name, wanted in ((LIB, "twice", twice), (LIB, "other", ["1", "}"]), (SMALL, "get", ["self.value", "}"]),
+                                   (SMALL, "add", ["self", "}"]), (LETTER, "none", [])):
+            file = files[self.root / path]
+            function = next(it for it in file.functions if it.name == name)
+            self.assertEqual([file.lines[it].strip() for it in function.span if file.is_in_body(function, it)], wanted)
+
     def test_the_imports_of_rust_are_read_to_their_leaves(self):
         for tree, wanted in (("a::b", ["a::b"]), ("a::{b, c as d}", ["a::b", "a::c as d"]), ("a::*", ["a::*"]),
                              ("a::{\n    b,\n    c::{self, d},\n}", ["a::b", "a::c::self", "a::c::d"]),
+                             ("a::b\n    as  c", ["a::b as c"]),
                              ("a::{b::{c::{d}}, e}", ["a::b::c::d", "a::e"]), ("{a, b::c}", ["a", "b::c"])):
             self.assertEqual(list(grounds.leaves(tree)), wanted)

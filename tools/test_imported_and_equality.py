@@ -8,6 +8,7 @@ from unittest import mock
 
 import equality
 import imported
+from repository import ROOT
 
 
 def told(command, words, files):
@@ -79,18 +80,30 @@ class Imported(unittest.TestCase):
             with self.subTest(change):
                 failed, said = told(imported, ["--check"], changed(self.FILES, *change))
                 self.assertEqual((failed, wanted in said), (True, True), said)
+        both = changed(self.FILES, self.PROOF, "", f"use {self.TEXT}.{{bytes, width-is}}\n")
+        self.assertEqual(told(imported, ["--check"], both), (True, fault.format(self.TEXT, "bytes") + width))
 
     def test_what_is_no_import(self):
         for change in (
             (self.PROOF, "", f"-- use {self.TEXT}.{{width-is}}\n"),
             (self.LIB, "", "// arraystring::proofs::TextLaws::width_is\n"),
-            ("crates/near/must-fail/it.edit", "", f"use {self.TEXT}.{{width-is}}\n"),
+            *((f"crates/near/{it}", "", f"use {self.TEXT}.{{width-is}}\n")
+              for it in ("must-fail/it.edit", "src/it.txt", "proofs/it.txt", "examples/it.rt", "src.rt")),
         ):
             with self.subTest(change):
                 self.assertEqual(told(imported, ["--check"], changed(self.FILES, *change))[0], False)
 
     def test_a_search_that_finds_nothing_fails(self):
         self.assertTrue(told(imported, [], {**self.FILES, "crates.txt": "arraystring:\nbeside:\n"})[0])
+
+
+class ByHand(unittest.TestCase):
+    """The list of the repository."""
+
+    def test_each_type_is_listed_with_what_it_compares(self):
+        with redirect_stdout(io.StringIO()) as said:
+            self.assertFalse(equality.main([], ROOT), said.getvalue())
+        self.assertTrue(all(" " in it for it in equality.BY_HAND.values()))
 
 
 class Equality(unittest.TestCase):
@@ -116,6 +129,7 @@ class Equality(unittest.TestCase):
     def test_what_is_by_hand_and_was_derived_and_what_no_test_compares(self):
         by_hand, moved = "Reply has == by hand, and is not in BY_HAND", "PartialEq stands neither in a derive nor in an impl"
         untested, fault = "no test compares the values of {}", "\n#[derive(Debug, PartialEq)]\npub enum Fault {\n}\n"
+        tested = "fn each_fault_is_equal_to_itself_alone() {\n    first_mistaken::<Fault>();\n}\n"
         for wanted, *change in (
             (by_hand, self.LIB, "(Clone, PartialEq, Eq)", "(Clone)]\nimpl PartialEq for Reply {\n}\n#[derive(Eq)"),
             (by_hand, self.LIB, "", "\nimpl<'a> std::cmp::PartialEq<u8> for Reply<'a> {\n}\n"),
@@ -124,11 +138,13 @@ class Equality(unittest.TestCase):
             ("BY_HAND has Text, which has no == by hand", self.LIB, "PartialEq for", "Display for"),
             (untested.format("Fault"), self.LIB, "", fault),
             (untested.format("Fault"), self.LIB, "", fault.replace("Debug, PartialEq", "\n    Debug,\n    PartialEq,\n")),
+            (untested.format("Fault"), "deep/" + self.TESTS, "", tested, self.LIB, "", fault),
             (untested.format("Reply"), self.TESTS, "_equal_to_itself_alone", "_compared"),
             (untested.format("Reply"), self.TESTS, "first", "// first"),
         ):
             with self.subTest(change):
-                failed, said = told(equality, [], changed(self.FILES, *change))
+                files = changed(changed(self.FILES, *change[:3]), *change[3:] or (self.LIB, "", ""))
+                failed, said = told(equality, [], files)
                 self.assertEqual((failed, f"{self.LIB}: {wanted}\n" in said or said == f"{wanted}\n"), (True, True), said)
 
     def test_what_is_no_fault(self):

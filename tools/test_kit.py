@@ -40,12 +40,16 @@ class Rt(TreeTest):
             self.assertRaises(subprocess.CalledProcessError, kit.logic)
 
     def test_the_logic_is_what_the_version_names(self):
-        self.says(end="[ \"$*\" = version ] && echo 'a-kit logic 0a1b ff'")
-        self.assertEqual(kit.logic(), "0a1b ff\n")
+        self.says(end="[ \"$*\" = version ] && echo 'a-kit logic 0a1b logic ff'")
+        self.assertEqual(kit.logic(), "0a1b logic ff\n")
 
     def test_the_first_message_of_a_goal_of_src_is_told_before_others(self):
         advice, proof, goal = "./proofs/it.antt:2:1: note: large", "note: ./proofs/it.antt:3:1: no", "note: ./src/it.rt:1:1: open"
-        for lines, wanted in (([advice, proof, goal, "src/it.rt:2:1: more", "no"], goal), ([advice, proof, "no"], proof),
-                              ([advice, "no"], "no"), ([], "nothing was said"), (["read", "x" * 300], "x" * 200)):
+        within = "as it is at src/it.rt:4:1: and below"
+        for lines, wanted in (([within, advice, proof, goal, "src/it.rt:2:1: more", "no"], goal),
+                              ([within, advice, proof, "no"], proof), ([advice, "no"], "no"), ([], "nothing was said"),
+                              (["read", "x" * 300], "x" * 200)):
             self.says(*lines, end="exit 2")
             self.assertEqual(self.checked(), (False, wanted))
+        self.says(end=r"printf 'src/it.rt:1:1: \377'; exit 2")
+        self.assertEqual(self.checked(), (False, "src/it.rt:1:1: \ufffd"))

@@ -61,11 +61,17 @@ class Mutants(TreeTest):
         self.assertIn("no longer survives, or is no longer there: tools/sums.py: is_small: `gone` for `there`\n", said)
 
     def test_a_change_that_runs_too_long_is_seen(self):
-        self.put(mutants, "LONGEST", 1)
+        self.put(mutants, "LEAST", 1)
         self.write("tools/sums.py", "def first(step):\n    found = 0\n    while found < 3:\n        found += step\n    return found\n")
         self.write("tools/test_sums.py", TESTS.replace("[it for it in range(9) if sums.is_small(it)], [0, 2]", "sums.first(3), 3"))
         said = self.told(mutants, "tools/sums.py")[1]
         self.assertIn("test_sums (it ran too long)", said)
+
+    def test_tests_that_fail_without_a_change_see_none(self):
+        self.write("tools/test_sums.py", TESTS.replace("[0, 2]", "[0, 1]"))
+        failed, said = self.told(mutants, "tools/sums.py")
+        self.assertTrue(failed)
+        self.assertEqual(said, "0 of 9 changes were tried")
 
     def test_a_sample_ends_in_time_and_is_the_same_each_time(self):
         said = self.told(mutants, "--sample", "7", "0")[1]

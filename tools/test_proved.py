@@ -49,7 +49,11 @@ class Proved(TreeTest):
         self.prove_where(lambda folder: True)
 
     def prove_where(self, holds):
-        self.put(kit, "check", lambda folder: (self.checked.append(folder.name) or holds(folder), OPEN))
+        def check(folder):
+            self.checked.append(str(folder.relative_to(self.root / "crates")))
+            return holds(folder), OPEN
+
+        self.put(kit, "check", check)
 
     def record(self):
         return read(self.root / proved.RECORD)
@@ -59,6 +63,9 @@ class Proved(TreeTest):
         self.assertEqual((failed, said.splitlines()[-1]), (False, "7 sources written to rust/proved.txt"))
         self.assertEqual((self.record(), self.checked), (DUE, ["arraystring_base", "arraystring_core", "arraystring"]))
         self.assertEqual(self.told(proved, "--check"), (False, "7 sources of the Rust crate are as they were proved\n"))
+
+    def test_each_crate_is_told_as_soon_as_it_was_checked(self):
+        self.assertEqual(self.seen_at_once(proved), "".join(f"proved {it}: proves\n" for it in proved.CRATES))
 
     def test_sha256sum_reads_the_record(self):
         self.told(proved)
@@ -145,6 +152,12 @@ class Proved(TreeTest):
         failed, said = self.told(proved, "--check")
         self.assertTrue(failed)
         self.assertIn(f"{proved.RECORD}:1: no `# logic` of 16 hexadecimal digits: `{LOGIC}\r`\n", said)
+
+    def test_a_line_that_is_no_text_is_named(self):
+        (self.root / proved.RECORD).write_bytes(DUE.encode() + b"\xff\n")
+        failed, said = self.told(proved, "--check")
+        self.assertTrue(failed)
+        self.assertIn(f"{proved.RECORD}:9: no checksum and path of a file: `\\xff`\n", said)
 
     def test_a_file_that_is_there_twice_or_in_another_place_is_named(self):
         first, second = DUE.splitlines()[1:3]

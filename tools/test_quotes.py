@@ -104,6 +104,8 @@ class Quotes(TreeTest):
     def test_what_is_as_in_the_files_passes(self):
         self.assertEqual(self.told(quotes), (False, "2 blocks are as in the files\n"))
         for page in ("docs/page.md", "crates/base/page.md"):
+            with self.changed((page, PAGE)):
+                self.assertEqual(self.told(quotes), (False, "4 blocks are as in the files\n"))
             with self.changed((page, PAGE.replace("hello()", "hi()"))):
                 self.assertIn(f"{page}: src/greet.rt does not have these lines", self.told(quotes)[1])
 
@@ -180,6 +182,28 @@ class Quotes(TreeTest):
             ("", (CALLED, END, "\nfn more() {}\n")),
         )
 
+    def test_a_call_whose_contract_cites_a_row_of_edits_gets_its_row(self):
+        """Behind that of the call before it in its file, or else first of the file."""
+        cited = "pub fn {}({}) -> Result<u8, Bold>\n    ensures {{ Makes {} self.old.text (from result) self.new.text }}\n{{\n" \
+            "    own()\n}}\n\n"
+        adding = cited.format("add", "&mut self, at: u8, other: &str", "(addition self.old.text at (chars other.now) (cap N))")
+        row, made = "|`add(at, other)`|`addition t at (chars other) n`|`Bold`|`words.rt`\n", "|`part()`|`left n`||`words.rt`\n"
+        first, clearing = PAGE[:PAGE.index("|`greet(name)`")], "|`clear()`|`clearing`|`Bold`|`words.rt`\n"
+        clears = cited.format("clear", "&mut self", "clearing")
+        for source, page in (
+            (CALLS.replace("pub fn greet_counted", f"{adding}pub fn greet_counted"), PAGE.replace(made, made + row)),
+            (CALLS.replace("pub fn part", f"{adding}pub fn part"), PAGE.replace(made, row + made)),
+            (clears + CALLS, PAGE.replace(first, first + clearing)),
+            (clears + adding + CALLS, PAGE.replace(first, first + clearing + row)),
+            (CALLS.replace("pub fn greet_counted", f"{adding.replace('add', 'add_counted')}pub fn greet_counted"), PAGE),
+        ):
+            self.write("page.md", PAGE)
+            self.write(CALLED, source)
+            is_due, said = self.told(quotes)
+            self.assertEqual((is_due, "quotes --write would write: |`" in said), (page != PAGE, page != PAGE))
+            self.assertEqual(self.told(quotes, "--write"), (False, "2 blocks are as in the files\n"))
+            self.assertEqual(read(self.root / "page.md"), page)
+
     def test_a_path_and_a_module_of_laws_that_a_page_names_are_there(self):
         self.assert_finds(
             quotes,
@@ -189,6 +213,15 @@ class Quotes(TreeTest):
             ("page.md: no module is named WordLaws\n", ("crates/base/proofs/WordLaws.antt", None)),
             ("", ("page.md", END, "\n`docs` and `crates of words`\n")),
         )
+
+    def test_what_stands_in_a_copy_of_the_crates_is_not_there(self):
+        """As a package of the crates below a folder of the repository."""
+        moved = [(it, text) for it, text in self.FILES.items() if it.startswith("crates/base/") and it != CALLED]
+        with self.changed(*((it, None) for it, _ in moved), *((f"deep/{it}", text) for it, text in moved)):
+            said = self.told(quotes)[1]
+        for wanted in ("no module is named WordLaws", "no wrong body is named IsShort.is_never_so", "greet has no answers",
+                       "the list of Words and the module differ in IsShort"):
+            self.assertIn(f"page.md: {wanted}\n", said)
 
     def test_a_tree_without_a_quote_is_told(self):
         self.write("page.md", "nothing\n")
@@ -200,7 +233,7 @@ class Beginnings(TreeTest):
     BEGINS = "# arraystring\n\nA string.\n\n```rust\nuse it;\n\nfn main() {}\n```\n\n- It is one.\n"
     FILES = {
         "README.md": BEGINS + "\n[Links](a)\n\n## More\n\n" + PAGE.partition("## ")[0],
-        RUST: BEGINS + "\n## Getting it\n",
+        RUST: BEGINS + "\n## Getting it\n\n## The calls\n",
         FIRST: "//! The first.\n\nuse it;\n\nfn main() {}\n",
         GREET: SOURCE,
     }

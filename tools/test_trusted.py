@@ -201,6 +201,7 @@ class Modules(TreeTest):
             ("ghost use Rattle.base.specs.Words as words;\n", "words.limit Words.IsShort", ["limit"]),
             ("use Rattle.base.specs.Words\n", "Words.limit words.IsShort", ["limit"]),
             ("pub use Rattle.base.specs.Words.{plain}\n", "plain", ["Kind"]),
+            ("unfoldable pub use Rattle.base.specs.Words.{plain}\n", "plain", ["Kind"]),
             ("use Rattle.user.specs.Words.{\n  limit,\n  IsShort as Brief\n}\n", "Brief t", ["IsShort"]),
             ("use Rattle.other.specs.Words.{limit}\n", "limit", []),
         ):
@@ -221,3 +222,5 @@ class Modules(TreeTest):
         told = [("IsShort", "a text is short", 2), ("limit", "how long a short text is at most", 2), ("Kind", "", 3)]
         self.assertEqual([(it.name, it.comment, len(it.lines)) for it in items], told)
         self.assertTrue(all(it.is_definition for it in items))
+        passed = "unfoldable pub use Rattle.base.specs.Words.{limit}\n"
+        self.assertEqual([it.name for it in modules.parsed((self.root / FILE).relative_to(self.root), passed)[0]], [])

@@ -1,13 +1,15 @@
 """Programs without std of one call each, which link only where the call has no panic in its machine code.
 
 The calls are those that the reference shows: each safe function, each macro, each safe call of a type, and each impl of a trait. A
-call that no entry here makes stops the bench, and so does an entry of what is not shown.
+call of a string is made from its signature in the Rust crate. A call that neither that nor an entry here makes stops the bench, and
+so does an entry of what is not shown.
 """
 import re
 import subprocess
 import sys
 import urllib.parse
 from concurrent.futures import ThreadPoolExecutor
+from pathlib import Path
 
 # Traits that have no call, and those that each type has by std.
 UNCALLED = {
@@ -97,43 +99,28 @@ BY_TRAITS = {
     "PartialOrd for S": "(v.s < v.t, v.s.partial_cmp(&v.t))",
     "Write for S": '(v.s.write_str(v.text), v.s.write_char(v.ch), write!(v.s, "{}-", v.text))',
 }
-# The calls by their arguments: those that make a string of both types, and those of an `ArrayString` alone.
-MADE = {
-    "": "new capacity",
-    "v.text": "try_from_str from_str_truncate const_try_from_str",
-    'format_args!("{}-{}", v.text, v.ch)': "try_from_format",
-    "[v.text, v.text]": "try_from_iterator from_iterator",
-    "v.text.chars()": "try_from_chars from_chars",
-    "v.bytes": "try_from_utf8 from_utf8",
-    "v.units": "try_from_utf16 from_utf16 from_utf16_lossy",
+# What a call is given, by the type of its parameter, or by its name, too, where a type parameter is its type.
+GIVEN = {
+    "char": "v.ch",
+    "u8": "v.at",
+    "&str": "v.text",
+    "&mut Steps": "&mut v.steps",
+    "fmt::Arguments<'_>": 'format_args!("{}-{}", v.text, v.ch)',
+    "string: S": "v.text",
+    "with: S": "v.text",
+    "characters: I": "v.text.chars()",
+    "pieces: I": "[v.text, v.text]",
+    "given: B": "v.bytes",
+    "units: B": "v.units",
+    "range: R": "v.at..v.end",
 }
-EDITED = {
-    "": "len is_empty as_str as_mut_str as_bytes remaining_capacity is_full pop clear trim trim_spaces make_ascii_uppercase make_ascii_lowercase",
-    "v.ch": "try_push",
-    "v.text": "try_push_str push_str",
-    'format_args!("{}-{}", v.text, v.ch)': "try_write",
-    "v.text.chars()": "extend_chars",
-    "[v.text, v.text]": "extend_strs",
-    "v.at": "remove truncate",
-    "v.at, v.ch": "try_insert",
-    "v.at, v.text": "try_insert_str insert_str",
-    "v.at..v.end": "make_ascii_uppercase_in make_ascii_lowercase_in",
-    "v.at..v.end, v.text": "replace_range",
-    "&mut v.steps": "pop_counted trim_counted",
-    "v.at, &mut v.steps": "remove_counted",
-    "v.at, v.text, &mut v.steps": "try_insert_str_counted",
-    "v.at..=v.end, &mut v.steps": "drain_counted",
-    "v.at..=v.end, v.text, &mut v.steps": "replace_range_counted",
-}
-OF_BOTH = {
-    **{name: f"S::{name}({given})" for given, names in MADE.items() for name in names.split()},
-    "split_off": "v.s.split_off(v.at)",
-}
-OF_ONE = {
-    **{name: f"v.s.{name}({given})" for given, names in EDITED.items() for name in names.split()},
+# Calls that are given something else, or whose result is used: what they return would else be left out of the program.
+USED = {
     "slice": "v.s.slice(v.at..v.end).len()",
     "get": "(v.s.get(v.at..v.end), v.s.get(..=v.end), v.s.get(v.at..))",
     "drain": "v.s.drain(v.at..v.end).map(|drain| drain.map(u32::from).fold(0, u32::wrapping_add))",
+    "drain_counted": "v.s.drain_counted(v.at..=v.end, &mut v.steps)",
+    "replace_range_counted": "v.s.replace_range_counted(v.at..=v.end, v.text, &mut v.steps)",
     "retain": "{ let ch = v.ch; v.s.retain(|it| it != ch) }",
 }
 ERRORS = ["Error", "Utf8", "Utf16", "OutOfBounds"]
@@ -192,6 +179,29 @@ OTHERS = {
     "Default for Steps": "Steps::default()",
     "PartialEq for Steps": "v.steps == Steps::new()",
 }
+SOURCES = Path(__file__).resolve().parents[1] / "arraystring/src"
+
+
+def calls_of(kind, text):
+    """The safe calls of a type in a text by name, each with its parameters."""
+    blocks = re.finditer(rf"(?ms)^( *)impl(?:<[^>]*>)? {kind} \{{$.*?^\1\}}$", text)
+    shown = re.sub(r"#\[doc\(hidden\)\][^{]*", "", "\n".join(it[0] for it in blocks))
+    return dict(re.findall(r"(?m)^ *pub (?:const )?fn (\w+)(?:<[^(]*>)?\(([^{]*?)\)(?: ->[^{]*)? \{$", shown))
+
+
+def call_of(name, parameters):
+    """A call with values for its parameters; None where one of them has no value here."""
+    given = [GIVEN.get(kind, GIVEN.get(f"{word}: {kind}")) for word, kind in re.findall(r"(\w+): ([^,]+)", parameters)]
+    return None if None in given else f"{'v.s.' if 'self' in parameters else 'S::'}{name}({', '.join(given)})"
+
+
+def of_strings(text):
+    """The calls of the strings in a text by name, but for those with a parameter that has no value here."""
+    for kind, used, as_due in (("ArrayString", USED, str), ("CacheString", {}, for_cache)):
+        made = {name: call_of(name, given) for name, given in calls_of(rf"{kind}(?:<N>)?", text).items()}
+        yield from ((f"{kind}::{name}", as_due(call)) for name, call in {**made, **used}.items() if call)
+
+
 def for_cache(expression):
     """The expression for a `CacheString`."""
     for name, put in [("S", "CacheString"), (r"v\.s", "v.c"), (r"v\.t", "v.o")]:
@@ -208,8 +218,7 @@ def expressions():
     for name, call in BY_TRAITS.items():
         found[re.sub(r"\bS\b", "ArrayString<N>", name)] = call
         found[re.sub(r"\bS\b", "CacheString", name)] = for_cache(call)
-    found |= {f"ArrayString::{name}": call for name, call in {**OF_BOTH, **OF_ONE}.items()}
-    found |= {f"CacheString::{name}": for_cache(call) for name, call in OF_BOTH.items()}
+    found |= of_strings("\n".join(it.read_text() for it in sorted(SOURCES.rglob("*.rs"))))
     for error in ERRORS:
         for name, call in BY_ERROR.items():
             value = f"black_box({error})" if error != "Error" else "v.error"

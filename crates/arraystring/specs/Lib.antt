@@ -3,6 +3,8 @@ pub use Rattle.arraystring_core.specs.Utf16
 pub use Rattle.arraystring_core.specs.Counts
 pub use Rattle.arraystring_core.specs.Names
 pub use Rattle.arraystring_core.specs.Stored
+pub use Rattle.arraystring_core.specs.Parts
+pub use Rattle.arraystring_core.specs.WhiteSpace
 pub use Rattle.arraystring_core.specs.Edits
 pub use Rattle.arraystring_core.specs.Construct
 pub use Rattle.arraystring_core.specs.Taken

@@ -19,7 +19,7 @@ use arraystring_core::ArrayString;
 mod traits;
 
 /// A string of at most 63 bytes of UTF-8, under a name of its own. Its field `0` is an
-/// `ArrayString<63>`, which has the calls that it lacks.
+/// `ArrayString<63>`. Calls that a `CacheString` lacks are called on this field.
 ///
 /// # Examples
 ///

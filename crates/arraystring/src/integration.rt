@@ -10,12 +10,11 @@ use serde_json::Value;
 use std::alloc::{AllocError, Global};
 
 impl CacheString {
-    /// Returns the text as a JSON string, which takes memory from `alloc`. `from_value` returns
-    /// the text again.
+    /// Returns the text as a JSON string, which `alloc` allocates. `from_value` returns the text again.
     ///
     /// # Errors
     ///
-    /// Returns `Err(AllocError)` if there is not enough memory.
+    /// Returns `Err(AllocError)` if memory runs out.
     pub fn to_value(&self, alloc: Global) -> Result<Value, AllocError>
         ensures text { IfOk result (λ value. view value ≡ json_text self.now.0.text) }
         ensures reads_back { IfOk result (λ value. text_within (view value) 63 ≡ Some self.now.0.text) }
@@ -24,8 +23,8 @@ impl CacheString {
         self.0.to_value(alloc)
     }
 
-    /// Creates a string from the longest prefix of whole characters of a JSON string that fits.
-    /// One that does not fit is cut without an error; `try_from_value` refuses it.
+    /// Creates a string from the longest prefix of whole characters of a JSON string that fits. A
+    /// JSON string that does not fit is cut without an error; `try_from_value` refuses it.
     ///
     /// # Errors
     ///

@@ -41,7 +41,7 @@ pub mod utils {
     pub use arraystring_core::utils::is_char_boundary;
 }
 
-/// What most callers take.
+/// What most callers import.
 pub mod prelude {
     pub use crate::drain::Drain;
     pub use crate::error::{OutOfBounds, Utf8, Utf16};

@@ -13,6 +13,7 @@ pub use Rattle.arraystring_base.proofs.CutLaws.{front-back}
 pub front-is : (p q : List ℕ) (i : ℕ) → size p ≡ i → front (p ++ q) i ≡ p
 front-is p q i e = cut-is p q i (omega arith) (λ c es d. omega (arith, width-bounds c))
 
+-- no character is of width 0, so none of q is passed over; each of p is, since p has the size i
 pub back-is : (p q : List ℕ) (i : ℕ) → size p ≡ i → back (p ++ q) i ≡ q
 back-is [] [] i e = refl
 back-is [] (c ∷ es) i e = grind (arith, nat_tests, width-bounds c)

@@ -28,7 +28,8 @@ cut-at bs n m u b le nearest =
     ] in
     rw (bytes-chars u) at (bytes-front t m here) ∙ ap bytes (sym (cut-cut t le) ∙ cut-all fits)
 
--- a cut leaves less than four bytes of the room, unless the text fits
+-- a cut leaves less than four bytes of the room, unless the text fits: if its first character does not fit, the room is less
+-- than that character's width
 near : (t : List ℕ) (n : ℕ) → n < size t → n < size (cut t n) + 4
 near [] n lt = omega arith
 near (c ∷ cs) n lt = grind (arith, nat_tests, width-bounds c, near cs (n - width c))

@@ -34,6 +34,7 @@ Spell last second third fourth n m c =
 abbrev EndsWith : List ℕ → ℕ → ℕ → Type 0
 EndsWith bs m c = Spell (from_end bs 1) (from_end bs 2) (from_end bs 3) (from_end bs 4) (length bs) m c
 
+-- `grind` takes the four widths, and reads the last bytes of each: so many, with these marks, spell the character
 ends-with : (xs : List ℕ) (c : ℕ) → EndsWith (xs ++ utf8 c) (length xs) c
 unfolding utf8
 ends-with xs c = grind (arith, nat_tests, length-append {A = ℕ}, from_end-append)

@@ -3,7 +3,8 @@ use Rattle.std.proofs.Common.{◌≡◌, ℕ, ◌+◌, ◌-◌, ◌≤◌, ◌<�
 use Rattle.std.proofs.lemmas.Bool.{cases_lt}
 use Rattle.std.proofs.lemmas.Grind.{same_number_lists, elements}
 
--- byte by byte: what the first part writes, what the second keeps of it, and what the second writes
+-- byte by byte: what the first part writes, what the second keeps of it, and what the second writes. `grind` looks the index up
+-- in the parts that are joined (`elements`): the bounds say in which it is
 module _ (src old half first : List ℕ) (from to k len : ℕ) (source : from + len ≤ length src) (target : to + len ≤ length old)
     (least : k ≤ len) (is_first : first ≡ take k (drop from src)) (one : half ≡ take to old ++ (first ++ drop (to + k) old)) where
   early : (i : ℕ) → i < to + k → get_or half i 0 ≡ get_or (take to old ++ (take len (drop from src) ++ drop (to + len) old)) i 0
@@ -25,7 +26,7 @@ module _ (src old half first : List ℕ) (from to k len : ℕ) (source : from + 
           | inr after ↦ late i after lt
         ])
 
--- two parts of k bytes that are written behind one another
+-- two parts of k bytes that are written behind one another, also byte by byte
 pub written-as-one : (old half new first second : List ℕ) (at k : ℕ) → at + (k + k) ≤ length old → length first ≡ k
     → half ≡ take at old ++ (first ++ drop (at + k) old) → new ≡ take (at + k) half ++ (second ++ drop (at + k + k) half)
     → new ≡ take at old ++ ((first ++ second) ++ drop (at + (k + k)) old)

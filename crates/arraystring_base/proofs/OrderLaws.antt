@@ -6,7 +6,8 @@ use Rattle.std.specs.Cmp.Lexicographic.{slice_cmp, bytes_decides, texts_ties}
 use Rattle.std.specs.Ordering.{nat_cmp, ordering_then, ordering_reverse, is_eq, MatchOrdering}
 use Rattle.arraystring_base.specs.Text.{utf8, bytes, IsBefore}
 
--- the order of the bytes of two texts is that of the characters
+-- the order of the bytes of two texts is that of the characters: `grind` takes each pair of widths. If they differ, so do the
+-- first bytes, since the wider character begins with the greater one; else the first byte that differs decides
 pub order-bytes : (a b : List ℕ) → slice_cmp nat_cmp (bytes a) (bytes b) ≡ slice_cmp nat_cmp a b
 unfolding utf8
 order-bytes [] [] = refl
@@ -18,11 +19,13 @@ order-bytes (c ∷ a) (d ∷ b) = grind (arith, nat_tests, order-bytes a b)
 before-less : (a b : List ℕ) → IsBefore a b → slice_cmp nat_cmp a b ≡ Less
 before-less a b (inl (c, rest, e)) = rw e (go a)
   where
+    -- equal characters decide nothing, so the rest does
     go : (a : List ℕ) → slice_cmp nat_cmp a (a ++ c ∷ rest) ≡ Less
     go [] = refl
     go (x ∷ a) = grind (arith, nat_tests, go a)
 before-less a b (inr (p, c, d, x, y, ea, eb, lt)) = rw (ea, eb) (go p)
   where
+    -- equal characters decide nothing, and then c < d does
     go : (p : List ℕ) → slice_cmp nat_cmp (p ++ c ∷ x) (p ++ d ∷ y) ≡ Less
     go [] = grind (arith, nat_tests)
     go (z ∷ p) = grind (arith, nat_tests, go p)

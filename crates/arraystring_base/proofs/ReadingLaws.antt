@@ -13,7 +13,7 @@ use Rattle.arraystring_base.specs.Reading.{is_high, is_low, pair_character, sing
 abbrev IsUnit : ℕ → Type 0
 IsUnit unit = unit < 0x1_0000
 
--- what a unit is by itself
+-- what a unit is by itself: `grind` takes the two cases of `single_item`, a surrogate or none, and the ranges decide the rest
 single_item-character : (u : ℕ) → IsScalarValue u → single_item u ≡ Char u
 unfolding single_item
 single_item-character u h = grind (arith, nat_tests)
@@ -34,7 +34,8 @@ single_item-is : (u : ℕ) → u < 0x1_0000 → IsItem (single_item u)
 unfolding single_item
 single_item-is u small = grind (arith, nat_tests)
 
--- a high unit takes the low one after it, and any other is an item by itself
+-- a high unit takes the low one after it, and any other is an item by itself: for `grind` the ranges decide the test of
+-- `read_before`, which `apart` says is false
 read_before-pair : (high low : ℕ) (items : List Unit16) → IsHigh high → IsLow low
     → read_before high (Lone low ∷ items) ≡ Char (pair_character high low) ∷ items
 unfolding read_before
@@ -48,7 +49,7 @@ read_before-single unit [] apart = refl
 read_before-single unit (Char c ∷ items) apart = refl
 read_before-single unit (Lone next ∷ items) apart = grind (arith, nat_tests, apart next items refl)
 
--- if the first item is lone, it is the first unit
+-- if the first item is lone, it is the first unit: of a pair it would be a character, so `grind` is left with `single_item v`
 read_before-first : (v : ℕ) (items : List Unit16) (low : ℕ) (rest : List Unit16) → read_before v items ≡ Lone low ∷ rest → v ≡ low
 unfolding read_before
 read_before-first v [] low rest e = single_item-same v low (cc)
@@ -72,6 +73,7 @@ reading-pair high low units h l =
     rw (reading-single low units (λ other more e is. omega arith), single_item-lone low (omega arith) l.1)
     (read_before-pair high low (reading units) h l)
 
+-- a scalar value below 1_0000 is no high unit, and any other is below 11_0000: `grind` takes its two ranges
 reading-character : (c : ℕ) (units : List ℕ) → IsScalarValue c → reading (utf16 c ++ units) ≡ Char c ∷ reading units
 reading-character c units h = elim (cases_lt c 0x1_0000) [
   | inl one ↦
@@ -128,6 +130,7 @@ single-reads unit units items small is apart = record {
   apart = cons-apart (single_item unit) items (λ high low rest e. rw (single_item-same unit high e) at (apart low rest)) is.apart;
 }
 
+-- the character of a pair is above FFFF, so `utf16` splits it, at the multiple of 400 of which it was made
 utf16-pair : (high low : ℕ) → IsHigh high → IsLow low → utf16 (pair_character high low) ≡ high ∷ low ∷ []
 utf16-pair high low h l = grind (arith, nat_tests)
 
@@ -142,6 +145,7 @@ pair-reads high low units items small is h l = record {
       (tail-apart (Lone low) items is.apart);
 }
 
+-- `grind` reads the test: if it is true the two units are a pair, and if they are a pair it is not false
 read_before-reads : (unit : ℕ) (units : List ℕ) (items : List Unit16) → unit < 0x1_0000 → IsReading units items
     → IsReading (unit ∷ units) (read_before unit items)
 unfolding read_before
@@ -164,6 +168,7 @@ reading-text : (t : List ℕ) → IsText t → reading (text_units t) ≡ map Ch
 reading-text [] is = refl
 reading-text (c ∷ cs) is = reading-character c (text_units cs) is.0 ∙ ap (λ l. Char c ∷ l) (reading-text cs is.1)
 
+-- a scalar value past FFFF is below 11_0000, as `grind` has it from the two ranges
 utf16-small : (c : ℕ) → IsScalarValue c → All IsUnit (utf16 c)
 utf16-small c h = elim (cases_lt c 0x1_0000) [
   | inl one ↦ rw (lt-ltb c 0x1_0000 one) (All-cons IsUnit c [] one (All-nil IsUnit))

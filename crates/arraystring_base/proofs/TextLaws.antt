@@ -27,7 +27,7 @@ length-utf8 c = rw (utf8-is, width-is) (length-encode c)
 pub width-bounds : (c : ℕ) → (1 ≤ width c) × (width c ≤ 4)
 width-bounds c = rw width-is (len_utf8_bounds c)
 
--- the bytes of a character, by its number
+-- the bytes of a character, by its number, which decides the tests of `utf8`
 pub utf8-one : (c : ℕ) → c < 0x80 → utf8 c ≡ c ∷ []
 unfolding utf8
 utf8-one c lt = grind (arith, nat_tests)
@@ -89,7 +89,7 @@ pointwise-bytes a b =
     let by_bytes = bytes_decides (bytes a) (bytes b) in
     same_from_decides {P = a ≡ b} _ _ (λ e. bytes_same (by_bytes.0 e), λ e. by_bytes.1 (ap bytes e)) by_text
 
--- std's tests of characters
+-- std's tests of characters, which ask for the same two ranges
 pub scalar-is : (c : ℕ) → IsScalarValue c → scalar c ≡ true
 scalar-is c is = grind (arith, nat_tests)
 

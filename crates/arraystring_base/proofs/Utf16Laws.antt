@@ -7,7 +7,8 @@ use Rattle.arraystring_base.specs.declared.utf16.Unit16.TheVariants.{Char, Lone}
 use Rattle.arraystring_base.specs.Text.{width, size}
 use Rattle.arraystring_base.specs.Utf16.{Stop, End, Fault, Full, StopsAt, stop_behind, first_stop, lossy_text}
 
--- the first stop of a run of characters that fits, by what comes after it
+-- the first stop of a run of characters that fits, by what comes after it: each character of the run fits, so `grind` has
+-- the stop behind it
 stop-end : (run : List ℕ) (n : ℕ) → size run ≤ n → first_stop (map Char run) n ≡ End run
 stop-end [] n le = refl
 stop-end (c ∷ run) n le = grind (arith, nat_tests, stop-end run (n - width c) (omega arith))

@@ -1,5 +1,5 @@
-//! What a call refuses, and the conversions to `Error`. A width and a precision in the format of a
-//! printed form are ignored.
+//! The errors, and the conversions to `Error`. When an error is printed, a width and a precision in the
+//! format are ignored.
 ghost use Rattle.std.specs.Prelude.{◌≡◌, ◌++◌, Some, codes};
 ghost use Rattle.std.proofs.Common.{ap};
 ghost use Rattle.std.specs.Hash as fed;
@@ -12,7 +12,7 @@ use std::fmt;
 use std::hash::{Hash, Hasher};
 use std::str::Utf8Error;
 
-/// Any refusal.
+/// Why a call was refused.
 ///
 /// # Examples
 ///
@@ -29,8 +29,7 @@ pub enum Error {
     Utf8,
     /// A lone surrogate in UTF-16 (the Unicode Standard, section 3.9).
     Utf16,
-    /// An index or a range outside the text, a range that ends before it starts, or a result larger
-    /// than the capacity.
+    /// An index or a range outside the text, a reversed range, or a result larger than the capacity.
     OutOfBounds,
 }
 
@@ -47,7 +46,7 @@ impl Error {
     }
 }
 
-/// `Error::` and the name.
+/// Prints `Error::` and the name.
 ///
 /// # Examples
 ///
@@ -63,7 +62,7 @@ impl fmt::Debug for Error {
     }
 }
 
-/// The name alone.
+/// Prints the name alone.
 ///
 /// # Examples
 ///
@@ -80,7 +79,7 @@ impl fmt::Display for Error {
     }
 }
 
-/// As an error of any kind. It has no source.
+/// It converts to a `Box<dyn std::error::Error>`, and has no source.
 ///
 /// # Examples
 ///
@@ -94,7 +93,7 @@ impl fmt::Display for Error {
 /// ```
 impl StdError for Error {}
 
-/// The variant of the same name.
+/// Converts to the variant of the same name.
 ///
 /// # Examples
 ///
@@ -113,7 +112,7 @@ impl From<OutOfBounds> for Error {
     }
 }
 
-/// The variant of the same name.
+/// Converts to the variant of the same name.
 ///
 /// # Examples
 ///
@@ -128,7 +127,7 @@ impl From<Utf16> for Error {
     }
 }
 
-/// The variant of the same name.
+/// Converts to the variant of the same name.
 ///
 /// # Examples
 ///
@@ -143,7 +142,7 @@ impl From<Utf8> for Error {
     }
 }
 
-/// Bytes that `std` finds not to be UTF-8 are refused as `Error::Utf8`.
+/// The error of `std` for bytes that are not UTF-8 becomes `Error::Utf8`.
 ///
 /// # Examples
 ///
@@ -179,7 +178,7 @@ impl Hash for Error {
 }
 
 /// Bytes that are not well-formed UTF-8 (the Unicode Standard, section 3.9), or an index inside a
-/// character. `is_char_boundary` returns it for an index past the text too.
+/// character. `is_char_boundary` also returns it for an index past the text.
 ///
 /// # Examples
 ///
@@ -191,7 +190,7 @@ impl Hash for Error {
 #[derive(Clone, Copy, Default, PartialEq, Eq)]
 pub struct Utf8;
 
-/// The name alone.
+/// Prints the name alone.
 ///
 /// # Examples
 ///
@@ -206,7 +205,7 @@ impl fmt::Debug for Utf8 {
     }
 }
 
-/// The name alone.
+/// Prints the name alone.
 ///
 /// # Examples
 ///
@@ -223,7 +222,7 @@ impl fmt::Display for Utf8 {
     }
 }
 
-/// As an error of any kind. It has no source.
+/// It converts to a `Box<dyn std::error::Error>`, and has no source.
 ///
 /// # Examples
 ///
@@ -233,7 +232,7 @@ impl fmt::Display for Utf8 {
 /// ```
 impl StdError for Utf8 {}
 
-/// Bytes that `std` finds not to be UTF-8 are refused as `Utf8`.
+/// The error of `std` for bytes that are not UTF-8 becomes `Utf8`.
 ///
 /// # Examples
 ///
@@ -256,7 +255,7 @@ impl From<Utf8Error> for Utf8 {
 #[derive(Clone, Copy, Default, PartialEq, Eq)]
 pub struct Utf16;
 
-/// The name alone.
+/// Prints the name alone.
 ///
 /// # Examples
 ///
@@ -271,7 +270,7 @@ impl fmt::Debug for Utf16 {
     }
 }
 
-/// The name alone.
+/// Prints the name alone.
 ///
 /// # Examples
 ///
@@ -288,7 +287,7 @@ impl fmt::Display for Utf16 {
     }
 }
 
-/// As an error of any kind. It has no source.
+/// It converts to a `Box<dyn std::error::Error>`, and has no source.
 ///
 /// # Examples
 ///
@@ -298,8 +297,7 @@ impl fmt::Display for Utf16 {
 /// ```
 impl StdError for Utf16 {}
 
-/// An index or a range outside the text, a range that ends before it starts, or a result larger
-/// than the capacity.
+/// An index or a range outside the text, a reversed range, or a result larger than the capacity.
 ///
 /// # Examples
 ///
@@ -309,7 +307,7 @@ impl StdError for Utf16 {}
 #[derive(Clone, Copy, Default, PartialEq, Eq)]
 pub struct OutOfBounds;
 
-/// The name alone.
+/// Prints the name alone.
 ///
 /// # Examples
 ///
@@ -324,7 +322,7 @@ impl fmt::Debug for OutOfBounds {
     }
 }
 
-/// The name alone.
+/// Prints the name alone.
 ///
 /// # Examples
 ///
@@ -341,7 +339,7 @@ impl fmt::Display for OutOfBounds {
     }
 }
 
-/// As an error of any kind. It has no source.
+/// It converts to a `Box<dyn std::error::Error>`, and has no source.
 ///
 /// # Examples
 ///

@@ -12,14 +12,15 @@ ghost use Rattle.arraystring_base.specs.Utf16.{IsReading, Stop, StopsAt, first_s
 ghost use Rattle.arraystring_base.specs.declared.utf16.Unit16.{Unit16};
 ghost use Rattle.arraystring_base.specs.declared.utf16.Unit16.TheVariants.{Char};
 
-/// The cut of a text to `n` bytes is a prefix of it that fits, and no prefix that fits is longer;
-/// no other text is so. The cut of a text that fits is the text.
+/// The cut of a text to `n` bytes is the longest of its prefixes that take at most `n` bytes. No other
+/// text is this prefix. If the whole text takes at most `n` bytes, it is its own cut.
 pub fn longest_cut()
     ensures longest { (t p : List ℕ) (n : ℕ) → (p ≡ cut t n) ↔ IsLongestFitting p t n }
     ensures whole { (t : List ℕ) (n : ℕ) → size t ≤ n → cut t n ≡ t }
 {}
 
-/// The cut of a longer cut is the cut.
+/// Two cuts are one: cut a text to `m` bytes, and the result to `n` bytes, which are no more than `m`.
+/// This gives the same as to cut the text to `n` bytes at once.
 #[tactic(auto, using(crate::proofs::CutLaws::cut_cut))]
 pub fn cut_of_cut()
     ensures { (t : List ℕ) (m n : ℕ) → n ≤ m → cut (cut t m) n ≡ cut t n }
@@ -31,8 +32,9 @@ pub fn boundaries()
     ensures { (t : List ℕ) (i : ℕ) → IsTrue (boundary t i) ↔ ((p : List ℕ) × IsPrefix p t × (size p ≡ i)) }
 {}
 
-/// The parts before and from an index, joined, are the text. The part before a boundary has as many
-/// bytes as the boundary says. At the index where two texts are joined, the parts are those two.
+/// An index splits a text into the part before it and the part from it on. Joined, they are the text. If
+/// the index is a boundary, the part before it has that many bytes. If a text is two texts joined, and the
+/// index is the size of the first, the parts are these two.
 #[tactic(auto, using(crate::proofs::BoundaryLaws::parts))]
 pub fn parts()
     ensures joined { (t : List ℕ) (i : ℕ) → front t i ++ back t i ≡ t }
@@ -41,14 +43,14 @@ pub fn parts()
     ensures behind { (p q : List ℕ) → back (p ++ q) (size p) ≡ q }
 {}
 
-/// A text takes as many bytes as its UTF-8 has. So `len` of a string is how many bytes its
-/// `as_bytes` and its `as_str` return.
+/// The size of a text is the number of bytes of its UTF-8. So `as_bytes` and `as_str` of a string
+/// return `len` bytes.
 #[tactic(auto, using(crate::proofs::TextLaws::size_is))]
 pub fn size_is_length()
     ensures { (t : List ℕ) → size t ≡ length (bytes t) }
 {}
 
-/// Bytes spell one text.
+/// Texts with the same UTF-8 are the same.
 #[tactic(auto, using(crate::proofs::TextLaws::bytes_same))]
 pub fn one_text()
     ensures { (a b : List ℕ) → bytes a ≡ bytes b → a ≡ b }
@@ -71,15 +73,15 @@ pub fn order_of_bytes()
     ensures greater { (a b : List ℕ) → (slice_cmp nat_cmp (bytes a) (bytes b) ≡ Greater) ↔ IsBefore b a }
 {}
 
-/// Of two texts that are not the same, one comes before the other. What comes before a text comes
-/// before all texts that follow it. No text comes before itself.
+/// If two texts differ, one comes before the other. If `a` comes before `b` and `b` before `c`, `a`
+/// comes before `c`. No text comes before itself.
 pub fn order_of_texts()
     ensures total { (a b : List ℕ) → IsBefore a b ⊎ (a ≡ b) ⊎ IsBefore b a }
     ensures transitive { (a b c : List ℕ) → IsBefore a b → IsBefore b c → IsBefore a c }
     ensures itself { (a : List ℕ) → ¬ (IsBefore a a) }
 {}
 
-/// The units have a reading, and any two readings of them are the same.
+/// UTF-16 units can be read as characters and lone surrogates in exactly one way.
 pub fn only_reading(units: &[u16])
     ensures some { (items : List Unit16) × IsReading units.now items }
     ensures only { (a b : List Unit16) → IsReading units.now a → IsReading units.now b → a ≡ b }
@@ -90,15 +92,15 @@ pub fn text_reading()
     ensures { (t : List ℕ) (items : List Unit16) → IsText t → (IsReading (text_units t) items) ↔ (items ≡ map Char t) }
 {}
 
-/// The first stop of items at `n` bytes is where the longest prefix of characters that fits ends,
-/// with what comes after it; no other stop is so.
+/// Take the longest prefix of characters of the items that takes at most `n` bytes, and what comes right
+/// after it: that is the first stop of the items at `n` bytes, and no other is.
 #[tactic(auto, using(crate::proofs::Utf16Laws::first_stop_is))]
 pub fn one_stop()
     ensures { (items : List Unit16) (n : ℕ) (stop : Stop) → (StopsAt items n stop) ↔ (first_stop items n ≡ stop) }
 {}
 
-/// Where `str::find` finds a character: at a boundary, and nowhere before. If it finds none, the
-/// text has none.
+/// `str::find` returns the boundary at which a character first stands. If it returns `None`, the character
+/// is not in the text.
 ///
 /// # Precondition
 ///
@@ -106,16 +108,28 @@ pub fn one_stop()
 #[tactic(auto, using(crate::proofs::FindLaws::find_first))]
 pub fn found_first(text: &str, c: char, place: Option<usize>)
     requires { MatchOption place (FindsChar c text.now None) (MatchBeginsAt (FindsChar c) text.now) }
-    ensures { MatchOption place (position_or_len (λ d. d == c) (chars text.now) ≡ length (chars text.now)) (λ i. (i < size (chars text.now)) × IsTrue (boundary (chars text.now) i) × (front (chars text.now) i ≡ before_first (λ d. d == c) (chars text.now)) × (back (chars text.now) i ≡ c ∷ after_first (λ d. d == c) (chars text.now))) }
+    ensures { MatchOption place
+        (position_or_len (λ d. d == c) (chars text.now) ≡ length (chars text.now))
+        (λ i. (i < size (chars text.now))
+        × IsTrue (boundary (chars text.now) i)
+        × (front (chars text.now) i ≡ before_first (λ d. d == c) (chars text.now))
+        × (back (chars text.now) i ≡ c ∷ after_first (λ d. d == c) (chars text.now))) }
 {}
 
-/// Where `str::split_once` splits at a character: at the first. If it gives no parts, the text has
-/// none.
+/// `str::split_once` splits a text where the character first stands. If it returns `None`, the character is
+/// not in the text.
 ///
 /// # Precondition
 ///
 /// `parts` must be what `text.split_once(c)` returned.
 pub fn split_first(text: &str, c: char, parts: Option<(&str, &str)>)
-    requires { MatchOption parts (FindsChar c text.now None) (λ found. SplitsAroundMatch (FindsChar c) text.now found.0.now found.1.now) }
-    ensures { MatchOption parts.entry (position_or_len (λ d. d == c) (chars text.now) ≡ length (chars text.now)) (λ found. (position_or_len (λ d. d == c) (chars text.now) < length (chars text.now)) × (chars found.0.now ≡ before_first (λ d. d == c) (chars text.now)) × (chars found.1.now ≡ after_first (λ d. d == c) (chars text.now)) × (chars text.now ≡ chars found.0.now ++ c ∷ chars found.1.now) × NonePass (λ d. d == c) (chars found.0.now)) }
+    requires { MatchOption parts (FindsChar c text.now None)
+        (λ found. SplitsAroundMatch (FindsChar c) text.now found.0.now found.1.now) }
+    ensures { MatchOption parts.entry
+        (position_or_len (λ d. d == c) (chars text.now) ≡ length (chars text.now))
+        (λ found. (position_or_len (λ d. d == c) (chars text.now) < length (chars text.now))
+        × (chars found.0.now ≡ before_first (λ d. d == c) (chars text.now))
+        × (chars found.1.now ≡ after_first (λ d. d == c) (chars text.now))
+        × (chars text.now ≡ chars found.0.now ++ c ∷ chars found.1.now)
+        × NonePass (λ d. d == c) (chars found.0.now)) }
 {}

@@ -1,6 +1,6 @@
-//! The lowest crate of the bounded string: its errors, the UTF-8 of characters, where a text may be
-//! cut, and how UTF-16 is read. It uses `std` alone and takes no memory. Its
-//! tests are in `crates/arraystring_tests`.
+//! The lowest crate of the bounded string: its errors, the UTF-8 of characters, where a text may be cut,
+//! and how UTF-16 is read. It uses `std` alone and allocates nothing. Its tests are in
+//! `crates/arraystring_tests`.
 #![tactic(auto)]
 
 pub mod error;

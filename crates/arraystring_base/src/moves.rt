@@ -3,16 +3,15 @@
 //! too. A byte that both have is written twice, to one offset, and counts as one move. They are read
 //! as vectors, since those stay in registers; arrays of bytes would be put on the stack.
 //!
-//! What is made for each size of an array is small. Long runs are moved by `move_bytes` and written by
-//! `write_by_call`, which take a slice.
+//! `move_bytes` and `write_long_run` take a slice, and so each stands once in a program.
 ghost use Rattle.std.specs.Prelude.{◌≡◌, ◌+◌, ◌-◌, ◌^◌, ◌==◌, if◌then◌else◌, ◌≤◌, ◌<◌, ◌++◌, length, take, drop};
 
 use crate::steps::Steps;
 use std::simd::Simd;
 
 /// Moves `len` bytes of the array from the offset `from` to the offset `to`; the two runs may
-/// overlap. Each byte counts as one move, also if it is written twice on the way, and none counts if
-/// `from` is `to`. No byte outside the target changes.
+/// overlap. Each byte counts as one move, also if it is written twice on the way. If `from` is `to`,
+/// no move is counted. No byte outside the target changes.
 ///
 /// # Precondition
 ///
@@ -39,8 +38,8 @@ pub fn shift<const N: usize>(
 }
 
 /// Moves `len` bytes of the array from the offset `from` to the offset `to`; the two runs may overlap.
-/// No byte outside the target changes, and nothing is counted. Up to 64 bytes cost no call. What an
-/// array of `N` bytes can't have is not tested.
+/// No byte outside the target changes, and nothing is counted. Up to 64 bytes are moved without a
+/// call. No test is made for more bytes than an array of `N` bytes can have.
 ///
 /// # Precondition
 ///
@@ -55,7 +54,7 @@ pub fn move_run<const N: usize>(array: &mut [u8; N], from: usize, to: usize, len
     if len < 16 {
         move_short_run::<N>(all, from, to, len);
     } else if N > 64 && len > 64 {
-        move_bytes(all, from, to, len);
+        move_long_run_of_array::<N>(all, from, to, len);
     } else if N > 32 && len > 32 {
         move_ends::<32>(all, from, to, len);
     } else {
@@ -100,6 +99,24 @@ fn move_long_run(all: &mut [u8], from: usize, to: usize, len: usize)
         move_pairs::<64>(all, from, to, len);
     } else {
         all.copy_within(from..from + len, to);
+    }
+}
+
+/// Moves more than 64 bytes, of at most `N`. More than `N` are not tested for.
+#[inline(always)]
+fn move_long_run_of_array<const N: usize>(all: &mut [u8], from: usize, to: usize, len: usize)
+    requires source { from + len ≤ length all.old }
+    requires target { to + len ≤ length all.old }
+    requires most { len ≤ N }
+    requires long { 64 < len }
+    ensures { all.new ≡ take to all.old ++ (take len (drop from all.old) ++ drop (to + len) all.old) }
+{
+    if len <= 128 {
+        move_ends::<64>(all, from, to, len);
+    } else if N <= 256 {
+        move_pairs::<64>(all, from, to, len);
+    } else {
+        move_bytes(all, from, to, len);
     }
 }
 
@@ -159,9 +176,9 @@ fn move_pairs<const K: usize>(all: &mut [u8], from: usize, to: usize, len: usize
     put_pair(all, to + rest, before_end, end);
 }
 
-/// Writes `given` over the bytes of the array from the offset `at` on. No other byte changes. Up to
-/// 64 bytes cost no call, and more bytes one of `memcpy`. What an array of `N` bytes can't have is not
-/// tested.
+/// Writes `given` over the bytes of the array from the offset `at` on. No other byte changes. Up to 64
+/// bytes are written without a call, and more bytes by a call of `memcpy`. No test is made for more
+/// bytes than an array of `N` bytes can have.
 ///
 /// # Precondition
 ///
@@ -172,14 +189,16 @@ pub fn write_over<const N: usize>(array: &mut [u8; N], at: usize, given: &[u8])
     ensures { array.new ≡ take at array.old ++ (given.now ++ drop (at + length given.now) array.old) }
 {
     let all = &mut array[..];
-    if given.len() < 16 {
-        write_short_run::<N>(all, at, given);
-    } else if N > 64 && given.len() > 64 {
-        write_by_call(all, at, given);
-    } else if N > 32 && given.len() > 32 {
-        copy_ends::<32>(all, at, given);
-    } else {
+    if N > 32 && given.len() > 32 {
+        if N > 64 && given.len() > 64 {
+            write_long_run(all, given, at);
+        } else {
+            copy_ends::<32>(all, at, given);
+        }
+    } else if given.len() >= 16 {
         copy_ends::<16>(all, at, given);
+    } else {
+        write_short_run::<N>(all, at, given);
     }
 }
 
@@ -189,11 +208,22 @@ pub fn write_over<const N: usize>(array: &mut [u8; N], at: usize, given: &[u8])
 /// # Precondition
 ///
 /// `given` must fit into the slice from there.
+#[inline(always)]
 pub fn write_by_call(all: &mut [u8], at: usize, given: &[u8])
     requires { at + length given.now ≤ length all.old }
     ensures { all.new ≡ take at all.old ++ (given.now ++ drop (at + length given.now) all.old) }
 {
     all[at..at + given.len()].copy_from_slice(given);
+}
+
+/// Does what `write_by_call` does. The proved build never inlines it, so its code stands there once. The
+/// parameters are in the order of those of a call that appends, so that no register is moved for it.
+#[inline(never)]
+fn write_long_run(all: &mut [u8], given: &[u8], at: usize)
+    requires { at + length given.now ≤ length all.old }
+    ensures { all.new ≡ take at all.old ++ (given.now ++ drop (at + length given.now) all.old) }
+{
+    write_by_call(all, at, given);
 }
 
 /// Writes fewer than 16 bytes, of at most `N`. More than `N` are not tested for.

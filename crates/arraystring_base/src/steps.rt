@@ -3,9 +3,9 @@ ghost use Rattle.std.specs.Prelude.{◌≡◌, ◌+◌, ◌-◌, ◌^◌, ◌<�
 
 use std::marker::Model;
 
-/// Most programs need no counter. It has the looks and the moves of the calls that end in
-/// `_counted`. A look is one call of `look`, and a move is one byte that `shift` takes to another
-/// offset. What calls read otherwise is not counted.
+/// Most programs need no counter. It counts the looks and the moves of calls that end in `_counted`. A look
+/// is one call of `look`. A move is one byte that `shift` takes to another offset. Bytes that a call reads
+/// without `look` are not counted.
 ///
 /// # Examples
 ///

@@ -8,7 +8,7 @@ use std::char;
 use std::iter::FusedIterator;
 use std::marker::Model;
 
-/// An item of a reading.
+/// What UTF-16 units are read as: a character, or a lone surrogate.
 ///
 /// # Examples
 ///
@@ -25,9 +25,10 @@ pub enum Unit16 {
     Lone(u16),
 }
 
-/// An iterator over the one reading of some units. It takes no memory.
+/// An iterator that reads UTF-16 units, in order, as characters and lone surrogates. There is only
+/// one way to read them. It allocates nothing.
 ///
-/// Contracts see it as the list of the items that are left.
+/// In contracts it is the list of the items that are left.
 ///
 /// # Examples
 ///
@@ -52,7 +53,7 @@ impl<'a> Model for Units<'a> {
 }
 
 impl<'a> Units<'a> {
-    /// Returns an iterator over the reading of `units`.
+    /// Returns an iterator over the characters and lone surrogates of `units`.
     ///
     /// # Examples
     ///
@@ -83,7 +84,7 @@ impl<'a> Iterator for Units<'a> {
 
     ghost remaining = { item_count (λ items. items) };
 
-    /// Returns the next item of the reading. If none is left it returns `None`, and does so ever after.
+    /// Returns the next character or lone surrogate. Once none is left, it always returns `None`.
     fn next(&mut self) -> Option<Unit16> {
         let (first, rest) = self.rest.split_first()?;
         let unit = *first;
@@ -100,7 +101,7 @@ impl<'a> Iterator for Units<'a> {
     }
 }
 
-/// Once no item is left, `next` returns `None` ever after.
+/// Once no item is left, `next` always returns `None`.
 ///
 /// # Examples
 ///
@@ -112,7 +113,8 @@ impl<'a> FusedIterator for Units<'a> {}
 
 /// The character of the pair that `high` begins, and the units after the pair.
 fn pair(high: u16, rest: &[u16]) -> Option<(char, &[u16])>
-    ensures some { IfSome result (λ p. (low : ℕ) × IsHigh high × IsLow low × (p.0 ≡ pair_character high low) × (rest.now ≡ low ∷ p.1.now)) }
+    ensures some { IfSome result (λ p. (low : ℕ)
+        × IsHigh high × IsLow low × (p.0 ≡ pair_character high low) × (rest.now ≡ low ∷ p.1.now)) }
     ensures none { IfNone result ((low : ℕ) (more : List ℕ) → rest.now ≡ low ∷ more → IsHigh high → IsLow low → ⊥) }
 {
     if !is_high(high) {

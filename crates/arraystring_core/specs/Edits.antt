@@ -1,10 +1,13 @@
 -- What each edit does to a text: its causes in the order of its tests, what it returns, and the text after.
-use Rattle.std.specs.Prelude.{◌≡◌, ◌⊎◌, ⊤, ℕ, ◌+◌, ◌-◌, List, [], ◌∷◌, ◌++◌, Bool, true, false, not, ◌&&◌, ◌||◌, ◌==◌, Option, Some, None, Result, Ok, Err, OnOk, OnErr, if◌then◌else◌, nat_lt, nat_le, is_none, slice_index, drop, map, reverse}
+use Rattle.std.specs.Prelude.{◌≡◌, ◌⊎◌, ⊤, ℕ, ◌+◌, ◌-◌, List, [], ◌∷◌, ◌++◌, Bool, true, false, not, ◌&&◌, Option, Some, None, Result, Ok, Err, OnOk, OnErr, if◌then◌else◌, nat_lt, nat_le, is_none, slice_index, drop, map}
 use Rattle.std.specs.Char.{to_ascii_uppercase, to_ascii_lowercase}
 use Rattle.arraystring_base.specs.Text.{size, cut, front, back, boundary}
 use Rattle.arraystring_core.specs.Stored.{Stored}
 use Rattle.arraystring_base.specs.declared.error.Error.{Error}
 use Rattle.arraystring_base.specs.declared.error.Error.TheVariants as error
+-- paths that callers name
+pub use Rattle.arraystring_core.specs.Parts.{first_of, last_of, all_but_last, without_leading, without_trailing, part, part_in}
+unfoldable pub use Rattle.arraystring_core.specs.WhiteSpace.{is_space, in_ranges, is_white_space}
 
 -- why an edit is refused: an index that is not in the text, a result that does not fit, an index inside a character
 pub data Cause : Type 0 where
@@ -97,56 +100,6 @@ from_utf8_error (Err e) = Err error.Utf8
 abbrev pub with_text : Result Stored Error → Result (List ℕ) Error
 with_text (Ok s) = Ok s.text
 with_text (Err e) = Err e
-
--- the first character of a text, if any
-abbrev pub first_of : List ℕ → Option ℕ
-first_of [] = None
-first_of (c ∷ cs) = Some c
-
--- the last character of a text, if any
-abbrev pub last_of : List ℕ → Option ℕ
-last_of [] = None
-last_of (c ∷ []) = Some c
-last_of (c ∷ d ∷ ds) = last_of (d ∷ ds)
-
--- the characters before the last
-abbrev pub all_but_last : List ℕ → List ℕ
-all_but_last [] = []
-all_but_last (c ∷ []) = []
-all_but_last (c ∷ d ∷ ds) = c ∷ all_but_last (d ∷ ds)
-
--- a text without the characters at its start that pass
-abbrev pub without_leading : (ℕ → Bool) → List ℕ → List ℕ
-without_leading passes [] = []
-without_leading passes (c ∷ cs) = if passes c then without_leading passes cs else c ∷ cs
-
--- a text without the characters at its end that pass
-abbrev pub without_trailing : (ℕ → Bool) → List ℕ → List ℕ
-without_trailing passes t = reverse (without_leading passes (reverse t))
-
--- the part of t between two boundaries
-abbrev pub part : List ℕ → ℕ → ℕ → List ℕ
-part t start end = back (front t end) start
-
--- the part in a range, if there is one: both ends are boundaries, and in order
-abbrev pub part_in : List ℕ → ℕ → ℕ → Option (List ℕ)
-part_in t start end = if nat_le start end && (boundary t start && boundary t end) then Some (part t start end) else None
-
--- whether c is the space, U+0020
-abbrev pub is_space : ℕ → Bool
-is_space c = c == 0x20
-
--- whether c is in one of these ranges, each given by its first and its last character
-abbrev pub in_ranges : List (ℕ × ℕ) → ℕ → Bool
-in_ranges [] c = false
-in_ranges ((first, last) ∷ ranges) c = (nat_le first c && nat_le c last) || in_ranges ranges c
-
--- whether c has the property White_Space of the Unicode Standard (UAX #44, file PropList.txt)
-unfoldable pub is_white_space : ℕ → Bool
-is_white_space = in_ranges (
-    (0x0009, 0x000D) ∷ (0x0020, 0x0020) ∷ (0x0085, 0x0085) ∷ (0x00A0, 0x00A0) ∷ (0x1680, 0x1680)
-    ∷ (0x2000, 0x200A) ∷ (0x2028, 0x2029) ∷ (0x202F, 0x202F) ∷ (0x205F, 0x205F) ∷ (0x3000, 0x3000) ∷ []
-    )
 
 -- the table
 

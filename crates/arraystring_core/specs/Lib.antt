@@ -4,6 +4,8 @@ pub use Rattle.arraystring_base.specs.Counts
 pub use Rattle.arraystring_base.specs.Names
 pub mod Stored
 pub mod Layout
+pub mod Parts
+pub mod WhiteSpace
 pub mod Edits
 pub mod Construct
 pub mod Taken

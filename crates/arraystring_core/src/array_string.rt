@@ -1,8 +1,45 @@
-//! `ArrayString`: the type, and the calls that read all of it. The modules below have its other calls,
-//! `traits` its impls of traits. `append`, `replaced_part` and `remove` have the private calls that put
-//! bytes into its array or take them out.
+//! `ArrayString`: the type, and the calls that read all of it.
+//!
+//! The modules below have its other calls:
+//!
+//! - `traits` has its impls of traits;
+//! - `unchecked` and `counted` have calls that most programs do without;
+//! - `append`, `replaced_part` and `remove` have the private calls that put bytes into its array or take
+//!   them out.
+//!
+//! # How a string lies in its array
+//!
+//! The text is the `size` bytes of the array from the start offset on. An *offset* counts from the start of
+//! the array, an *index* from the start of the text. The drawings show an array of 8 bytes after each call. A
+//! `.` is a byte outside the text. Such a byte can have any value: strings with the same text are equal. The
+//! last column has the moves that the counted form of the call counts.
+//!
+//! ```text
+//!                           01234567   start   size   moved
+//! from("abcdef")            abcdef..       0      6
+//! remove(0)                 .bcdef..       1      5       0
+//! try_insert_str(2, "-")    .bc-def.       1      6       3
+//! try_insert_str(6, "gh")   bc-defgh       0      8       6
+//! ```
+//!
+//! - A removal at the front (`remove(0)`, `drain(..i)`, `trim`) raises the start offset and moves no byte.
+//! - If there is room after the text, an insertion moves the bytes behind the gap.
+//! - If there is none, the bytes before the gap move to offset 0, and those behind it straight to their final
+//!   offset. So each byte moves at most once.
+//!
+//! An insertion in the middle may move only the bytes before the gap:
+//!
+//! ```text
+//!                           01234567   start   size   moved
+//! from("abcdefgh")          abcdefgh       0      8
+//! remove(0)                 .bcdefgh       1      7       0
+//! try_insert_str(2, "-")    bc-defgh       0      8       2
+//! ```
+//!
+//! A `Drain<N>` borrows nothing. It has a copy of the array from before the removal, the offset and the size of
+//! the removed text, and an index into it. `next` raises the index, and `next_back` lowers the size.
 ghost use Rattle.std.specs.Prelude.{◌≡◌, ◌+◌, ◌≤◌, ◌↔◌, [], IsTrue, length};
-ghost use Rattle.arraystring_base.specs.Text.{size, bytes, cap, boundary, IsText};
+ghost use Rattle.arraystring_base.specs.Text.{size, bytes, cap, IsText};
 ghost use Rattle.arraystring_core.specs.Layout.{start_of};
 
 use std::marker::Model;
@@ -10,16 +47,20 @@ use std::str;
 
 mod append;
 mod ascii;
+mod borrowed_range;
 mod construct;
+mod counted;
+mod drained_range;
 mod fill;
 mod insert;
 mod push;
-mod range;
 mod remove;
 mod replaced_part;
+mod replaced_range;
 mod retain;
 mod traits;
 mod trim;
+mod unchecked;
 mod utf16;
 
 /// A string of at most `N` bytes of UTF-8, and at most 255, stored inline. Sizes, indices and the
@@ -182,7 +223,7 @@ impl<const N: usize> ArrayString<N> {
     }
 
     /// Returns the bytes of the text, borrowed without a copy. There are as many as `len` returns.
-    /// The contract adds the same as that of `as_str`.
+    /// The contract also promises what the contract of `as_str` promises of the text.
     ///
     /// # Examples
     ///
@@ -200,13 +241,6 @@ impl<const N: usize> ArrayString<N> {
         let start = self.start as usize;
         let all = &self.array[..];
         &all[start..start + self.size as usize]
-    }
-
-    /// Whether a character begins at `at`, or the text ends there.
-    pub(crate) fn is_boundary(&self, at: usize) -> bool
-        ensures { result ≡ boundary self.now.text at }
-    {
-        self.as_str().is_char_boundary(at)
     }
 
     /// The offset at which the text ends.

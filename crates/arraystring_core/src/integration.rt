@@ -105,8 +105,8 @@ impl<const N: usize> ArrayString<N> {
         Ok(Value::String(String::from_str(alloc, self.as_str())?))
     }
 
-    /// Creates a string from the longest prefix of whole characters of a JSON string that fits.
-    /// One that does not fit is cut without an error; `try_from_value` refuses it.
+    /// Creates a string from the longest prefix of whole characters of a JSON string that fits. A
+    /// JSON string that does not fit is cut without an error; `try_from_value` refuses it.
     ///
     /// # Errors
     ///

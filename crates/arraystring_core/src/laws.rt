@@ -30,7 +30,7 @@ pub fn text_fits<const N: usize>(string: &ArrayString<N>)
     let _ = string.len();
 }
 
-/// The UTF-8 of the text of a string spells that text.
+/// The UTF-8 of a string's text, read as characters, is that text.
 #[inline]
 #[tactic(auto, using(crate::proofs::StoredLaws::text_spelled))]
 pub fn text_spelled<const N: usize>(string: &ArrayString<N>)
@@ -56,16 +56,16 @@ pub fn left_fits<const N: usize>(drained: &Drain<N>)
     let _ = drained.as_str();
 }
 
-/// What comes after characters or pieces that no longer fit changes no cut.
+/// If some characters or pieces no longer fit, what comes after them changes no cut.
 #[tactic(auto, using(crate::proofs::TakenLaws::past_the_room))]
 pub fn what_comes_past_the_room()
     ensures characters { (taken more : List ℕ) (n : ℕ) → n < size taken → cut (taken ++ more) n ≡ cut taken n }
     ensures pieces { (taken more : List (List ℕ)) (n : ℕ) → n < size (joined taken) → cut (joined (taken ++ more)) n ≡ cut (joined taken) n }
 {}
 
-/// The text whose bytes are those of the pieces, one after the other, is the pieces joined, and so
-/// has the same cuts. So `from_iterator` of pieces is `from_str_truncate` of the text that they
-/// make.
+/// If the bytes of `whole` are the bytes of the pieces, one after the other, then `whole` is the
+/// pieces joined, and has the same cuts. So `from_iterator` of pieces does what `from_str_truncate`
+/// of the joined pieces does.
 #[tactic(auto, using(crate::proofs::TakenLaws::bytes_joined))]
 pub fn pieces_make_one_text(whole: &str)
     ensures text { (pieces : List (List ℕ)) → whole.now ≡ joined (map bytes pieces) → chars whole.now ≡ joined pieces }
@@ -81,16 +81,17 @@ pub fn units_read_back()
     ensures lossy { (t : List ℕ) (n : ℕ) (items : List Unit16) → IsText t → size t ≤ n → IsReading (text_units t) items → cut (lossy_text items) n ≡ t }
 {}
 
-/// What a pop leaves, followed by the character that it returns, is the text before. Of the empty
-/// text it returns `None`, and the text stays empty.
+/// The text before a pop is what the pop leaves, followed by the character that it returns. If the
+/// text is empty, a pop returns `None`, and the text stays empty.
 #[tactic(auto, using(crate::proofs::EditLaws::popped))]
 pub fn popped()
     ensures last { (front : List ℕ) (ch : ℕ) → ((popping (front ++ ch ∷ [])).result ≡ Some ch) × ((popping (front ++ ch ∷ [])).after ≡ front) }
     ensures empty { ((popping []).result ≡ None) × ((popping []).after ≡ []) }
 {}
 
-/// A text is some characters that pass, then what is left by the trim of all that pass at its ends,
-/// then some characters that pass. What is left neither begins nor ends with one that passes.
+/// Trim all characters that pass a test from both ends of a text. The text before was some
+/// characters that pass, then what the trim leaves, then some characters that pass. What it leaves
+/// neither begins nor ends with a character that passes.
 pub fn trimmed()
     ensures dropped { (passes : ℕ → Bool) (t : List ℕ) → (before behind : List ℕ) × All (λ c. IsTrue (passes c)) before × All (λ c. IsTrue (passes c)) behind × (t ≡ before ++ ((trimming passes t).after ++ behind)) }
     ensures bare { (passes : ℕ → Bool) (t : List ℕ) → IfSome (first_of (trimming passes t).after) (λ c. passes c ≡ false) × IfSome (last_of (trimming passes t).after) (λ c. passes c ≡ false) }
@@ -102,16 +103,16 @@ pub fn white_space()
     ensures { (c : ℕ) → is_white_space c ≡ is_whitespace c }
 {}
 
-/// If a split is not refused, the text that it keeps, followed by the part that it returns, is the
-/// text before.
+/// If a split is not refused, the text before it is the text that it keeps, followed by the part
+/// that it returns.
 #[tactic(auto, using(arraystring_base::proofs::BoundaryLaws::parts))]
 pub fn split_back()
     ensures { (t : List ℕ) (i : ℕ) → first_cause (split t i).tests ≡ None → (split t i).after ++ (split t i).result ≡ t }
 {}
 
-/// What is replaced can be put back. If a replacement in a text that fits `n` bytes is not refused,
-/// neither is the replacement of what was given by what was taken out, and it leaves the text
-/// before.
+/// What is replaced can be put back. Suppose that a replacement in a text that fits `n` bytes is
+/// not refused. Then replace what was given by what was taken out: that is not refused either, and
+/// leaves the text before.
 pub fn replaced_back()
     ensures allowed { (t given : List ℕ) (start end n : ℕ) → size t ≤ n →
         first_cause (replacement t start end given n).tests ≡ None →
@@ -120,10 +121,10 @@ pub fn replaced_back()
         (replacement (replacement t start end given n).after start (start + size given) (part t start end) n).after ≡ t }
 {}
 
-/// An iterator that is asked at both ends in any mix gives each character at most once: what came
-/// from the front, then what is left, then what came from the back in reversed order, joined, are
-/// all its characters. Each step, at either end, takes one while one is left. So after as many steps
-/// as there are characters nothing is left, and a step then gives nothing.
+/// Steps at both ends of an iterator, in any mix, give each character at most once. Its characters
+/// are what came from the front, then what is left, then what came from the back in reversed order.
+/// While a character is left, each step takes one. So after as many steps as there are characters
+/// nothing is left, and a step then gives nothing.
 pub fn walks()
     ensures whole { (ends : List End) (t : List ℕ) → (walked ends t).fronts ++ ((walked ends t).left ++ reverse (walked ends t).backs) ≡ t }
     ensures each { (ends : List End) (t : List ℕ) → length (walked ends t).left ≡ length t - length ends }
@@ -131,8 +132,8 @@ pub fn walks()
     ensures ended { (ends : List End) → walked ends [] ≡ walked [] [] }
 {}
 
-/// The test by which strings are equal holds of texts that are the same, and of no others. So it is
-/// reflexive, symmetric and transitive; and what is equal writes the same to a hasher.
+/// Two strings are equal by `==` if and only if their texts are the same. So `==` is reflexive,
+/// symmetric and transitive, and equal strings write the same to a hasher.
 pub fn equal_texts()
     ensures same { (a b : List ℕ) → IsTrue (pointwise nat_eq a b) ↔ (a ≡ b) }
     ensures reflexive { (a : List ℕ) → IsTrue (pointwise nat_eq a a) }
@@ -141,14 +142,15 @@ pub fn equal_texts()
     ensures hashed { (a b : List ℕ) → IsTrue (pointwise nat_eq a b) → fed.str (bytes a) ≡ fed.str (bytes b) }
 {}
 
-/// The JSON text of a text of at most `n` bytes, cut to `n` bytes, is the text.
+/// Make a JSON value of a text of at most `n` bytes. Read back and cut to `n` bytes, it gives that
+/// text.
 #[tactic(auto, using(crate::proofs::JsonLaws::reads_back))]
 pub fn json_reads_back()
     ensures { (t : List ℕ) (n : ℕ) → IsText t → size t ≤ n → text_within (json_text t) n ≡ Some t }
 {}
 
-/// The whole JSON text of a text is the text. What a JSON value gives within `n` bytes is its whole
-/// text cut to `n` bytes, so all of it if it fits.
+/// Make a JSON value of a text. Read back as a whole, it gives that text. What any JSON value gives
+/// within `n` bytes is its whole text cut to `n` bytes. If that fits, it is the whole text.
 #[tactic(auto, using(crate::proofs::JsonLaws::whole))]
 pub fn json_reads_whole()
     ensures back { (t : List ℕ) → IsText t → whole_text (json_text t) ≡ Some t }

@@ -1,4 +1,5 @@
-//! The ends of ranges over `u8`.
+//! The ends of ranges over `u8`. The contracts speak of the bounds that the range's methods return. If
+//! `has_bounds` holds of the range, they are its own; else no contract says which they are.
 ghost use Rattle.std.specs.Prelude.{◌≡◌};
 ghost use Rattle.std.specs.Range.Bound.{start_index, end_index};
 ghost use Rattle.arraystring_core.specs.RangeEnds.{OfReturnedBounds, saturated_start, saturated_end};

@@ -1,9 +1,19 @@
-//! Boundaries of an `ArrayString`. Indices count bytes of UTF-8.
-ghost use Rattle.std.specs.Prelude.{◌↔◌, IsOk, IsTrue};
+//! Boundaries of an `ArrayString`, which are those of its text. Indices count bytes of UTF-8.
+ghost use Rattle.std.specs.Prelude.{◌≡◌, ◌↔◌, IsOk, IsTrue};
 ghost use Rattle.arraystring_base.specs.Text.{boundary};
 
-use crate::array_string::ArrayString;
+use crate::ArrayString;
 use arraystring_base::error::Utf8;
+use arraystring_base::utils::is_boundary;
+
+impl<const N: usize> ArrayString<N> {
+    /// Whether a character begins at `at`, or the text ends there.
+    pub(crate) fn is_boundary(&self, at: usize) -> bool
+        ensures { result ≡ boundary self.now.text at }
+    {
+        is_boundary(self.as_str(), at)
+    }
+}
 
 /// Tests that `idx` is a boundary of `s`, the size of one of its prefixes of whole characters.
 ///

@@ -7,7 +7,7 @@ use Rattle.std.specs.Cmp.Lexicographic.{pointwise}
 use Rattle.std.specs.Str.{IsUtf8}
 use Rattle.arraystring_run.specs.declared.commands.Command.{Command}
 use Rattle.arraystring_run.specs.declared.commands.Command.TheVariants as command
-use Rattle.arraystring_run.specs.Runs.{edit}
+use Rattle.arraystring_run.specs.Runs.{effect}
 use Rattle.arraystring_run.specs.Line.{Argument, Number, Character, Text, word, arguments, space}
 
 -- bytes above the space
@@ -90,15 +90,15 @@ own-kinds : (c : Command) → kinds (named commands (word c) []) ≡ kinds c
 own-kinds command.Pop = refl
 own-kinds _ = refl
 
-own-edit : (c : Command) (t : List ℕ) (n : ℕ) → edit (named commands (word c) (arguments c)) t n ≡ edit c t n
-own-edit command.Pop t n = refl
-own-edit _ t n = refl
+own-effect : (c : Command) (t : List ℕ) (n : ℕ) → effect (named commands (word c) (arguments c)) t n ≡ effect c t n
+own-effect command.Pop t n = refl
+own-effect _ t n = refl
 
 -- a word has one command, so commands that share it need not be compared with one another
 pub same-kinds : (c d : Command) → word c ≡ word d → kinds c ≡ kinds d
 same-kinds c d one = sym (own-kinds c) ∙ ap (λ w. kinds (named commands w [])) one ∙ own-kinds d
 
-pub same-edit : (c d : Command) (t : List ℕ) (n : ℕ) → word c ≡ word d → arguments c ≡ arguments d → edit c t n ≡ edit d t n
-same-edit c d t n one same =
-    sym (own-edit c t n) ∙ ap (λ w. edit (named commands w (arguments c)) t n) one
-    ∙ ap (λ given. edit (named commands (word d) given) t n) same ∙ own-edit d t n
+pub same-effect : (c d : Command) (t : List ℕ) (n : ℕ) → word c ≡ word d → arguments c ≡ arguments d → effect c t n ≡ effect d t n
+same-effect c d t n one same =
+    sym (own-effect c t n) ∙ ap (λ w. effect (named commands w (arguments c)) t n) one
+    ∙ ap (λ given. effect (named commands (word d) given) t n) same ∙ own-effect d t n

@@ -1,21 +1,21 @@
 -- When two runs of the same commands agree.
 use Rattle.std.specs.Prelude.{◌≡◌, ◌≤◌, ⊤, ℕ, List, [], ◌∷◌, take, Option, Some, None}
-use Rattle.arraystring_run.specs.Runs.{Said}
+use Rattle.arraystring_run.specs.Runs.{ReplyView}
 use Rattle.arraystring_run.specs.declared.commands.Command.{Command}
 use Rattle.arraystring_run.specs.declared.commands.Command.TheVariants as command
 
 -- the commands before the first tight one
-abbrev pub untight : List Command → Option ℕ → List Command
-untight cs None = cs
-untight cs (Some k) = take k cs
+abbrev pub commands_before : List Command → Option ℕ → List Command
+commands_before cs None = cs
+commands_before cs (Some k) = take k cs
 
 -- two replies to a command are the same; those to `Capacity` are set aside
-abbrev pub Agrees : Command → Said → Said → Type 0
+abbrev pub Agrees : Command → ReplyView → ReplyView → Type 0
 Agrees command.Capacity r s = ⊤
 Agrees _ r s = r ≡ s
 
 -- the replies to each of the commands agree; both lists begin with these replies, and may have more
-abbrev pub AllAgree : List Command → List Said → List Said → Type 0
+abbrev pub AllAgree : List Command → List ReplyView → List ReplyView → Type 0
 AllAgree [] rs ss = ⊤
 AllAgree (c ∷ cs) [] ss = ⊥
 AllAgree (c ∷ cs) (r ∷ rs) [] = ⊥

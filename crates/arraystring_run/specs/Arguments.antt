@@ -7,7 +7,8 @@ use Rattle.arraystring.specs.Text.{IsText, size, bytes}
 
 -- the word is the first argument, whose bytes are the first of `first` by its count, and there is no second; every text of at
 -- most 255 bytes that is alone is the word
-pub record IsOnlyWord (count : Result ℕ FillError) (first : List ℕ) (second : Result ℕ FillError) (word : Option Stored) : Type 0 where
+pub record IsOnlyWord (count : Result ℕ FillError) (first : List ℕ) (second : Result ℕ FillError) (word : Option Stored)
+    : Type 0 where
   pub text : IfSome word (λ w. (n : ℕ) × (count ≡ Ok n) × (bytes w.text ≡ take n first))
   pub alone : IsSome word → second ≡ Err NotPresent
   pub whole : (t : List ℕ) (n : ℕ) → IsText t → size t ≤ 255 → count ≡ Ok n → n ≤ length first

@@ -86,7 +86,8 @@ space = 0x20
 -- the bytes spell each argument after one space, and nothing else
 abbrev pub AreSpelled : List ℕ → List Argument → Type 0
 AreSpelled bs [] = bs ≡ []
-AreSpelled bs (a ∷ rest) = (first : List ℕ) × (others : List ℕ) × (bs ≡ space ∷ (first ++ others)) × IsSpelled first a × AreSpelled others rest
+AreSpelled bs (a ∷ rest) =
+    (first : List ℕ) × (others : List ℕ) × (bs ≡ space ∷ (first ++ others)) × IsSpelled first a × AreSpelled others rest
 
 -- the bytes are a line of a command: its word, and then its arguments (docs/scripts.md, Lines)
 abbrev pub IsLineOf : List ℕ → Command → Type 0

@@ -22,7 +22,8 @@ abbrev pub IsPartPlayed : List ℕ → ℕ → Option (List ℕ) → Option (Lis
 IsPartPlayed input n old new = (cs : List Command) × AreLinesOf (lines input) cs × AppendsPrefix old new (run_printed cs n)
 
 -- what came of a script that was to be played at the capacity n, as `play` says it
-pub record IsOutcome (n : ℕ) (given old new : Option (List ℕ)) (SameOutput : Type 0) (played : Result (Unit {0}) PlayFault) : Type 0 where
+pub record IsOutcome (n : ℕ) (given old new : Option (List ℕ)) (SameOutput : Type 0) (played : Result (Unit {0}) PlayFault)
+    : Type 0 where
   pub whole : OnOk played (IfSome given (λ input. IsPlayed input n old new))
   pub bad_line : IfErr played (λ e. IfBadLine e (λ k. IfSome given (λ input. IsBadAt (lines input) k)))
   pub unwritten : IfErr played (λ e. e ≢ Write → SameOutput)

@@ -2,12 +2,12 @@
 use Rattle.std.specs.Prelude.{ℕ, List, [], ◌∷◌, ◌++◌, codes, decimal}
 use Rattle.arraystring.specs.Names.{error_name}
 use Rattle.arraystring.specs.Text.{utf8, bytes}
-use Rattle.arraystring_run.specs.Runs.{after, Said, Done, Char, NoChar, Text, NoText, Number, Refused}
-use Rattle.arraystring_run.specs.ScriptLines.{ended}
+use Rattle.arraystring_run.specs.Runs.{after, ReplyView, Done, Char, NoChar, Text, NoText, Number, Refused}
+use Rattle.arraystring_run.specs.ScriptLines.{with_newline}
 use Rattle.arraystring_run.specs.declared.commands.Command.{Command}
 
 -- the line of a reply, without its line feed
-abbrev pub printed : Said → List ℕ
+abbrev pub printed : ReplyView → List ℕ
 printed Done = codes "done"
 printed (Char c) = codes "char " ++ utf8 c
 printed NoChar = codes "no char"
@@ -17,13 +17,13 @@ printed (Number n) = codes "number " ++ decimal n
 printed (Refused e) = codes "refused " ++ error_name e
 
 -- the lines of replies, each with its line feed
-abbrev pub replies_printed : List Said → List ℕ
+abbrev pub replies_printed : List ReplyView → List ℕ
 replies_printed [] = []
-replies_printed (r ∷ rs) = ended (printed r) ++ replies_printed rs
+replies_printed (r ∷ rs) = with_newline (printed r) ++ replies_printed rs
 
 -- the lines of replies, and then that of the last text, each with its line feed
-abbrev pub all_printed : List Said → List ℕ → List ℕ
-all_printed rs t = replies_printed rs ++ ended (codes "final " ++ bytes t)
+abbrev pub all_printed : List ReplyView → List ℕ → List ℕ
+all_printed rs t = replies_printed rs ++ with_newline (codes "final " ++ bytes t)
 
 -- the printed lines of a run from the empty text at the capacity n
 abbrev pub run_printed : List Command → ℕ → List ℕ

@@ -3,7 +3,7 @@ use Rattle.std.specs.Prelude.{◌≡◌, ◌≢◌, ◌≤◌, ◌⊎◌, ℕ, L
 use Rattle.std.specs.Borrow.{Bor}
 use Rattle.std.specs.Cmp.Lexicographic.{pointwise}
 use Rattle.arraystring_run.specs.Player.{IsPlayed, IsPartPlayed}
-use Rattle.arraystring_run.specs.ScriptLines.{ended, lines, IsBadAt}
+use Rattle.arraystring_run.specs.ScriptLines.{with_newline, lines, IsBadAt}
 use Rattle.arraystring_run.specs.Writing.{AppendsPrefix}
 use Rattle.arraystring_run.specs.declared.player.PlayFault.{PlayFault}
 use Rattle.arraystring_run.specs.declared.player.PlayFault.TheVariants.{BadLine, Memory, Read, Write}
@@ -34,25 +34,26 @@ status_of (Err Write) = 4
 
 -- the line that says how a program is called
 abbrev pub usage_line : List ℕ
-usage_line = ended (codes "usage: arraystring_run small or cache or max")
+usage_line = with_newline (codes "usage: arraystring_run small or cache or max")
 
 -- the line of a fault (docs/scripts.md, Exit status)
 abbrev pub fault_line : PlayFault → List ℕ
-fault_line (BadLine k) = ended (codes "bad line " ++ decimal k)
-fault_line Memory = ended (codes "out of memory")
-fault_line Read = ended (codes "read failed")
-fault_line Write = ended (codes "write failed")
+fault_line (BadLine k) = with_newline (codes "bad line " ++ decimal k)
+fault_line Memory = with_newline (codes "out of memory")
+fault_line Read = with_newline (codes "read failed")
+fault_line Write = with_newline (codes "write failed")
 
 -- what is said of a script that was played, or not
 abbrev pub report_of : {A : Type 0} → Result A PlayFault → List ℕ
 report_of (Ok _) = []
 report_of (Err e) = fault_line e
 
--- what a program did that was given a word, by the exit status: what was written to its output and its errors, and which of input,
--- output and errors are as before
+-- what a program did that was given a word, by the exit status: what was written to its output and its errors, and which of
+-- input, output and errors are as before
 pub record IsServed (word : Option (Bor (List ℕ))) (given old new errors_old errors_new : Option (List ℕ))
     (SameInput SameOutput SameErrors : Type 0) (status : ℕ) : Type 0 where
-  pub other_word : capacity_named word ≡ None → (status ≡ 2) × SameInput × SameOutput × AppendsPrefix errors_old errors_new usage_line
+  pub other_word : capacity_named word ≡ None
+      → (status ≡ 2) × SameInput × SameOutput × AppendsPrefix errors_old errors_new usage_line
   pub played : IfSome (capacity_named word) (λ n. status ≡ 0 → IfSome given (λ input. IsPlayed input n old new))
   pub bad_line : IfSome (capacity_named word) (λ _. status ≡ 2
       → (k : ℕ) × IfSome given (λ input. IsBadAt (lines input) k) × AppendsPrefix errors_old errors_new (fault_line (BadLine k)))

@@ -1,4 +1,4 @@
--- What commands do to a text: each edits a list of characters and gets a reply.
+-- The effects of commands: each edits a list of characters and gets a reply.
 use Rattle.std.specs.Prelude.{◌≡◌, ℕ, ◌+◌, ◌-◌, ◌==◌, ◌&&◌, List, [], ◌∷◌, ◌++◌, length, Bool, true, false, not, Option, Some, None, is_none, Result, Ok, Err, if◌then◌else◌, nat_lt, min, chars, reverse}
 use Rattle.std.specs.List.{filter}
 use Rattle.arraystring.specs.Text.{size, cut}
@@ -10,54 +10,54 @@ use Rattle.arraystring_run.specs.declared.commands.Reply.{Reply}
 use Rattle.arraystring_run.specs.declared.commands.Reply.TheVariants as reply
 
 -- a reply as contracts see it: a string in it by its text
-pub data Said : Type 0 where
-  Done : Said
-  Char : ℕ → Said
-  NoChar : Said
-  Text : List ℕ → Said
-  NoText : Said
-  Number : ℕ → Said
-  Refused : Error → Said
+pub data ReplyView : Type 0 where
+  Done : ReplyView
+  Char : ℕ → ReplyView
+  NoChar : ReplyView
+  Text : List ℕ → ReplyView
+  NoText : ReplyView
+  Number : ℕ → ReplyView
+  Refused : Error → ReplyView
 
 -- what contracts see of a reply
-abbrev pub said : {N : ℕ} → Reply N → Said
-said reply.Done = Done
-said (reply.Char c) = Char c
-said reply.NoChar = NoChar
-said (reply.Text s) = Text s.text
-said reply.NoText = NoText
-said (reply.Number n) = Number n
-said (reply.Refused e) = Refused e
+abbrev pub view_of : {N : ℕ} → Reply N → ReplyView
+view_of reply.Done = Done
+view_of (reply.Char c) = Char c
+view_of reply.NoChar = NoChar
+view_of (reply.Text s) = Text s.text
+view_of reply.NoText = NoText
+view_of (reply.Number n) = Number n
+view_of (reply.Refused e) = Refused e
 
--- a reply and the text that it leaves
-pub record Edited : Type 0 where
-  pub reply : Said
+-- the effect of a command: its reply, and the text that it leaves
+pub record Effect : Type 0 where
+  pub reply : ReplyView
   pub text : List ℕ
 
--- this reply, and this text that is left
-abbrev pub leaves : Said → List ℕ → Edited
-leaves r t = record { reply = r; text = t }
+-- the effect of this reply and this text
+abbrev pub reply_and_text : ReplyView → List ℕ → Effect
+reply_and_text r t = record { reply = r; text = t }
 
 -- the reply of a result: of its value, or `Refused` with its error
-abbrev pub reply_of : {A : Type 0} → (A → Said) → Result A Error → Said
-reply_of say (Ok value) = say value
-reply_of say (Err e) = Refused e
+abbrev pub reply_of : {A : Type 0} → (A → ReplyView) → Result A Error → ReplyView
+reply_of view (Ok value) = view value
+reply_of view (Err e) = Refused e
 
--- a row of the table of edits, as it is made of t
-abbrev pub made : {A : Type 0} → (A → Said) → Edit A → List ℕ → Edited
-made say row t = leaves (reply_of say (result_of row)) (text_of row t)
+-- the effect on t of a row of the table of edits; `view` makes the reply of its result
+abbrev pub apply : {A : Type 0} → (A → ReplyView) → Edit A → List ℕ → Effect
+apply view row t = reply_and_text (reply_of view (result_of row)) (text_of row t)
 
--- a row with the reply Done
-abbrev pub done : Edit (Unit {0}) → List ℕ → Edited
-done row t = made (λ _. Done) row t
+-- the effect on t of a row that returns nothing: its reply is `Done`
+abbrev pub apply_unit : Edit (Unit {0}) → List ℕ → Effect
+apply_unit row t = apply (λ _. Done) row t
 
 -- the reply `Char`, or `NoChar` if there is none
-abbrev pub char_or_none : Option ℕ → Said
+abbrev pub char_or_none : Option ℕ → ReplyView
 char_or_none None = NoChar
 char_or_none (Some c) = Char c
 
 -- the reply `Text`, or `NoText` if there is none
-abbrev pub text_or_none : Option (List ℕ) → Said
+abbrev pub text_or_none : Option (List ℕ) → ReplyView
 text_or_none None = NoText
 text_or_none (Some t) = Text t
 
@@ -69,31 +69,31 @@ without c t = filter (λ d. not (d == c)) t
 abbrev pub end_through : ℕ → ℕ
 end_through last = min (last + 1) 255
 
--- what a command does to t at the capacity n
-abbrev pub edit : Command → List ℕ → ℕ → Edited
-edit (command.TryPush c) t n = done (addition t (c ∷ []) n) t
-edit (command.TryPushStr given) t n = done (addition t (chars given.now) n) t
-edit (command.PushStr given) t n = done (addition_of_cut t (chars given.now) n) t
-edit command.Pop t n = made char_or_none (popping t) t
-edit (command.Truncate i) t n = done (truncation t i) t
-edit command.Trim t n = done (trimming is_white_space t) t
-edit (command.Remove i) t n = made Char (removal t i) t
-edit (command.RetainNot c) t n = leaves Done (without c t)
-edit (command.TryInsert i c) t n = done (insertion t i (c ∷ []) n) t
-edit (command.TryInsertStr i given) t n = done (insertion t i (chars given.now) n) t
-edit (command.InsertStr i given) t n = done (insertion_of_cut t i (chars given.now) n) t
-edit (command.SplitOff i) t n = made Text (split t i) t
-edit command.Clear t n = done clearing t
-edit (command.Drain start end) t n = made Text (draining t start end) t
-edit (command.DrainThrough start last) t n = made Text (draining t start (end_through last)) t
-edit (command.DrainBack start end) t n = made (λ removed. Text (reverse removed)) (draining t start end) t
-edit (command.ReplaceRange start end given) t n = done (replacement t start end (chars given.now) n) t
-edit command.Upper t n = done (uppercase t) t
-edit command.Lower t n = done (lowercase t) t
-edit (command.Get start end) t n = leaves (text_or_none (part_in t start end)) t
-edit command.Len t n = leaves (Number (size t)) t
-edit command.Capacity t n = leaves (Number n) t
-edit command.AsStr t n = leaves (Text t) t
+-- the effect of a command on t at the capacity n
+abbrev pub effect : Command → List ℕ → ℕ → Effect
+effect (command.TryPush c) t n = apply_unit (addition t (c ∷ []) n) t
+effect (command.TryPushStr given) t n = apply_unit (addition t (chars given.now) n) t
+effect (command.PushStr given) t n = apply_unit (addition_of_cut t (chars given.now) n) t
+effect command.Pop t n = apply char_or_none (popping t) t
+effect (command.Truncate i) t n = apply_unit (truncation t i) t
+effect command.Trim t n = apply_unit (trimming is_white_space t) t
+effect (command.Remove i) t n = apply Char (removal t i) t
+effect (command.RetainNot c) t n = reply_and_text Done (without c t)
+effect (command.TryInsert i c) t n = apply_unit (insertion t i (c ∷ []) n) t
+effect (command.TryInsertStr i given) t n = apply_unit (insertion t i (chars given.now) n) t
+effect (command.InsertStr i given) t n = apply_unit (insertion_of_cut t i (chars given.now) n) t
+effect (command.SplitOff i) t n = apply Text (split t i) t
+effect command.Clear t n = apply_unit clearing t
+effect (command.Drain start end) t n = apply Text (draining t start end) t
+effect (command.DrainThrough start last) t n = apply Text (draining t start (end_through last)) t
+effect (command.DrainBack start end) t n = apply (λ removed. Text (reverse removed)) (draining t start end) t
+effect (command.ReplaceRange start end given) t n = apply_unit (replacement t start end (chars given.now) n) t
+effect command.Upper t n = apply_unit (uppercase t) t
+effect command.Lower t n = apply_unit (lowercase t) t
+effect (command.Get start end) t n = reply_and_text (text_or_none (part_in t start end)) t
+effect command.Len t n = reply_and_text (Number (size t)) t
+effect command.Capacity t n = reply_and_text (Number n) t
+effect command.AsStr t n = reply_and_text (Text t) t
 
 -- whether a result is the refusal of an index past the text, or of a result that does not fit
 abbrev pub is_out_of_bounds : {A : Type 0} → Result A Error → Bool
@@ -118,31 +118,31 @@ abbrev pub adds_less : List ℕ → List ℕ → ℕ → Bool
 adds_less t given n = nat_lt (size (cut given (n - size t))) (size given)
 
 -- whether a command is refused for `Room`, or adds less than all of what it is given
-abbrev pub tight : Command → List ℕ → ℕ → Bool
-tight (command.TryPush c) t n = lacks_room (addition t (c ∷ []) n)
-tight (command.TryPushStr given) t n = lacks_room (addition t (chars given.now) n)
-tight (command.PushStr given) t n = adds_less t (chars given.now) n
-tight (command.TryInsert i c) t n = lacks_room (insertion t i (c ∷ []) n)
-tight (command.TryInsertStr i given) t n = lacks_room (insertion t i (chars given.now) n)
-tight (command.InsertStr i given) t n = is_made (insertion_of_cut t i (chars given.now) n) && adds_less t (chars given.now) n
-tight (command.ReplaceRange start end given) t n = lacks_room (replacement t start end (chars given.now) n)
-tight _ t n = false
+abbrev pub is_tight : Command → List ℕ → ℕ → Bool
+is_tight (command.TryPush c) t n = lacks_room (addition t (c ∷ []) n)
+is_tight (command.TryPushStr given) t n = lacks_room (addition t (chars given.now) n)
+is_tight (command.PushStr given) t n = adds_less t (chars given.now) n
+is_tight (command.TryInsert i c) t n = lacks_room (insertion t i (c ∷ []) n)
+is_tight (command.TryInsertStr i given) t n = lacks_room (insertion t i (chars given.now) n)
+is_tight (command.InsertStr i given) t n = is_made (insertion_of_cut t i (chars given.now) n) && adds_less t (chars given.now) n
+is_tight (command.ReplaceRange start end given) t n = lacks_room (replacement t start end (chars given.now) n)
+is_tight _ t n = false
 
 -- the replies and the last text of a run of commands, each on the text that the one before left
-pub record Ran : Type 0 where
-  pub replies : List Said
+pub record RunResult : Type 0 where
+  pub replies : List ReplyView
   pub text : List ℕ
 
 -- the replies of a run of commands at the capacity n, and the text that it leaves of t
-abbrev pub after : List Command → List ℕ → ℕ → Ran
+abbrev pub after : List Command → List ℕ → ℕ → RunResult
 after [] t n = record { replies = []; text = t }
 after (c ∷ cs) t n =
-    let rest = after cs (edit c t n).text n in record { replies = (edit c t n).reply ∷ rest.replies; text = rest.text }
+    let rest = after cs (effect c t n).text n in record { replies = (effect c t n).reply ∷ rest.replies; text = rest.text }
 
 -- the position of the first tight command, if the first command is at k
 abbrev pub first_tight_from : ℕ → List Command → List ℕ → ℕ → Option ℕ
 first_tight_from k [] t n = None
-first_tight_from k (c ∷ cs) t n = if tight c t n then Some k else first_tight_from (k + 1) cs (edit c t n).text n
+first_tight_from k (c ∷ cs) t n = if is_tight c t n then Some k else first_tight_from (k + 1) cs (effect c t n).text n
 
 -- the first position, or else the next
 abbrev pub earlier_of : Option ℕ → Option ℕ → Option ℕ
@@ -152,12 +152,12 @@ earlier_of (Some k) next = Some k
 -- no command is tight on the text that those before it leave
 abbrev pub NoneTight : List Command → List ℕ → ℕ → Type 0
 NoneTight cs t n = (before : List Command) (c : Command) (later : List Command) → cs ≡ before ++ c ∷ later
-    → tight c (after before t n).text n ≡ false
+    → is_tight c (after before t n).text n ≡ false
 
 -- the command at position k is tight on the text that those before it leave, and none of these is tight
 abbrev pub IsFirstTight : List Command → List ℕ → ℕ → ℕ → Type 0
 IsFirstTight cs t n k = (before : List Command) × (c : Command) × (later : List Command) × (cs ≡ before ++ c ∷ later)
-    × (k ≡ length before) × (tight c (after before t n).text n ≡ true) × NoneTight before t n
+    × (k ≡ length before) × (is_tight c (after before t n).text n ≡ true) × NoneTight before t n
 
 -- whether some text refuses a command, at some capacity
 abbrev pub is_refusable : Command → Bool

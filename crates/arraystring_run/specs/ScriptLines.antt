@@ -8,13 +8,13 @@ abbrev pub line_feed : ℕ
 line_feed = 0x0A
 
 -- a line with its line feed
-abbrev pub ended : List ℕ → List ℕ
-ended bs = bs ++ line_feed ∷ []
+abbrev pub with_newline : List ℕ → List ℕ
+with_newline bs = bs ++ line_feed ∷ []
 
 -- lines with their line feeds, joined
-abbrev pub all_ended : List (List ℕ) → List ℕ
-all_ended [] = []
-all_ended (line ∷ rest) = ended line ++ all_ended rest
+abbrev pub joined_lines : List (List ℕ) → List ℕ
+joined_lines [] = []
+joined_lines (line ∷ rest) = with_newline line ++ joined_lines rest
 
 -- no byte is a line feed
 abbrev pub IsOneLine : List ℕ → Type 0
@@ -31,20 +31,20 @@ abbrev pub first_byte : ℕ → List (List ℕ) → List (List ℕ)
 first_byte b [] = (b ∷ []) ∷ []
 first_byte b (line ∷ rest) = (b ∷ line) ∷ rest
 
--- the lines of an input, without their line feeds (`lines_of_input`); the last may lack its own, an empty input has no line, and a
--- line feed alone is one empty line
+-- the lines of an input, without their line feeds (`lines_of_input`); the last may lack its own, an empty input has no line,
+-- and a line feed alone is one empty line
 abbrev pub lines : List ℕ → List (List ℕ)
 lines [] = []
 lines (b ∷ bs) = if b == line_feed then [] ∷ lines bs else first_byte b (lines bs)
 
--- each line is that of the command beside it (`one_reading`)
+-- each line is the line of the command at the same position (`one_reading`)
 abbrev pub AreLinesOf : List (List ℕ) → List Command → Type 0
 AreLinesOf [] [] = ⊤
 AreLinesOf [] (c ∷ cs) = ⊥
 AreLinesOf (line ∷ rest) [] = ⊥
 AreLinesOf (line ∷ rest) (c ∷ cs) = IsLineOf line c × AreLinesOf rest cs
 
--- line k, counted from 1, is that of no command, and the lines before it are those of commands (`one_bad_line`)
+-- line k, counted from 1, is no command, and each line before it is one (`one_bad_line`)
 pub record IsBadAt (all : List (List ℕ)) (k : ℕ) : Type 0 where
   pub front : List (List ℕ)
   pub commands : List Command

@@ -1,4 +1,4 @@
-//! The arguments of a program, and the word that it is given by them.
+//! The arguments of a program, and the word that they give it.
 ghost use Rattle.std.specs.Prelude.{ℕ, ⊤, List, Result};
 ghost use Rattle.std.specs.declared.env.FillError.{FillError as Fault};
 ghost use Rattle.arraystring_run.specs.Arguments.{IsOnlyWord};
@@ -6,11 +6,11 @@ ghost use Rattle.arraystring_run.specs.Arguments.{IsOnlyWord};
 use arraystring::MaxString;
 use std::env::{Env, FillError};
 
-/// The arguments of a program. The kit's `Env` does not say what its calls return; this trait names
-/// it, so that a contract can speak of it. A contract over it says no more than the impl does: of an
-/// `Env` nothing is known, and that its arguments are read is only tested.
+/// The arguments of a program. The contracts of the kit's `Env` do not say what its calls return. This
+/// trait has a name for it, so that a contract can speak of it. Of an `Env` still nothing is known: that
+/// its arguments are read is only tested.
 pub trait Arguments {
-    /// What may be returned for the argument of an index, and what is in the buffer then.
+    /// What may be returned for the argument of an index, and what the buffer may then have.
     ghost gives: { Self → ℕ → Result ℕ Fault → List ℕ → Type 0 };
 
     /// Copies the argument `index` into the buffer and returns its length. Argument 0 is the
@@ -19,9 +19,9 @@ pub trait Arguments {
         ensures { gives self.now index result buffer.new };
 }
 
-/// Whatever the environment returns. No clause says that it is asked: an impl that never has an argument
-/// would prove too. `crates/arraystring_run_tests` asks environments of its own, in `program` and `words`,
-/// and `crates/arraystring_cli/try` gives the built program its arguments.
+/// Whatever the environment returns. No clause says that it is asked: an impl that never returns an
+/// argument would prove, too. So tests show it: `program` and `words` of `crates/arraystring_run_tests` ask
+/// environments of their own, and `crates/arraystring_cli/try` gives the built program its arguments.
 impl<E: Env> Arguments for E {
     ghost gives = { λ _ _ _ _. ⊤ };
 
@@ -30,14 +30,16 @@ impl<E: Env> Arguments for E {
     }
 }
 
-/// The word that the program was given: its only argument, if that is UTF-8. It takes no memory, so
-/// an argument of more than 255 bytes counts as none. No capacity has so long a name.
+/// Returns the only argument of the program, or `None` if there is none, if there are more,
+/// or if it is not UTF-8. An argument of more than 255 bytes counts as none, since the call allocates nothing. No
+/// capacity has so long a name.
 ///
-/// The contract is relative to what `arguments` gives (`gives`). Of an environment it says nothing
-/// (`⊤`), so for a program it is only tested that the word is the argument.
+/// The contract speaks of what `arguments` gives (`gives`). An environment may give anything (`⊤`), so
+/// for a program it is only tested that the word is the argument.
 pub fn given_word<A: Arguments>(arguments: &A) -> Option<MaxString>
-    ensures { (count : Result ℕ Fault) × (first : List ℕ) × (second : Result ℕ Fault) × (rest : List ℕ) × A.gives arguments.now 1 count first
-        × A.gives arguments.now 2 second rest × IsOnlyWord count first second result }
+    ensures { (count : Result ℕ Fault) × (first : List ℕ) × (second : Result ℕ Fault) × (rest : List ℕ)
+        × A.gives arguments.now 1 count first × A.gives arguments.now 2 second rest
+        × IsOnlyWord count first second result }
 {
     let mut first = [0u8; 255];
     let count = arguments.argument(1, &mut first);

@@ -7,21 +7,24 @@ use crate::writing::write_once;
 use std::io;
 use std::io::{ErrorKind, Write};
 
-/// A writer, and the bytes that wait to be written to it. The memory for these is there before the
-/// writer is given, so a writer is never lost for want of it. Nothing is written when it is dropped.
+/// A writer with a buffer: bytes wait in the buffer until they are written. The buffer is allocated before
+/// the writer is passed in, so the writer is never lost when memory runs out. If a `Buffered` is dropped,
+/// the bytes that wait are not written.
 #[derive(Drop)]
 pub struct Buffered<O> {
-    /// Where the bytes go.
+    /// The writer.
     pub output: O,
-    /// The bytes that wait. Its capacity is what may wait at most.
+    /// The bytes that wait to be written. At most as many can wait as this vector has room for.
     pub waiting: Vec<u8>,
 }
 
 impl<O: Write> Buffered<O> {
-    /// Writes what waits. If a write fails, what is not written still waits.
+    /// Writes the bytes that wait. If a write fails, the bytes that are not written still wait.
     fn send(&mut self) -> io::Result<()>
         ensures sent { OnOk result (self.new.waiting.items ≡ []) }
-        ensures kept { Keeps (append_known (O.contents self.old.output) self.old.waiting.items) (append_known (O.contents self.new.output) self.new.waiting.items) }
+        ensures kept { Keeps
+            (append_known (O.contents self.old.output) self.old.waiting.items)
+            (append_known (O.contents self.new.output) self.new.waiting.items) }
         ensures room { vec_capacity self.old.waiting ≤ vec_capacity self.new.waiting }
     {
         for _ in 0..u64::MAX {
@@ -40,7 +43,10 @@ impl<O: Write> Buffered<O> {
     #[inline(never)]
     fn fill_or_send(&mut self, bytes: &[u8]) -> io::Result<usize>
         ensures bound { WritesAtMost result bytes.now }
-        ensures bytes { WriteAppends (append_known (O.contents self.old.output) self.old.waiting.items) (append_known (O.contents self.new.output) self.new.waiting.items) result bytes.now }
+        ensures bytes { WriteAppends
+            (append_known (O.contents self.old.output) self.old.waiting.items)
+            (append_known (O.contents self.new.output) self.new.waiting.items)
+            result bytes.now }
         ensures unsent { vec_len self.old.waiting < vec_capacity self.old.waiting → self.new.output ≡ self.old.output }
         ensures room { vec_capacity self.old.waiting ≤ vec_capacity self.new.waiting }
     {
@@ -59,18 +65,24 @@ impl<O: Write> Buffered<O> {
     }
 }
 
-/// What waits is written behind what the writer has.
+/// In contracts the bytes of a `Buffered` are the bytes that the writer has, followed by the bytes
+/// that wait.
 impl<O: Write> Write for Buffered<O> {
     ghost contents = { λ buffered. append_known (O.contents buffered.output) buffered.waiting.items };
 
-    /// Sends nothing while there is room: what there is room for waits, and that is taken alone.
+    /// Puts as many bytes as there is room for into the buffer, and returns how many. If there is no room,
+    /// it first writes what waits.
     #[inline(always)]
     fn write(&mut self, bytes: &[u8]) -> io::Result<usize>
         ensures bound { WritesAtMost result bytes.now }
-        ensures bytes { WriteAppends (append_known (O.contents self.old.output) self.old.waiting.items) (append_known (O.contents self.new.output) self.new.waiting.items) result bytes.now }
+        ensures bytes { WriteAppends
+            (append_known (O.contents self.old.output) self.old.waiting.items)
+            (append_known (O.contents self.new.output) self.new.waiting.items)
+            result bytes.now }
         ensures unsent { vec_len self.old.waiting < vec_capacity self.old.waiting → self.new.output ≡ self.old.output }
         ensures waits { vec_len self.old.waiting + length bytes.now ≤ vec_capacity self.old.waiting
-            → (result ≡ Ok (length bytes.now)) × (self.new.output ≡ self.old.output) × (self.new.waiting.items ≡ self.old.waiting.items ++ bytes.now) }
+            → (result ≡ Ok (length bytes.now)) × (self.new.output ≡ self.old.output)
+            × (self.new.waiting.items ≡ self.old.waiting.items ++ bytes.now) }
         ensures room { vec_capacity self.old.waiting ≤ vec_capacity self.new.waiting }
     {
         if bytes.len() > self.waiting.capacity() - self.waiting.len() {
@@ -80,9 +92,11 @@ impl<O: Write> Write for Buffered<O> {
         Ok(bytes.len())
     }
 
-    /// Writes what waits, and flushes the writer, also if nothing waits.
+    /// Writes what waits, and then flushes the writer, even if nothing waited.
     fn flush(&mut self) -> io::Result<()>
-        ensures bytes { Keeps (append_known (O.contents self.old.output) self.old.waiting.items) (append_known (O.contents self.new.output) self.new.waiting.items) }
+        ensures bytes { Keeps
+            (append_known (O.contents self.old.output) self.old.waiting.items)
+            (append_known (O.contents self.new.output) self.new.waiting.items) }
         ensures sent { OnOk result (self.new.waiting.items ≡ []) }
         ensures room { vec_capacity self.old.waiting ≤ vec_capacity self.new.waiting }
     {

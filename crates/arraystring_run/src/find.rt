@@ -15,7 +15,7 @@ pub(crate) fn find_byte(wanted: u8, bytes: &[u8]) -> usize
 {
     let mut at = 0;
     while bytes.len() - at >= BLOCK {
-        let before = before_in_block(wanted, bytes, at);
+        let before = position_in_block(wanted, bytes, at);
         at += before;
         if before < BLOCK {
             return at;
@@ -29,7 +29,7 @@ pub(crate) fn find_byte(wanted: u8, bytes: &[u8]) -> usize
 
 /// How many of the 16 bytes from `at` on come before the first that is `wanted`.
 #[inline(always)]
-fn before_in_block(wanted: u8, bytes: &[u8], at: usize) -> usize
+fn position_in_block(wanted: u8, bytes: &[u8], at: usize) -> usize
     requires { at + 16 ≤ length bytes.now }
     ensures at_most { result ≤ 16 }
     ensures found { result < 16 → slice_index bytes.now (at + result) ≡ wanted }

@@ -1,5 +1,6 @@
-//! Commands that edit a string of bounded size: runs of them, and scripts that are played. `program`
-//! has what the `main` of such a player calls. Its tests are in `crates/arraystring_run_tests`.
+//! Commands that edit a string of bounded size. `run` executes a list of commands, and `play` plays a
+//! script of them. The `main` of a player calls what is in `program`. The tests are in
+//! `crates/arraystring_run_tests`.
 #![tactic(auto)]
 
 mod arguments;

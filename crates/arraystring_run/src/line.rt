@@ -8,9 +8,9 @@ use crate::Command;
 use crate::find::find_byte;
 use std::str;
 
-/// Returns the command of a line of a script, given as UTF-8 without its line feed, which borrows
-/// its text from the line. Returns `None` if the line is no command: it is not UTF-8, has another
-/// word or number, or more or less than its word takes.
+/// Returns the command of a line of a script. `line` has no line feed, and the command borrows its text
+/// from it. Returns `None` if the line is no command: it is not UTF-8, its word is not one of those of
+/// docs/scripts.md, an argument has the wrong form, or there is more or less than the word takes.
 pub fn command(line: &[u8]) -> Option<Command<'_>>
     ensures some { IfSome result (λ c. IsLineOf line.now c) }
     ensures none { IfNone result ((c : Command) → IsLineOf line.now c → ⊥) }

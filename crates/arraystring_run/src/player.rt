@@ -23,7 +23,7 @@ pub enum PlayFault {
     Memory,
     /// A read failed.
     Read,
-    /// A write failed, or the flush after the last one. A prefix of the output was written.
+    /// A write failed, or the flush after the last write. A prefix of the output was written.
     Write,
 }
 
@@ -34,33 +34,37 @@ const CHUNK: usize = 8192;
 /// program names.
 const LARGEST: usize = usize::MAX / 4;
 
-/// Plays a script from the empty text: reads it to its end, judges each line, executes the commands,
-/// and writes a line for each reply and one for the last text.
+/// Plays a script on the empty text. It does this in order:
 ///
-/// Nothing is written before the whole script was read and accepted and the run was made, and no
-/// memory is taken after that. A read or a write that was interrupted is tried again.
+/// - It reads the script to its end.
+/// - It reads each line as a command.
+/// - It executes the commands.
+/// - It writes a line for each reply, and one for the last text. From here on it allocates nothing.
+///
+/// A read or a write that was interrupted is tried again.
 ///
 /// # Errors
 ///
-/// The first fault that is met decides:
+/// The first of these that is met is returned:
 ///
-/// - `Err(PlayFault::Read)` if a read fails, or `Err(PlayFault::Memory)` if there is no memory for
-///   the input;
-/// - `Err(PlayFault::BadLine)` if a line is no command, or `Err(PlayFault::Memory)` if there is no
-///   memory for the commands;
-/// - `Err(PlayFault::Memory)` if there is no memory for the run, or if an array of `N` bytes fits
-///   into none;
-/// - `Err(PlayFault::Write)` if a write or the last flush fails. Then a prefix of the output has
-///   gone out, which may be none or all of it.
+/// - `Err(PlayFault::Read)` if a read fails, or `Err(PlayFault::Memory)` if memory runs out for the input;
+/// - `Err(PlayFault::BadLine)` if a line is no command, or `Err(PlayFault::Memory)` if memory runs out for
+///   the commands;
+/// - `Err(PlayFault::Memory)` if memory runs out for the replies, or if no memory could hold an array of
+///   `N` bytes;
+/// - `Err(PlayFault::Write)` if a write or the last flush fails. Then a prefix of the output was written,
+///   which may be none or all of it.
 pub fn play<const N: usize, I: Read, O: Write>(
     alloc: Global,
     input: &mut I,
     output: &mut O,
 ) -> Result<(), PlayFault>
-    ensures played { OnOk result (IfSome (I.remaining input.old) (λ given. IsPlayed given (cap N) (O.contents output.old) (O.contents output.new))) }
+    ensures played { OnOk result (IfSome (I.remaining input.old)
+        (λ given. IsPlayed given (cap N) (O.contents output.old) (O.contents output.new))) }
     ensures bad_line { IfErr result (λ e. IfBadLine e (λ k. IfSome (I.remaining input.old) (λ given. IsBadAt (lines given) k))) }
     ensures unwritten { IfErr result (λ e. e ≢ PlayFault.Write → output.new ≡ output.old) }
-    ensures part_played { IfErr result (λ e. e ≡ PlayFault.Write → IfSome (I.remaining input.old) (λ given. IsPartPlayed given (cap N) (O.contents output.old) (O.contents output.new))) }
+    ensures part_played { IfErr result (λ e. e ≡ PlayFault.Write → IfSome (I.remaining input.old)
+        (λ given. IsPartPlayed given (cap N) (O.contents output.old) (O.contents output.new))) }
     ensures end { OnOk result (IsAtEnd (I.remaining input.new)) }
     ensures end_of_bad { IfErr result (λ e. IfBadLine e (λ _. IsAtEnd (I.remaining input.new))) }
 {
@@ -77,10 +81,12 @@ pub(crate) fn play_unflushed<const N: usize, I: Read, O: Write>(
     input: &mut I,
     output: &mut O,
 ) -> Result<(), PlayFault>
-    ensures played { OnOk result (IfSome (I.remaining input.old) (λ given. IsPlayed given (cap N) (O.contents output.old) (O.contents output.new))) }
+    ensures played { OnOk result (IfSome (I.remaining input.old)
+        (λ given. IsPlayed given (cap N) (O.contents output.old) (O.contents output.new))) }
     ensures bad_line { IfErr result (λ e. IfBadLine e (λ k. IfSome (I.remaining input.old) (λ given. IsBadAt (lines given) k))) }
     ensures unwritten { IfErr result (λ e. e ≢ PlayFault.Write → output.new ≡ output.old) }
-    ensures part_played { IfErr result (λ e. e ≡ PlayFault.Write → IfSome (I.remaining input.old) (λ given. IsPartPlayed given (cap N) (O.contents output.old) (O.contents output.new))) }
+    ensures part_played { IfErr result (λ e. e ≡ PlayFault.Write → IfSome (I.remaining input.old)
+        (λ given. IsPartPlayed given (cap N) (O.contents output.old) (O.contents output.new))) }
     ensures end { OnOk result (IsAtEnd (I.remaining input.new)) }
     ensures end_of_bad { IfErr result (λ e. IfBadLine e (λ _. IsAtEnd (I.remaining input.new))) }
 {
@@ -96,7 +102,8 @@ fn play_commands<const N: usize, O: Write>(
     output: &mut O,
 ) -> Result<(), PlayFault>
     ensures whole { OnOk result (Appends (O.contents output.old) (O.contents output.new) (run_printed commands.now (cap N))) }
-    ensures part { IfErr result (λ e. e ≡ PlayFault.Write → AppendsPrefix (O.contents output.old) (O.contents output.new) (run_printed commands.now (cap N))) }
+    ensures part { IfErr result (λ e. e ≡ PlayFault.Write
+        → AppendsPrefix (O.contents output.old) (O.contents output.new) (run_printed commands.now (cap N))) }
     ensures unwritten { IfErr result (λ e. e ≢ PlayFault.Write → output.new ≡ output.old) }
     ensures no_line { IfErr result (λ e. IfBadLine e (λ _. ⊥)) }
 {

@@ -1,5 +1,5 @@
-//! What a program's `main` calls: a script is played at the capacity of the word that it was given, with
-//! or without a buffer before the output.
+//! What the `main` of a program calls. A script is played on a string whose capacity the program's argument
+//! names. `serve` writes the output directly, and `serve_buffered` through a buffer.
 ghost use Rattle.std.specs.Prelude.{◌≡◌, ◌≢◌, is_some, option_map, ℕ, List, [], None, OnOk, vec_capacity};
 ghost use Rattle.arraystring_run.specs.Writing.{AppendsPrefix};
 ghost use Rattle.arraystring_run.specs.Player.{IsOutcome};
@@ -9,12 +9,12 @@ ghost use Rattle.std.specs.Io.KnownBytes.{append_known};
 pub use crate::arguments::{Arguments, given_word};
 use crate::buffered::Buffered;
 use crate::player::{PlayFault, play_unflushed};
-use crate::printing::put_shown;
-use crate::writing::put;
+use crate::printing::write_line_of;
+use crate::writing::write_text;
 use std::alloc::Global;
 use std::io::{Read, Write};
 
-/// Returns whether a word names a capacity, as `serve` reads it: `small`, `cache` or `max`.
+/// Returns whether a word names a capacity for `serve`: whether it is `small`, `cache` or `max`.
 pub fn names_capacity(word: Option<&str>) -> bool
     ensures { result ≡ is_some (capacity_named word.entry) }
 {
@@ -41,12 +41,16 @@ fn capacity_of(word: Option<&str>) -> Option<Capacity>
     }
 }
 
-/// Plays a script at the capacity of a word, `small` (23), `cache` (63) or `max` (255), and returns
-/// the exit status of the program. The word is judged before anything is read.
+/// Plays a script at the capacity that a word names: `small` (23), `cache` (63) or `max` (255). Returns the
+/// exit status of the program. The word is checked before anything is read.
 ///
-/// If the status is not 0, one line on `errors` says why: 2 for another word, or none, and for a
-/// bad line; 3 if memory ran out; 4 for a read or a write that failed. A fault of `errors` changes
-/// nothing but how much of the line has gone out.
+/// - Status 0: the script was played.
+/// - Status 2: the word is missing or is none of these three, or a line is no command.
+/// - Status 3: memory ran out.
+/// - Status 4: a read or a write failed.
+///
+/// If the status is not 0, one line on `errors` says why. If a write to `errors` fails, only a prefix of
+/// that line is written, and the status is the same.
 pub fn serve<I: Read, O: Write, E: Write>(
     alloc: Global,
     word: Option<&str>,
@@ -54,7 +58,8 @@ pub fn serve<I: Read, O: Write, E: Write>(
     output: &mut O,
     errors: &mut E,
 ) -> u8
-    ensures { IsServed word.entry (I.remaining input.old) (O.contents output.old) (O.contents output.new) (E.contents errors.old) (E.contents errors.new)
+    ensures { IsServed word.entry (I.remaining input.old) (O.contents output.old) (O.contents output.new)
+        (E.contents errors.old) (E.contents errors.new)
         (input.new ≡ input.old) (output.new ≡ output.old) (errors.new ≡ errors.old) result }
 {
     let Some(capacity) = capacity_of(word) else {
@@ -70,7 +75,8 @@ fn play_into<I: Read, O: Write>(
     input: &mut I,
     output: &mut O,
 ) -> Result<(), PlayFault>
-    ensures { IsOutcome (bytes_of capacity) (I.remaining input.old) (O.contents output.old) (O.contents output.new) (output.new ≡ output.old) result }
+    ensures { IsOutcome (bytes_of capacity) (I.remaining input.old)
+        (O.contents output.old) (O.contents output.new) (output.new ≡ output.old) result }
 {
     play_at(alloc, capacity, input, output)?;
     output.flush().map_err(|_| PlayFault::Write)
@@ -84,7 +90,8 @@ fn play_into_buffer<I: Read, O: Write>(
     buffered: &mut Buffered<O>,
 ) -> Result<(), PlayFault>
     ensures played { IsOutcome (bytes_of capacity) (I.remaining input.old)
-        (append_known (O.contents buffered.old.output) buffered.old.waiting.items) (append_known (O.contents buffered.new.output) buffered.new.waiting.items)
+        (append_known (O.contents buffered.old.output) buffered.old.waiting.items)
+        (append_known (O.contents buffered.new.output) buffered.new.waiting.items)
         (buffered.new ≡ buffered.old) result }
     ensures sent { OnOk result (buffered.new.waiting.items ≡ []) }
 {
@@ -99,7 +106,8 @@ fn play_at<I: Read, O: Write>(
     input: &mut I,
     output: &mut O,
 ) -> Result<(), PlayFault>
-    ensures { IsOutcome (bytes_of capacity) (I.remaining input.old) (O.contents output.old) (O.contents output.new) (output.new ≡ output.old) result }
+    ensures { IsOutcome (bytes_of capacity) (I.remaining input.old)
+        (O.contents output.old) (O.contents output.new) (output.new ≡ output.old) result }
 {
     match capacity {
         Capacity::Small => play_unflushed::<23, I, O>(alloc, input, output),
@@ -113,7 +121,7 @@ fn report_usage<E: Write>(errors: &mut E) -> u8
     ensures status { result ≡ 2 }
     ensures line { AppendsPrefix (E.contents errors.old) (E.contents errors.new) usage_line }
 {
-    let _ = put(errors, "usage: arraystring_run small or cache or max\n");
+    let _ = write_text(errors, "usage: arraystring_run small or cache or max\n");
     2
 }
 
@@ -126,19 +134,19 @@ fn report<E: Write>(played: Result<(), PlayFault>, errors: &mut E) -> u8
     match played {
         Ok(()) => 0,
         Err(PlayFault::BadLine(number)) => {
-            let _ = put_shown(errors, "bad line ", number);
+            let _ = write_line_of(errors, "bad line ", number);
             2
         }
         Err(PlayFault::Memory) => {
-            let _ = put(errors, "out of memory\n");
+            let _ = write_text(errors, "out of memory\n");
             3
         }
         Err(PlayFault::Read) => {
-            let _ = put(errors, "read failed\n");
+            let _ = write_text(errors, "read failed\n");
             4
         }
         Err(PlayFault::Write) => {
-            let _ = put(errors, "write failed\n");
+            let _ = write_text(errors, "write failed\n");
             4
         }
     }
@@ -147,10 +155,11 @@ fn report<E: Write>(played: Result<(), PlayFault>, errors: &mut E) -> u8
 /// How many bytes the buffer before the output has room for.
 pub const BUFFER: usize = 8192;
 
-/// Serves a word with a buffer before the output, so that a line costs no system call of its own.
-/// For a word that names no capacity no memory is taken. If there is no memory for a buffer, the
-/// output is not buffered. Returns the output too. After a failed write bytes may wait in the
-/// buffer (`unsent`), which are dropped.
+/// Does what `serve` does, with a buffer before the output: so a line needs no system call of its own.
+/// Returns the status and the output.
+///
+/// If the word names no capacity, nothing is allocated. If memory runs out for the buffer, the output is
+/// not buffered. If a write fails, bytes may still wait in the buffer (`unsent`). They are dropped.
 pub fn serve_buffered<I: Read, O: Write + Drop, E: Write>(
     alloc: Global,
     word: Option<&str>,
@@ -160,10 +169,10 @@ pub fn serve_buffered<I: Read, O: Write + Drop, E: Write>(
 ) -> (u8, O)
     ensures { (unsent : List ℕ) × (result.0 ≢ 4 → unsent ≡ [])
         × IsServed word.entry (I.remaining input.old) (O.contents output) (append_known (O.contents result.1) unsent)
-        (E.contents errors.old) (E.contents errors.new) (input.new ≡ input.old) (result.1 ≡ output) (errors.new ≡ errors.old) result.0 }
+        (E.contents errors.old) (E.contents errors.new)
+        (input.new ≡ input.old) (result.1 ≡ output) (errors.new ≡ errors.old) result.0 }
 {
-    let capacity = capacity_of(word);
-    let waiting = buffer(alloc, capacity);
+    let (capacity, waiting) = capacity_and_buffer(alloc, word);
     let mut buffered = Buffered { output, waiting };
     let status = match capacity {
         Some(capacity) => {
@@ -175,16 +184,18 @@ pub fn serve_buffered<I: Read, O: Write + Drop, E: Write>(
     (status, buffered.output)
 }
 
-/// The room before the output: none if no capacity is named, or if there is no memory. A list without
-/// room has taken no memory.
-fn buffer(alloc: Global, capacity: Option<Capacity>) -> Vec<u8>
-    ensures empty { result.items ≡ [] }
-    ensures none_named { capacity ≡ None → vec_capacity result ≡ 0 }
+/// The capacity that a word names, and the room before the output: none if the word names no capacity,
+/// or if there is no memory. A list without room has taken no memory.
+fn capacity_and_buffer(alloc: Global, word: Option<&str>) -> (Option<Capacity>, Vec<u8>)
+    ensures capacity { option_map bytes_of result.0 ≡ capacity_named word.entry }
+    ensures empty { result.1.items ≡ [] }
+    ensures none_named { capacity_named word.entry ≡ None → vec_capacity result.1 ≡ 0 }
 {
+    let capacity = capacity_of(word);
     if capacity.is_some() {
         if let Ok(waiting) = Vec::with_capacity(alloc, BUFFER) {
-            return waiting;
+            return (capacity, waiting);
         }
     }
-    Vec::new(alloc)
+    (capacity, Vec::new(alloc))
 }

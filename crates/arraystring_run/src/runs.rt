@@ -2,8 +2,8 @@
 ghost use Rattle.std.specs.Prelude.{◌≡◌, ◌+◌, ◌<◌, ◌≤◌, [], ◌∷◌, ◌++◌, length, map, vec_len, vec_capacity, if◌then◌else◌, IfOk, IsOk, OnOk, OnErr, Some, None};
 ghost use Rattle.std.specs.Vec.{vec_ptr};
 ghost use Rattle.arraystring.specs.Text.{cap, size};
-ghost use Rattle.arraystring_run.specs.Runs.{said, edit, tight, after, first_tight_from, earlier_of};
-ghost use Rattle.arraystring_run.specs.Agreement.{untight, AllAgree, IsNoSooner};
+ghost use Rattle.arraystring_run.specs.Runs.{view_of, effect, is_tight, after, first_tight_from, earlier_of};
+ghost use Rattle.arraystring_run.specs.Agreement.{commands_before, AllAgree, IsNoSooner};
 
 use crate::execute::execute;
 use crate::{Command, Reply};
@@ -14,27 +14,27 @@ use std::alloc::{AllocError, Global};
 /// What a run of commands returns.
 #[derive(Drop)]
 pub struct Outcome<const N: usize> {
-    /// One reply a command, in order.
+    /// One reply for each command, in order.
     pub replies: Vec<Reply<N>>,
-    /// The position from 0 of the first tight command: one that was refused because its result did
-    /// not fit, or that added less than all it was given.
+    /// The position of the first tight command, counted from 0. A command is tight if it was refused because
+    /// its result did not fit, or if it added less than all of its text.
     pub first_tight: Option<usize>,
 }
 
 /// Executes the commands in order, each on the text that the one before left.
 ///
-/// Memory is taken for the list of replies alone, before the first command. An empty list of
-/// commands takes none.
+/// Before the first command it allocates the list of replies, and after that nothing. For an empty list of
+/// commands it allocates nothing.
 ///
 /// # Errors
 ///
-/// Returns `Err(AllocError)` if that memory is refused. The text is then as it was.
+/// Returns `Err(AllocError)` if memory runs out. The text is then unchanged.
 pub fn run<const N: usize>(
     alloc: Global,
     text: &mut ArrayString<N>,
     commands: &[Command<'_>],
 ) -> Result<Outcome<N>, AllocError>
-    ensures replies { IfOk result (λ o. map said o.replies.items ≡ (after commands.now text.old.text (cap N)).replies) }
+    ensures replies { IfOk result (λ o. map view_of o.replies.items ≡ (after commands.now text.old.text (cap N)).replies) }
     ensures one_each { IfOk result (λ o. vec_len o.replies ≡ length commands.now) }
     ensures text { OnOk result (text.new.text ≡ (after commands.now text.old.text (cap N)).text) }
     ensures first_tight { IfOk result (λ o. o.first_tight ≡ first_tight_from 0 commands.now text.old.text (cap N)) }
@@ -65,7 +65,7 @@ fn fill<const N: usize>(
 ) -> Option<usize>
     requires empty { vec_len replies.old ≡ 0 }
     requires room { length commands.now ≤ vec_capacity replies.old }
-    ensures replies { map said replies.new.items ≡ (after commands.now text.old.text (cap N)).replies }
+    ensures replies { map view_of replies.new.items ≡ (after commands.now text.old.text (cap N)).replies }
     ensures one_each { vec_len replies.new ≡ length commands.now }
     ensures in_place { vec_ptr replies.new ≡ vec_ptr replies.old }
     ensures text { text.new.text ≡ (after commands.now text.old.text (cap N)).text }
@@ -74,7 +74,7 @@ fn fill<const N: usize>(
     let mut first_tight = None;
     for (position, command) in commands.iter().enumerate() {
         let is_tight = add_reply(text, command, replies);
-        first_tight = earlier(first_tight, is_tight, position);
+        first_tight = earlier_position(first_tight, is_tight, position);
     }
     first_tight
 }
@@ -87,12 +87,13 @@ fn add_reply<const N: usize>(
     replies: &mut Vec<Reply<N>>,
 ) -> bool
     requires { vec_len replies.old < vec_capacity replies.old }
-    ensures reply { map said replies.new.items ≡ map said replies.old.items ++ (edit command.now text.old.text (cap N)).reply ∷ [] }
+    ensures reply { map view_of replies.new.items
+        ≡ map view_of replies.old.items ++ (effect command.now text.old.text (cap N)).reply ∷ [] }
     ensures one_more { vec_len replies.new ≡ vec_len replies.old + 1 }
     ensures room { vec_capacity replies.new ≡ vec_capacity replies.old }
     ensures in_place { vec_ptr replies.new ≡ vec_ptr replies.old }
-    ensures text { text.new.text ≡ (edit command.now text.old.text (cap N)).text }
-    ensures tight { result ≡ tight command.now text.old.text (cap N) }
+    ensures text { text.new.text ≡ (effect command.now text.old.text (cap N)).text }
+    ensures tight { result ≡ is_tight command.now text.old.text (cap N) }
 {
     let (reply, is_tight) = execute(text, *command);
     replies.push_reserved(reply);
@@ -101,33 +102,37 @@ fn add_reply<const N: usize>(
 
 /// Executes the same commands on two strings, as `run` does on each.
 ///
-/// Memory is taken for the two lists of replies alone, before the first command. An empty list of
-/// commands takes none.
+/// Before the first command it allocates both lists of replies, and after that nothing. For an empty list
+/// of commands it allocates nothing.
 ///
-/// From equal texts, if the capacity of `first` is not greater than that of `second`: the replies
-/// to the commands before the one that `first` finds tight first agree, except those to `Capacity`,
-/// and `second` finds none of these commands tight. If `first` finds none tight, neither does
-/// `second`, and the last texts are equal.
+/// Suppose that both texts are equal at first, and that the capacity of `first` is at most that of `second`.
+/// Look at the commands before the first one that is tight on `first`. None of them is tight on `second`, and
+/// both strings give the same replies to them, except to `Capacity`. If no command is tight on `first`, none is
+/// tight on `second`, and the texts are equal at the end.
 ///
 /// # Errors
 ///
-/// Returns `Err(AllocError)` if that memory is refused. Both texts are then as they were.
+/// Returns `Err(AllocError)` if memory runs out. Both texts are then unchanged.
 pub fn run_both<const N: usize, const M: usize>(
     alloc: Global,
     first: &mut ArrayString<N>,
     second: &mut ArrayString<M>,
     commands: &[Command<'_>],
 ) -> Result<(Outcome<N>, Outcome<M>), AllocError>
-    ensures first_replies { IfOk result (λ o. map said o.0.replies.items ≡ (after commands.now first.old.text (cap N)).replies) }
+    ensures first_replies { IfOk result
+        (λ o. map view_of o.0.replies.items ≡ (after commands.now first.old.text (cap N)).replies) }
     ensures first_text { OnOk result (first.new.text ≡ (after commands.now first.old.text (cap N)).text) }
     ensures first_tight { IfOk result (λ o. o.0.first_tight ≡ first_tight_from 0 commands.now first.old.text (cap N)) }
-    ensures second_replies { IfOk result (λ o. map said o.1.replies.items ≡ (after commands.now second.old.text (cap M)).replies) }
+    ensures second_replies { IfOk result
+        (λ o. map view_of o.1.replies.items ≡ (after commands.now second.old.text (cap M)).replies) }
     ensures second_text { OnOk result (second.new.text ≡ (after commands.now second.old.text (cap M)).text) }
     ensures second_tight { IfOk result (λ o. o.1.first_tight ≡ first_tight_from 0 commands.now second.old.text (cap M)) }
-    ensures one_each { IfOk result (λ o. (vec_len o.0.replies ≡ length commands.now) × (vec_len o.1.replies ≡ length commands.now)) }
+    ensures one_each { IfOk result
+        (λ o. (vec_len o.0.replies ≡ length commands.now) × (vec_len o.1.replies ≡ length commands.now)) }
     ensures fits { (size first.new.text ≤ cap N) × (size second.new.text ≤ cap M) }
     ensures agree { first.old.text ≡ second.old.text → cap N ≤ cap M
-        → IfOk result (λ o. AllAgree (untight commands.now o.0.first_tight) (map said o.0.replies.items) (map said o.1.replies.items)) }
+        → IfOk result (λ o. AllAgree (commands_before commands.now o.0.first_tight)
+        (map view_of o.0.replies.items) (map view_of o.1.replies.items)) }
     ensures no_sooner { first.old.text ≡ second.old.text → cap N ≤ cap M
         → IfOk result (λ o. IsNoSooner o.0.first_tight o.1.first_tight) }
     ensures same_text { first.old.text ≡ second.old.text → cap N ≤ cap M
@@ -155,7 +160,7 @@ pub fn run_both<const N: usize, const M: usize>(
 }
 
 /// The first tight position, given whether the one at `position` is tight.
-fn earlier(first: Option<usize>, is_tight: bool, position: usize) -> Option<usize>
+fn earlier_position(first: Option<usize>, is_tight: bool, position: usize) -> Option<usize>
     ensures { result ≡ earlier_of first (if is_tight then Some position else None) }
 {
     match first {

@@ -12,21 +12,21 @@ use std::io::Write;
 /// written.
 // In its caller a constant text is copied without a call. Most writes take all of a text.
 #[inline(always)]
-pub(crate) fn put<O: Write>(output: &mut O, text: &str) -> io::Result<()>
+pub(crate) fn write_text<O: Write>(output: &mut O, text: &str) -> io::Result<()>
     ensures whole { OnOk result (Appends (O.contents output.old) (O.contents output.new) text.now) }
     ensures part { AppendsPrefix (O.contents output.old) (O.contents output.new) text.now }
 {
-    let rest = put_some(output, text.as_bytes())?;
+    let rest = write_some(output, text.as_bytes())?;
     if rest.is_empty() {
         return Ok(());
     }
-    put_rest(output, rest)
+    write_rest(output, rest)
 }
 
 /// Writes the bytes that the first write left. If a write fails, a prefix of them was written.
 #[cold]
 #[inline(never)]
-fn put_rest<O: Write>(output: &mut O, bytes: &[u8]) -> io::Result<()>
+fn write_rest<O: Write>(output: &mut O, bytes: &[u8]) -> io::Result<()>
     ensures whole { OnOk result (Appends (O.contents output.old) (O.contents output.new) bytes.now) }
     ensures part { AppendsPrefix (O.contents output.old) (O.contents output.new) bytes.now }
 {
@@ -35,15 +35,16 @@ fn put_rest<O: Write>(output: &mut O, bytes: &[u8]) -> io::Result<()>
         if rest.is_empty() {
             return Ok(());
         }
-        rest = put_some(output, rest)?;
+        rest = write_some(output, rest)?;
     }
     Err(io::ErrorKind::Other.into())
 }
 
 /// Writes once, if there are bytes, and returns those that are left.
 #[inline(always)]
-fn put_some<'a, O: Write>(output: &mut O, bytes: &'a [u8]) -> io::Result<&'a [u8]>
-    ensures some { IfOk result (λ rest. (done : List ℕ) × (bytes.now ≡ done ++ rest.now) × Appends (O.contents output.old) (O.contents output.new) done) }
+fn write_some<'a, O: Write>(output: &mut O, bytes: &'a [u8]) -> io::Result<&'a [u8]>
+    ensures some { IfOk result (λ rest. (done : List ℕ)
+        × (bytes.now ≡ done ++ rest.now) × Appends (O.contents output.old) (O.contents output.new) done) }
     ensures none { OnErr result (Keeps (O.contents output.old) (O.contents output.new)) }
 {
     if bytes.is_empty() {

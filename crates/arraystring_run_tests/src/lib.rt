@@ -27,11 +27,11 @@ mod printing;
 #[cfg(test)]
 mod program;
 #[cfg(test)]
+mod public_api;
+#[cfg(test)]
 mod runs;
 #[cfg(test)]
 mod sizes;
-#[cfg(test)]
-mod surface;
 #[cfg(test)]
 mod table;
 #[cfg(test)]

@@ -3,9 +3,9 @@ use super::runs::text_of;
 use super::table::agree;
 use arraystring::error::Error;
 use arraystring_run::{PlayFault, Reply};
-use std::fmt;
 use std::fmt::Debug;
 use std::process::Abort;
+use test_support::printing::{Alone, first_printed_apart};
 
 /// Types whose derived forms are those of replies and faults.
 mod derived {
@@ -37,35 +37,11 @@ mod derived {
     }
 }
 
-/// A text that is printed alone, as an error is.
-#[derive(Drop)]
-struct Alone<'a>(&'a str);
-
-impl Debug for Alone<'_> {
-    fn fmt<W: fmt::Write>(&self, f: &mut fmt::Formatter<W>) -> fmt::Result {
-        f.write_str(self.0)
-    }
-}
-
-/// How a value is printed for debugging in each form that could pad, cut or break it.
-fn forms<T: Debug>(rt: &(impl Abort + AllocGlobal), value: &T, width: usize) -> String {
-    let printed = format!(in rt.alloc();
-        "{value:?}|{value:#?}|{value:width$?}|{value:<width$?}|{value:>width$?}|{value:*^width$?}|\
-        {value:0width$?}|{value:#width$?}|{value:.width$?}|{value:>width$.1?}|{value:*^#width$.1?}"
-    );
-    printed.expect(rt, "memory for what is printed")
-}
-
 /// Asserts that one value is printed for debugging as the other, in each form, at each width.
 fn debugs_as<T: Debug, W: Debug>(rt: &(impl Abort + AllocGlobal), value: &T, wanted: &W) {
-    for width in 0..30usize {
-        agree(
-            rt,
-            "each width",
-            forms(rt, value, width),
-            forms(rt, wanted, width),
-        );
-    }
+    let apart = first_printed_apart(rt.alloc(), value, wanted);
+    let apart = apart.expect(rt, "memory for what is printed");
+    agree(rt, "each form", apart, None);
 }
 
 /// Each form of a reply.

@@ -15,7 +15,9 @@ use arraystring::{ArrayString, Error};
 pub fn pair(line: &str) -> Result<(ArrayString<20>, ArrayString<40>), Error>
     ensures key { IfOk result (λ pair. pair.0.text ≡ before_first (λ c. c == 61) (chars line.now)) }
     ensures value { IfOk result (λ pair. pair.1.text ≡ after_first (λ c. c == 61) (chars line.now)) }
-    ensures made { IsOk result ↔ ((position_or_len (λ c. c == 61) (chars line.now) < length (chars line.now)) × (size (before_first (λ c. c == 61) (chars line.now)) ≤ 20) × (size (after_first (λ c. c == 61) (chars line.now)) ≤ 40)) }
+    ensures made { IsOk result ↔ ((position_or_len (λ c. c == 61) (chars line.now) < length (chars line.now))
+        × (size (before_first (λ c. c == 61) (chars line.now)) ≤ 20)
+        × (size (after_first (λ c. c == 61) (chars line.now)) ≤ 40)) }
     ensures refused { IfErr result (λ error. error ≡ OutOfBounds) }
 {
     let found = line.split_once('=');
@@ -34,7 +36,9 @@ pub fn pair(line: &str) -> Result<(ArrayString<20>, ArrayString<40>), Error>
 pub fn pair_of(line: &ArrayString<64>) -> Result<(ArrayString<20>, ArrayString<40>), Error>
     ensures key { IfOk result (λ pair. pair.0.text ≡ before_first (λ c. c == 61) line.now.text) }
     ensures value { IfOk result (λ pair. pair.1.text ≡ after_first (λ c. c == 61) line.now.text) }
-    ensures made { IsOk result ↔ ((position_or_len (λ c. c == 61) line.now.text < length line.now.text) × (size (before_first (λ c. c == 61) line.now.text) ≤ 20) × (size (after_first (λ c. c == 61) line.now.text) ≤ 40)) }
+    ensures made { IsOk result ↔ ((position_or_len (λ c. c == 61) line.now.text < length line.now.text)
+        × (size (before_first (λ c. c == 61) line.now.text) ≤ 20)
+        × (size (after_first (λ c. c == 61) line.now.text) ≤ 40)) }
     ensures refused { IfErr result (λ error. error ≡ OutOfBounds) }
 {
     text_spelled(line);
@@ -44,7 +48,10 @@ pub fn pair_of(line: &ArrayString<64>) -> Result<(ArrayString<20>, ArrayString<4
 /// Takes the first `=` of `line` and all after it out, and returns that. Returns `None` if there is
 /// no `=`. `line` is then as it was.
 pub fn split_value(line: &mut ArrayString<64>) -> Option<ArrayString<64>>
-    ensures { MatchOption result ((line.new.text ≡ line.old.text) × (position_or_len (λ c. c == 61) line.old.text ≡ length line.old.text)) (λ rest. (line.new.text ≡ before_first (λ c. c == 61) line.old.text) × (rest.text ≡ 61 ∷ after_first (λ c. c == 61) line.old.text)) }
+    ensures { MatchOption result
+        ((line.new.text ≡ line.old.text) × (position_or_len (λ c. c == 61) line.old.text ≡ length line.old.text))
+        (λ rest. (line.new.text ≡ before_first (λ c. c == 61) line.old.text)
+        × (rest.text ≡ 61 ∷ after_first (λ c. c == 61) line.old.text)) }
 {
     text_fits(line);
     text_spelled(line);

@@ -8,7 +8,8 @@ use arraystring::{ArrayString, Drain, Error};
 
 /// Returns the bytes from `start` to `end`, borrowed, or `None` if there is no such part.
 pub fn part<const N: usize>(text: &ArrayString<N>, start: u8, end: u8) -> Option<&str>
-    ensures { MatchOption result (part_in text.now.text start end ≡ None) (λ found. part_in text.now.text start end ≡ Some (chars found.now)) }
+    ensures { MatchOption result (part_in text.now.text start end ≡ None)
+        (λ found. part_in text.now.text start end ≡ Some (chars found.now)) }
 {
     text.get(start..end)
 }

@@ -8,7 +8,7 @@ use Rattle.std.proofs.lemmas.List.Elements.{All-head, All-tail, All-replicate}
 use borrow.Rule.Slice.PartMut.{put_mid}
 use Rattle.arraystring.specs.Text.{size, bytes, IsText, IsWellFormed}
 use Rattle.arraystring.proofs.TextLaws.{size-is, bytes_same}
-use Rattle.bounded_records.specs.Records.{field_of, count, counted, padding, IsRecord, username_field, role_field, HasLength, CountsFit, AreWellFormed, ArePadded, IsFirstFault}
+use Rattle.bounded_records.specs.Records.{field_of, count, counted_bytes, padding, IsRecord, username_field, role_field, HasLength, CountsFit, AreWellFormed, ArePadded, IsFirstFault}
 use Rattle.bounded_records.specs.declared.user.User.{User}
 use Rattle.bounded_records.specs.declared.record.RecordFault.{RecordFault}
 use Rattle.bounded_records.specs.declared.record.RecordFault.TheVariants.{Length, Count, Utf8, Padding}
@@ -30,8 +30,8 @@ module _ (room : ℕ) (t : List ℕ) (fits : size t ≤ room) where
   pub length-field : length (field_of room t) ≡ 1 + room
   length-field = omega (arith, size-is t, length-append (bytes t) (replicate (room - size t) 0), length-replicate {A = ℕ} (room - size t) 0)
 
-  pub counted-field : counted (field_of room t) ≡ bytes t
-  counted-field = take_at (bytes t) (replicate (room - size t) 0) (size t) (sym (size-is t))
+  pub counted_bytes-field : counted_bytes (field_of room t) ≡ bytes t
+  counted_bytes-field = take_at (bytes t) (replicate (room - size t) 0) (size t) (sym (size-is t))
 
   pub padding-field : All (λ b. b ≡ 0) (padding (field_of room t))
   padding-field =
@@ -39,7 +39,7 @@ module _ (room : ℕ) (t : List ℕ) (fits : size t ≤ room) where
       (All-replicate (λ b. b ≡ 0) _ 0 refl)
 
 -- a field whose tests pass is that of its text
-pub field-is : (room : ℕ) (field t : List ℕ) → length field ≡ 1 + room → count field ≤ room → bytes t ≡ counted field
+pub field-is : (room : ℕ) (field t : List ℕ) → length field ≡ 1 + room → count field ≤ room → bytes t ≡ counted_bytes field
     → All (λ b. b ≡ 0) (padding field) → field ≡ field_of room t
 field-is room [] t long fits same zero = absurd (omega arith)
 field-is room (n ∷ rest) t long fits same zero =
@@ -65,11 +65,11 @@ module _ (bs username role : List ℕ) (is : IsRecord bs username role) where
   counts_fit : CountsFit bs
   counts_fit = rw (first, second) (is.username_fits, is.role_fits)
 
-  username_bytes : counted (username_field bs) ≡ bytes username
-  username_bytes = ap counted first ∙ counted-field 20 username is.username_fits
+  username_bytes : counted_bytes (username_field bs) ≡ bytes username
+  username_bytes = ap counted_bytes first ∙ counted_bytes-field 20 username is.username_fits
 
-  role_bytes : counted (role_field bs) ≡ bytes role
-  role_bytes = ap counted second ∙ counted-field 5 role is.role_fits
+  role_bytes : counted_bytes (role_field bs) ≡ bytes role
+  role_bytes = ap counted_bytes second ∙ counted_bytes-field 5 role is.role_fits
 
   are_well_formed : AreWellFormed bs
   are_well_formed = ((username, (is.username_text, sym username_bytes)), (role, (is.role_text, sym role_bytes)))
@@ -136,14 +136,14 @@ module _ (bs u r : List ℕ) (long : HasLength bs) (cut_at : u ≡ username_fiel
   refused_count fails = refused bs Count (long, λ fit. fails (rw (cut_at, rest) fit))
 
   module _ (fits : (count u ≤ 20) × (count r ≤ 5)) where
-    pub refused_text : ¬ (IsWellFormed (counted u) × IsWellFormed (counted r)) → IsDecoded bs (Err Utf8)
+    pub refused_text : ¬ (IsWellFormed (counted_bytes u) × IsWellFormed (counted_bytes r)) → IsDecoded bs (Err Utf8)
     refused_text fails = refused bs Utf8 (long, rw (cut_at, rest) at fits, λ well. fails (rw (cut_at, rest) well))
 
-    module _ (user : User) (name : IsText user.username.text × (bytes user.username.text ≡ counted u))
-        (role : IsText user.role.text × (bytes user.role.text ≡ counted r)) where
+    module _ (user : User) (name : IsText user.username.text × (bytes user.username.text ≡ counted_bytes u))
+        (role : IsText user.role.text × (bytes user.role.text ≡ counted_bytes r)) where
       pub refused_padding : ¬ (All (λ b. b ≡ 0) (padding u) × All (λ b. b ≡ 0) (padding r)) → IsDecoded bs (Err Padding)
       refused_padding fails =
-          let well : IsWellFormed (counted u) × IsWellFormed (counted r) = ((user.username.text, name), (user.role.text, role)) in
+          let well : IsWellFormed (counted_bytes u) × IsWellFormed (counted_bytes r) = ((user.username.text, name), (user.role.text, role)) in
           refused bs Padding (long, rw (cut_at, rest) at fits, rw (cut_at, rest) at well, λ padded. fails (rw (cut_at, rest) padded))
 
       pub accepted : All (λ b. b ≡ 0) (padding u) → All (λ b. b ≡ 0) (padding r) → IsDecoded bs (Ok user)

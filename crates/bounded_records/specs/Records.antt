@@ -34,8 +34,8 @@ abbrev pub count : List ℕ → ℕ
 count field = slice_index field 0
 
 -- the bytes of a field that are counted: so many as its first byte says, after it
-abbrev pub counted : List ℕ → List ℕ
-counted field = take (count field) (drop 1 field)
+abbrev pub counted_bytes : List ℕ → List ℕ
+counted_bytes field = take (count field) (drop 1 field)
 
 -- the bytes of a field after the counted ones
 abbrev pub padding : List ℕ → List ℕ
@@ -51,7 +51,7 @@ CountsFit bs = (count (username_field bs) ≤ 20) × (count (role_field bs) ≤ 
 
 -- the third: the counted bytes are UTF-8
 abbrev pub AreWellFormed : List ℕ → Type 0
-AreWellFormed bs = IsWellFormed (counted (username_field bs)) × IsWellFormed (counted (role_field bs))
+AreWellFormed bs = IsWellFormed (counted_bytes (username_field bs)) × IsWellFormed (counted_bytes (role_field bs))
 
 -- the fourth: the bytes after them are zero
 abbrev pub ArePadded : List ℕ → Type 0

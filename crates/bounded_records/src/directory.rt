@@ -15,10 +15,10 @@ use std::collections::BTreeMap;
 use std::marker::Model;
 use std::{fmt, mem};
 
-/// Users, each under its own username. Strings of one text are one key.
+/// Users, each under its own username. Two strings with the same text are the same key.
 ///
-/// Contracts see a finite map from the text of a username to the texts of the user: its username
-/// and its role.
+/// In contracts a directory is a finite map: from the text of a username to the texts of its user, which are
+/// the username and the role.
 #[derive(Drop)]
 pub struct Directory {
     users: BTreeMap<ArrayString<20>, User>,
@@ -42,7 +42,7 @@ impl Model for Directory {
 }
 
 impl Directory {
-    /// Returns the directory of no users. It takes no memory.
+    /// Returns an empty directory. It allocates nothing.
     pub fn new(alloc: Global) -> Self
         ensures empty { result ≡ map.empty }
         ensures none_found { (name : List ℕ) → map.get result name ≡ None }
@@ -70,13 +70,14 @@ impl Directory {
         self.users.is_empty()
     }
 
-    /// Puts `user` under its username and returns the user that was there; all other users stay.
+    /// Puts `user` under its username, and returns the user that was there before, if any. All other users
+    /// stay.
     ///
     /// # Errors
     ///
-    /// Returns `Err(AllocError)` only if no user was there, and only if there is not enough memory or
-    /// the tree of `std::collections::BTreeMap` would get higher than 11, for which it takes some
-    /// 2^37 users. The directory is then as it was.
+    /// Returns `Err(AllocError)` if memory runs out, or if the tree of `std::collections::BTreeMap` would get
+    /// higher than 11, which takes about 2^37 users. The directory is then unchanged. If there already is a
+    /// user under the username, the call is never refused.
     #[tactic(auto, using(crate::proofs::MapLemmas::get_users, crate::proofs::MapLemmas::insert_users, crate::proofs::MapLemmas::get_inserted))]
     pub fn insert(&mut self, user: User) -> Result<Option<User>, AllocError>
         ensures old { IfOk result (λ old. option_map texts old ≡ map.get self.old user.username.text) }
@@ -92,7 +93,7 @@ impl Directory {
         Ok(self.users.insert(user.username, user)?)
     }
 
-    /// Returns the user under `username`, or `None` if there is none. It takes no memory.
+    /// Returns the user under `username`, or `None` if there is none. It allocates nothing.
     #[tactic(auto, using(crate::proofs::MapLemmas::get_users))]
     pub fn get(&self, username: &ArrayString<20>) -> Option<&User>
         ensures found { option_map texts (option_copied result) ≡ map.get self.now username.now.text }
@@ -101,7 +102,7 @@ impl Directory {
         self.users.get(username)
     }
 
-    /// Returns whether there is a user under `username`. It takes no memory.
+    /// Returns whether there is a user under `username`. It allocates nothing.
     #[tactic(auto, using(crate::proofs::MapLemmas::get_users))]
     pub fn contains(&self, username: &ArrayString<20>) -> bool
         ensures { result ≡ is_some (map.get self.now username.now.text) }
@@ -109,8 +110,8 @@ impl Directory {
         self.users.contains_key(username)
     }
 
-    /// Takes out the user under `username` and returns it. Returns `None` if there is none. All
-    /// other users stay. It takes no memory.
+    /// Removes the user under `username` and returns it. Returns `None` if there is none. All other users
+    /// stay. It allocates nothing.
     pub fn remove(&mut self, username: &ArrayString<20>) -> Option<User>
         ensures removed { option_map texts result ≡ map.get self.old username.now.text }
         ensures own { IfSome result (λ user. user.username.text ≡ username.now.text) }
@@ -123,8 +124,8 @@ impl Directory {
         self.users.remove(username)
     }
 
-    /// Gives the user under `username` another role and returns the role that it had. Returns
-    /// `None` if there is no such user. All other users stay. It takes no memory.
+    /// Gives the user under `username` another role, and returns the role that it had. Returns `None` if
+    /// there is no such user. All other users stay. It allocates nothing.
     pub fn set_role(
         &mut self,
         username: &ArrayString<20>,
@@ -141,8 +142,8 @@ impl Directory {
         Some(mem::replace(&mut user.role, role))
     }
 
-    /// Returns the usernames, each once, in ascending order of their characters, which is that of
-    /// their bytes. It takes no memory.
+    /// Returns the usernames, each once, in ascending order of their characters. The order of their bytes is
+    /// the same. It allocates nothing.
     #[tactic(auto, using(crate::proofs::MapLemmas::keys_users))]
     pub fn names(&self) -> Names<'_>
         ensures keys { result ≡ map.keys self.now }
@@ -159,7 +160,7 @@ impl Directory {
         }
     }
 
-    /// Returns the users, each once, in ascending order of their usernames. It takes no memory.
+    /// Returns the users, each once, in ascending order of their usernames. It allocates nothing.
     pub fn users(&self) -> Users<'_>
         ensures users { result ≡ map.values self.now }
         ensures names { names_of result ≡ map.keys self.now }

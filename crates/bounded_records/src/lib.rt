@@ -1,6 +1,6 @@
-//! Users as records of fixed width, and a directory of users by their usernames, as a caller of
-//! `arraystring` writes them: over its public calls, its contracts and its laws alone. The tests
-//! are in the crate `bounded_records_tests`.
+//! Users as records of fixed width, and a directory of users by their usernames. The crate shows how a caller
+//! of `arraystring` is written and proved: it uses only public calls, contracts and laws. The tests are in
+//! the crate `bounded_records_tests`.
 #![tactic(auto)]
 
 mod directory;

@@ -1,9 +1,12 @@
 //! A user as a record of 27 bytes, and back.
 //!
-//! Byte 0 is the number of the username's bytes, 0 to 20. Bytes 1 to 20 are the username's UTF-8
-//! and then zero bytes. Byte 21 is the number of the role's bytes, 0 to 5. Bytes 22 to 26 are the
-//! role's UTF-8 and then zero bytes. A zero byte among the counted ones is the character U+0000 and
-//! no padding.
+//! - Byte 0: how many bytes the username has, 0 to 20.
+//! - Bytes 1 to 20: the UTF-8 of the username, and then zero bytes as padding.
+//! - Byte 21: how many bytes the role has, 0 to 5.
+//! - Bytes 22 to 26: the UTF-8 of the role, and then zero bytes as padding.
+//!
+//! For example the user `ann` with the role `admin` has the bytes 3, `ann`, 17 zero bytes, 5, `admin`. A zero
+//! byte among the counted ones is the character U+0000, and no padding.
 ghost use Rattle.std.specs.Prelude.{◌≡◌, ◌<◌, ◌+◌, ◌≤◌, ◌↔◌, Some, ℕ, List, suc, length, replicate, IsTrue, IfOk, IfErr, OnErr, IsOkAnd};
 ghost use Rattle.std.specs.List.{All};
 ghost use Rattle.std.specs.Result.{IsErrAnd};
@@ -11,7 +14,7 @@ ghost use Rattle.arraystring.specs.Text.{IsText, IsWellFormed, bytes, size};
 ghost use Rattle.bounded_records.specs.declared.record.RecordFault.{RecordFault};
 ghost use Rattle.bounded_records.specs.declared.record.RecordFault.TheVariants.{Utf8};
 ghost use Rattle.bounded_records.specs.Names.{fault_name};
-ghost use Rattle.bounded_records.specs.Records.{IsRecord, field_of, count, counted, padding, HasLength, IsFirstFault};
+ghost use Rattle.bounded_records.specs.Records.{IsRecord, field_of, count, counted_bytes, padding, HasLength, IsFirstFault};
 ghost use Rattle.bounded_records.specs.Users.{texts};
 
 use crate::User;
@@ -22,11 +25,20 @@ use std::fmt;
 /// How many bytes a record has.
 pub const RECORD_SIZE: usize = 27;
 
-/// Why bytes are no record. The cases are in the order of the tests, each of which judges the whole
-/// record.
+/// The offset of the role's field, which is behind the username's.
+const ROLE_OFFSET: usize = 21;
+
+/// How many bytes a username has at most.
+const USERNAME_CAPACITY: u8 = 20;
+
+/// How many bytes a role has at most.
+const ROLE_CAPACITY: u8 = 5;
+
+/// Why bytes are no record. `decode` makes the tests in the order of these cases. Each test looks at the
+/// whole record.
 #[derive(Clone, Copy, PartialEq, Eq, Hash, Debug)]
 pub enum RecordFault {
-    /// The bytes are not 27.
+    /// The number of bytes is not 27.
     Length,
     /// A count is above the capacity of its text.
     Count,
@@ -63,38 +75,40 @@ impl fmt::Display for RecordFault {
 
 impl Error for RecordFault {}
 
-/// Returns the record of a user, which is that of no other. It takes no memory.
+/// Returns the record of a user. No other user has this record. It allocates nothing.
 pub fn encode(user: &User) -> [u8; RECORD_SIZE]
     ensures record { IsRecord result user.now.username.text user.now.role.text }
     ensures only { (username role : List ℕ) → IsRecord result username role → texts user.now ≡ (username, role) }
 {
     let mut record = [0; RECORD_SIZE];
-    let (username, role) = record.split_at_mut(21);
-    put(username, &user.username);
-    put(role, &user.role);
+    let (username, role) = record.split_at_mut(ROLE_OFFSET);
+    write_field(username, &user.username);
+    write_field(role, &user.role);
     record
 }
 
-/// Returns the user whose record `given` is, which is one alone. It takes no memory.
+/// Returns the user that has the record `given`. At most one user has it. It allocates nothing.
 ///
 /// # Errors
 ///
-/// The first of these that holds decides:
+/// The first of these whose condition holds is returned:
 ///
-/// - `Err(RecordFault::Length)` if there are not 27 bytes;
+/// - `Err(RecordFault::Length)` if the number of bytes is not 27;
 /// - `Err(RecordFault::Count)` if a count is above the capacity of its text;
 /// - `Err(RecordFault::Utf8)` if counted bytes are not well-formed UTF-8;
 /// - `Err(RecordFault::Padding)` if a byte after them is not zero.
 pub fn decode(given: &[u8]) -> Result<User, RecordFault>
-    ensures user { (username role : List ℕ) → IsOkAnd result (λ user. texts user ≡ (username, role)) ↔ IsRecord given.now username role }
-    ensures only { (username role other_username other_role : List ℕ) → IsRecord given.now username role → IsRecord given.now other_username other_role
+    ensures user { (username role : List ℕ)
+        → IsOkAnd result (λ user. texts user ≡ (username, role)) ↔ IsRecord given.now username role }
+    ensures only { (username role other_username other_role : List ℕ)
+        → IsRecord given.now username role → IsRecord given.now other_username other_role
         → (username ≡ other_username) × (role ≡ other_role) }
     ensures fault { (fault : RecordFault) → IsErrAnd result (λ e. e ≡ fault) ↔ IsFirstFault given.now fault }
 {
     if !has_length(given) {
         return Err(RecordFault::Length);
     }
-    let (username, role) = given.split_at(21);
+    let (username, role) = given.split_at(ROLE_OFFSET);
     if !counts_fit(username, role) {
         return Err(RecordFault::Count);
     }
@@ -110,7 +124,7 @@ pub fn decode(given: &[u8]) -> Result<User, RecordFault>
 
 /// Writes a text into a field of zero bytes.
 #[tactic(auto, using(crate::proofs::RecordLemmas::written))]
-fn put<const N: usize>(field: &mut [u8], text: &ArrayString<N>)
+fn write_field<const N: usize>(field: &mut [u8], text: &ArrayString<N>)
     requires { field.old ≡ replicate (suc N) 0 }
     ensures field { field.new ≡ field_of N text.now.text }
     ensures text { IsText text.now.text }
@@ -132,9 +146,9 @@ fn has_length(given: &[u8]) -> bool
 fn counts_fit(username: &[u8], role: &[u8]) -> bool
     requires username { 0 < length username.now }
     requires role { 0 < length role.now }
-    ensures { IsTrue result ↔ ((count username.now ≤ 20) × (count role.now ≤ 5)) }
+    ensures { IsTrue result ↔ ((count username.now ≤ USERNAME_CAPACITY) × (count role.now ≤ ROLE_CAPACITY)) }
 {
-    username[0] <= 20 && role[0] <= 5
+    username[0] <= USERNAME_CAPACITY && role[0] <= ROLE_CAPACITY
 }
 
 /// The text of a field whose count fits, or `Err(RecordFault::Utf8)` if its counted bytes are not
@@ -142,9 +156,9 @@ fn counts_fit(username: &[u8], role: &[u8]) -> bool
 fn text_of<const N: usize>(field: &[u8]) -> Result<ArrayString<N>, RecordFault>
     requires long { length field.now ≡ 1 + N }
     requires fits { count field.now ≤ N }
-    ensures ok { IfOk result (λ made. IsText made.text × (bytes made.text ≡ counted field.now)) }
+    ensures ok { IfOk result (λ made. IsText made.text × (bytes made.text ≡ counted_bytes field.now)) }
     ensures fault { IfErr result (λ fault. fault ≡ Utf8) }
-    ensures malformed { OnErr result (¬ (IsWellFormed (counted field.now))) }
+    ensures malformed { OnErr result (¬ (IsWellFormed (counted_bytes field.now))) }
 {
     let end = 1 + field[0] as usize;
     match ArrayString::try_from_utf8(&field[1..end]) {

@@ -11,8 +11,8 @@ use std::fmt;
 
 /// A user: a username of at most 20 bytes of UTF-8 and a role of at most 5.
 ///
-/// Users are equal if both texts are, and are ordered by their usernames and then by their roles.
-/// Contracts name a user by these texts.
+/// Two users are equal if both texts are equal. Users are ordered by their usernames, and then by their
+/// roles. In contracts a user is these two texts.
 #[derive(Clone, Copy, PartialEq, Eq, PartialOrd, Ord, Hash, Debug)]
 pub struct User {
     /// The text under which a `Directory` keeps the user.
@@ -22,11 +22,11 @@ pub struct User {
 }
 
 impl User {
-    /// Returns the user of these texts. It takes no memory.
+    /// Returns a user with these texts. It allocates nothing.
     ///
     /// # Errors
     ///
-    /// The first of these that holds decides:
+    /// The first of these whose condition holds is returned:
     ///
     /// - `Err(UserFault::Username)` if the username is larger than 20 bytes;
     /// - `Err(UserFault::Role)` if the role is larger than 5 bytes.
@@ -41,7 +41,7 @@ impl User {
     }
 }
 
-/// Why texts are no user: the first of them that is too large.
+/// Why `User::new` refused two texts: which of them is too large, the first if both are.
 #[derive(Clone, Copy, PartialEq, Eq, Hash, Debug)]
 pub enum UserFault {
     /// The username is larger than 20 bytes.

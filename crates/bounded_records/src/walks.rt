@@ -14,7 +14,7 @@ use std::marker::Model;
 
 /// The usernames of a directory, in ascending order.
 ///
-/// Contracts see the list of the texts of those that are left.
+/// In contracts it is the list of the texts of the usernames that are left.
 #[derive(Drop)]
 pub struct Names<'a> {
     pub(crate) keys: Keys<'a, ArrayString<20>, User>,
@@ -28,7 +28,7 @@ impl<'a> Model for Names<'a> {
     ghost view = { λ names. map (λ name. name.text) names.keys };
 }
 
-/// As many of the same are left in the clone. It takes no memory and is never refused.
+/// The clone has the same items left. It allocates nothing, and never returns an error.
 impl<'a> Clone for Names<'a> {
     ghost is_clone = { λ names clone. clone ≡ names };
 
@@ -49,7 +49,7 @@ impl<'a> Iterator for Names<'a> {
 
     ghost remaining = { item_count (λ names. names) };
 
-    /// Returns the first username that is left. If none is left it returns `None`, and does so ever after.
+    /// Returns the first username that is left. Once none is left, it always returns `None`.
     fn next(&mut self) -> Option<&'a ArrayString<20>> {
         self.keys.next()
     }
@@ -68,7 +68,7 @@ impl<'a> Iterator for Names<'a> {
 impl<'a> DoubleEndedIterator for Names<'a> {
     ghost next_back_gives = { YieldsLastBy name_text (λ names. names) };
 
-    /// Returns the last username that is left. If none is left it returns `None`, and does so ever after.
+    /// Returns the last username that is left. Once none is left, it always returns `None`.
     fn next_back(&mut self) -> Option<&'a ArrayString<20>> {
         self.keys.next_back()
     }
@@ -83,7 +83,7 @@ impl ExactSizeIterator for Names<'_> {
 
 impl FusedIterator for Names<'_> {}
 
-/// The list of those that are left.
+/// Prints the list of the items that are left.
 impl fmt::Debug for Names<'_> {
     fn fmt<W: fmt::Write>(&self, f: &mut fmt::Formatter<W>) -> fmt::Result {
         self.keys.fmt(f)
@@ -92,7 +92,7 @@ impl fmt::Debug for Names<'_> {
 
 /// The users of a directory, in ascending order of their usernames.
 ///
-/// Contracts see the list of the texts of those that are left.
+/// In contracts it is the list of the texts of the users that are left.
 #[derive(Drop)]
 pub struct Users<'a> {
     pub(crate) values: Values<'a, ArrayString<20>, User>,
@@ -107,7 +107,7 @@ impl<'a> Model for Users<'a> {
     ghost view = { λ users. map texts users.values };
 }
 
-/// As many of the same are left in the clone. It takes no memory and is never refused.
+/// The clone has the same items left. It allocates nothing, and never returns an error.
 impl<'a> Clone for Users<'a> {
     ghost is_clone = { λ users clone. clone ≡ users };
 
@@ -128,7 +128,7 @@ impl<'a> Iterator for Users<'a> {
 
     ghost remaining = { item_count (λ users. users) };
 
-    /// Returns the first user that is left. If none is left it returns `None`, and does so ever after.
+    /// Returns the first user that is left. Once none is left, it always returns `None`.
     fn next(&mut self) -> Option<&'a User> {
         self.values.next()
     }
@@ -147,7 +147,7 @@ impl<'a> Iterator for Users<'a> {
 impl<'a> DoubleEndedIterator for Users<'a> {
     ghost next_back_gives = { YieldsLastBy user_texts (λ users. users) };
 
-    /// Returns the last user that is left. If none is left it returns `None`, and does so ever after.
+    /// Returns the last user that is left. Once none is left, it always returns `None`.
     fn next_back(&mut self) -> Option<&'a User> {
         self.values.next_back()
     }
@@ -162,7 +162,7 @@ impl ExactSizeIterator for Users<'_> {
 
 impl FusedIterator for Users<'_> {}
 
-/// The list of those that are left.
+/// Prints the list of the items that are left.
 impl fmt::Debug for Users<'_> {
     fn fmt<W: fmt::Write>(&self, f: &mut fmt::Formatter<W>) -> fmt::Result {
         self.values.fmt(f)

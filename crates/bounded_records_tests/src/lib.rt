@@ -15,9 +15,9 @@ mod many;
 #[cfg(test)]
 mod printing;
 #[cfg(test)]
-mod record;
+mod public_api;
 #[cfg(test)]
-mod surface;
+mod record;
 #[cfg(test)]
 mod users;
 #[cfg(test)]

@@ -5,6 +5,7 @@ use bounded_records::Directory;
 use std::collections::BTreeSet;
 use std::fmt::Debug;
 use std::process::Abort;
+use test_support::printing::first_printed_apart;
 
 /// Types whose derived forms are those of a user.
 mod derived {
@@ -45,20 +46,11 @@ fn user_form<'a>(texts: &(&'a str, &'a str)) -> derived::User<'a> {
     }
 }
 
-/// How a value is printed for debugging in each form that could pad, cut or break it.
-fn forms<T: Debug>(rt: &(impl Abort + AllocGlobal), value: &T, width: usize) -> String {
-    let printed = format!(in rt.alloc();
-        "{value:?}|{value:#?}|{value:width$?}|{value:<width$?}|{value:>width$?}|{value:*^width$?}|\
-        {value:0width$?}|{value:#width$?}|{value:.width$?}|{value:>width$.1?}|{value:*^#width$.1?}"
-    );
-    printed.expect(rt, "memory for what is printed")
-}
-
 /// Asserts that one value is printed for debugging as the other, in each form, at each width.
 fn debugs_as<T: Debug, W: Debug>(rt: &(impl Abort + AllocGlobal), value: &T, wanted: &W) {
-    for width in 0..30usize {
-        agree(rt, forms(rt, value, width), forms(rt, wanted, width));
-    }
+    let apart = first_printed_apart(rt.alloc(), value, wanted);
+    let apart = apart.expect(rt, "memory for what is printed");
+    agree(rt, apart, None);
 }
 
 /// A directory of the first users, which are put in from the last on.

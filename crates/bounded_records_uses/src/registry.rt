@@ -62,13 +62,17 @@ pub fn rename(
 ) -> Result<(), NotRenamed>
     ensures was { OnOk result (IsSome (finite.get users.old from.now.text)) }
     ensures free { OnOk result (finite.get users.old to.text ≡ None) }
-    ensures after { OnOk result (option_map (λ user. (to.text, user.1)) (finite.get users.old from.now.text) ≡ finite.get users.new to.text) }
+    ensures after { OnOk result
+        (option_map (λ user. (to.text, user.1)) (finite.get users.old from.now.text) ≡ finite.get users.new to.text) }
     ensures gone { OnOk result (finite.get users.new from.now.text ≡ None) }
-    ensures others { (name : List ℕ) → name ≢ from.now.text → name ≢ to.text → finite.get users.new name ≡ finite.get users.old name }
+    ensures others { (name : List ℕ) → name ≢ from.now.text → name ≢ to.text
+        → finite.get users.new name ≡ finite.get users.old name }
     ensures refused { OnErr result (users.new ≡ users.old) }
     ensures missing { IfErr result (λ cause. cause ≡ Missing → finite.get users.old from.now.text ≡ None) }
-    ensures taken { IfErr result (λ cause. cause ≡ Taken → IsSome (finite.get users.old from.now.text) × IsSome (finite.get users.old to.text)) }
-    ensures memory { IfErr result (λ cause. cause ≡ Memory → IsSome (finite.get users.old from.now.text) × (finite.get users.old to.text ≡ None)) }
+    ensures taken { IfErr result (λ cause. cause ≡ Taken
+        → IsSome (finite.get users.old from.now.text) × IsSome (finite.get users.old to.text)) }
+    ensures memory { IfErr result (λ cause. cause ≡ Memory
+        → IsSome (finite.get users.old from.now.text) × (finite.get users.old to.text ≡ None)) }
 {
     let Some(user) = users.get(from).copied() else {
         return Err(NotRenamed::Missing);

@@ -1,5 +1,5 @@
 //! The calls, and a line or more of what came back of each.
-use crate::device::{Kept, SlowReader};
+use crate::device::{SlowReader, TextWriter};
 use arraystring::{ArrayString, MaxString};
 use arraystring_run::program::serve_buffered;
 use arraystring_run::{Command, play, run, run_both, serve};
@@ -70,14 +70,14 @@ fn make_directory(rt: &(impl Print + AllocGlobal)) -> io::Result<()> {
         if users.insert(user_of(letter)).is_err() {
             println!(rt;
                 "insert: {letter} is refused, the users are {}",
-                listed(&users)
+                list_of(&users)
             )?;
             if users.insert(user_of(letter)).is_err() {
                 println!(rt; "insert: {letter} is refused again")?;
             }
         }
     }
-    println!(rt; "insert: the users are {}", listed(&users))
+    println!(rt; "insert: the users are {}", list_of(&users))
 }
 
 /// The user whose username is a letter and whose role is the same in upper case.
@@ -92,7 +92,7 @@ fn user_of(letter: char) -> User {
 }
 
 /// The usernames and roles, one behind the other.
-fn listed(users: &Directory) -> MaxString {
+fn list_of(users: &Directory) -> MaxString {
     let mut list = MaxString::new();
     for user in users.users() {
         list.push_str(user.username.as_str());
@@ -105,8 +105,8 @@ fn make_play(rt: &(impl Print + AllocGlobal)) -> io::Result<()> {
     let mut input = SlowReader {
         bytes: SCRIPT.as_bytes(),
     };
-    let mut output = Kept::new();
-    let played = play::<23, SlowReader, Kept>(rt.alloc(), &mut input, &mut output);
+    let mut output = TextWriter::new();
+    let played = play::<23, SlowReader, TextWriter>(rt.alloc(), &mut input, &mut output);
     println!(rt;
         "play: {played:?}, the output is {:?}",
         output.text.as_str()
@@ -117,7 +117,7 @@ fn make_serve(rt: &(impl Print + AllocGlobal)) -> io::Result<()> {
     let mut input = SlowReader {
         bytes: SCRIPT.as_bytes(),
     };
-    let (mut output, mut errors) = (Kept::new(), Kept::new());
+    let (mut output, mut errors) = (TextWriter::new(), TextWriter::new());
     let status = serve(
         rt.alloc(),
         Some("small"),
@@ -133,12 +133,12 @@ fn make_serve_buffered(rt: &(impl Print + AllocGlobal)) -> io::Result<()> {
     let mut input = SlowReader {
         bytes: SCRIPT.as_bytes(),
     };
-    let mut errors = Kept::new();
+    let mut errors = TextWriter::new();
     let (status, output) = serve_buffered(
         rt.alloc(),
         Some("small"),
         &mut input,
-        Kept::new(),
+        TextWriter::new(),
         &mut errors,
     );
     let writes = match output.writes {

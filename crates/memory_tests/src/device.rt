@@ -20,22 +20,22 @@ impl Read for SlowReader<'_> {
 
 /// Keeps what is written, of up to 255 bytes, and counts the writes.
 #[derive(Drop)]
-pub struct Kept {
+pub struct TextWriter {
     pub text: MaxString,
     pub writes: u32,
 }
 
-impl Kept {
+impl TextWriter {
     /// Nothing was written yet.
-    pub fn new() -> Kept {
-        Kept {
+    pub fn new() -> TextWriter {
+        TextWriter {
             text: MaxString::new(),
             writes: 0,
         }
     }
 }
 
-impl Write for Kept {
+impl Write for TextWriter {
     fn write(&mut self, buf: &[u8]) -> io::Result<usize> {
         self.writes = self.writes.saturating_add(1);
         let Ok(written) = str::from_utf8(buf) else {

@@ -1,8 +1,81 @@
-//! How tables are read, which values are told apart, and that all memory is taken but for what is left.
+//! How tables are read, which values are told apart, how values are printed for debugging, and
+//! that all memory is taken but for what is left.
 use crate::equality::first_mistaken;
 use crate::memory::ScarceMemory;
+use crate::printing::{Alone, first_printed_apart, forms};
 use crate::table::{LETTERS, column, rows};
+use std::fmt;
+use std::fmt::{Alignment, Debug, Write};
 use std::test::Fail;
+
+/// Is printed as the form is written in which it is printed.
+#[derive(Drop)]
+struct Written;
+
+impl Debug for Written {
+    fn fmt<W: fmt::Write>(&self, f: &mut fmt::Formatter<W>) -> fmt::Result {
+        if f.fill() != ' ' {
+            f.write_char(f.fill())?;
+        }
+        f.write_str(match f.align() {
+            Some(Alignment::Left) => "<",
+            Some(Alignment::Right) => ">",
+            Some(Alignment::Center) => "^",
+            None => "",
+        })?;
+        f.write_str(if f.sign_plus() { "+" } else { "" })?;
+        f.write_str(if f.alternate() { "#" } else { "" })?;
+        f.write_str(if f.sign_aware_zero_pad() { "0" } else { "" })?;
+        if let Some(width) = f.width() {
+            write!(f, "{width}")?;
+        }
+        if let Some(precision) = f.precision() {
+            write!(f, ".{precision}")?;
+        }
+        Ok(())
+    }
+}
+
+#[test]
+fn each_form_is_printed(rt: HostRuntime) -> Result<(), Fail> {
+    let alloc = rt.alloc();
+    for w in 1..30usize {
+        let printed = forms(alloc, &Written, w)?;
+        let wanted = format!(in alloc;
+            "|#|{w}|<{w}|>{w}|*^{w}|0{w}|#{w}|.{w}|>{w}.1|*^#{w}.1|+|+#|+{w}|+.{w}|+#0{w}"
+        )?;
+        assert_eq!(rt; printed, wanted);
+    }
+    Ok(())
+}
+
+/// Is printed as `b` at one width, and as `a` at each other.
+#[derive(Drop)]
+struct At(usize);
+
+impl Debug for At {
+    fn fmt<W: fmt::Write>(&self, f: &mut fmt::Formatter<W>) -> fmt::Result {
+        f.write_str(if f.width() == Some(self.0) { "b" } else { "a" })
+    }
+}
+
+#[test]
+fn two_values_that_are_printed_differently_at_a_width(rt: HostRuntime) -> Result<(), Fail> {
+    let alloc = rt.alloc();
+    for at in 1..40usize {
+        let apart = first_printed_apart(alloc, &At(at), &Alone("a"))?;
+        assert_eq!(rt; apart.is_some(), at < 30);
+        if let Some((printed, other)) = apart {
+            assert_eq!(rt; printed, forms(alloc, &At(at), at)?);
+            assert_eq!(rt; other, forms(alloc, &Alone("a"), at)?);
+        }
+        assert_eq!(rt;
+            first_printed_apart(alloc, &At(at), &At(at))?.is_some(),
+            false
+        );
+    }
+    Ok(())
+}
 
 #[test]
 fn rows_and_columns_are_read(rt: HostRuntime) {

@@ -1,7 +1,7 @@
 // Made from crates/arraystring_base/src/lib.rt by rust/erase. The proof is there. A change goes there.
-//! The lowest crate of the bounded string: its errors, the UTF-8 of characters, where a text may be
-//! cut, and how UTF-16 is read. It uses `std` alone and takes no memory. Its
-//! tests are in `crates/arraystring_tests`.
+//! The lowest crate of the bounded string: its errors, the UTF-8 of characters, where a text may be cut,
+//! and how UTF-16 is read. It uses `std` alone and allocates nothing. Its tests are in
+//! `crates/arraystring_tests`.
 
 pub mod error;
 mod moves;

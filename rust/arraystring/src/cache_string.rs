@@ -8,7 +8,7 @@ use crate::error::{Error, OutOfBounds, Utf8, Utf16};
 mod traits;
 
 /// A string of at most 63 bytes of UTF-8, under a name of its own. Its field `0` is an
-/// [`ArrayString<63>`](crate::ArrayString), which has the calls that it lacks.
+/// [`ArrayString<63>`](crate::ArrayString). Calls that a `CacheString` lacks are called on this field.
 ///
 /// # Examples
 ///

@@ -1,10 +1,10 @@
-//! The drawings of docs/layout.md: how a text lies in its array before and after some edits.
+//! The drawings of how a text lies in its array before and after some edits, in the comment of the module of `ArrayString`.
 
 use arraystring::ArrayString;
 use arraystring::utils::Steps;
 use std::fs;
 
-/// The drawings of the page, and what their columns are.
+/// What the columns of a drawing are.
 const HEADING: &str = "                          01234567   start   size   moved\n";
 
 type Edit = fn(&mut ArrayString<8>, &mut Steps);
@@ -48,13 +48,19 @@ fn add(string: &mut ArrayString<8>, steps: &mut Steps) {
 }
 
 #[test]
-fn the_page_has_these_drawings() {
+fn the_comment_has_these_drawings() {
     let remove_first = ("remove(0)", remove_first as Edit);
     let insert = ("try_insert_str(2, \"-\")", insert as Edit);
     let add = ("try_insert_str(6, \"gh\")", add as Edit);
     let drawings = [drawing("abcdef", &[remove_first, insert, add]), drawing("abcdefgh", &[remove_first, insert])];
-    let page = fs::read_to_string(format!("{}/../../docs/layout.md", env!("CARGO_MANIFEST_DIR"))).unwrap();
-    let blocks: Vec<_> = page.split("```text\n").skip(1).map(|it| it.split("```").next().unwrap()).collect();
+    let file = format!("{}/src/arraystring_core/array_string.rs", env!("CARGO_MANIFEST_DIR"));
+    let comment: String = fs::read_to_string(file)
+        .unwrap()
+        .lines()
+        .filter_map(|line| line.strip_prefix("//!"))
+        .map(|line| format!("{}\n", line.strip_prefix(' ').unwrap_or(line)))
+        .collect();
+    let blocks: Vec<_> = comment.split("```text\n").skip(1).map(|it| it.split("```").next().unwrap()).collect();
     assert_eq!(blocks.concat(), drawings.concat());
     assert_eq!(blocks, drawings);
 }

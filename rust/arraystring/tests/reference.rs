@@ -68,23 +68,25 @@ impl Item {
     }
 }
 
-/// The items of all sources.
-fn items() -> Vec<Item> {
-    let mut items = Vec::new();
-    for (file, text) in files(Path::new("src")) {
-        let (mut docs, mut is_exported) = (Vec::new(), false);
-        for line in text.lines() {
-            match line.trim_start().strip_prefix("///") {
-                Some(words) => docs.push(words.strip_prefix(' ').unwrap_or(words).to_string()),
-                None if line.trim_start().starts_with("#[") => is_exported |= line == "#[macro_export]",
-                None => {
-                    let (file, head) = (file.clone(), line.to_string());
-                    items.push(Item { file, head, docs: take(&mut docs), is_exported: take(&mut is_exported) });
-                }
+/// The items of a source.
+fn items_of(file: &str, text: &str) -> Vec<Item> {
+    let (mut items, mut docs, mut is_exported) = (Vec::new(), Vec::new(), false);
+    for line in text.lines() {
+        match line.trim_start().strip_prefix("///") {
+            Some(words) => docs.push(words.strip_prefix(' ').unwrap_or(words).to_string()),
+            None if line.trim_start().starts_with("#[") => is_exported |= line == "#[macro_export]",
+            None => {
+                let (file, head) = (file.to_string(), line.to_string());
+                items.push(Item { file, head, docs: take(&mut docs), is_exported: take(&mut is_exported) });
             }
         }
     }
     items
+}
+
+/// The items of all sources.
+fn items() -> Vec<Item> {
+    files(Path::new("src")).iter().flat_map(|(file, text)| items_of(file, text)).collect()
 }
 
 #[test]
@@ -177,14 +179,15 @@ fn what_runs_in_place_of_a_proved_body_is_said_below_its_contract() {
     found.sort();
     let wanted = [
         "arraystring_base/moves: move_bytes",
+        "arraystring_base/moves: move_long_run_of_array",
         "arraystring_base/steps: count_moves",
         "arraystring_base/steps: look",
+        "arraystring_core/array_string/ascii: make_ascii_lowercase_in",
+        "arraystring_core/array_string/ascii: make_ascii_uppercase_in",
+        "arraystring_core/array_string/borrowed_range: get",
+        "arraystring_core/array_string/borrowed_range: slice",
         "arraystring_core/array_string/construct: from_utf8",
         "arraystring_core/array_string/construct: try_from_utf8",
-        "arraystring_core/array_string/range: get",
-        "arraystring_core/array_string/range: make_ascii_lowercase_in",
-        "arraystring_core/array_string/range: make_ascii_uppercase_in",
-        "arraystring_core/array_string/range: slice",
         "arraystring_core/array_string/traits: cmp",
         "arraystring_core/array_string/traits: impl<const N: usize> PartialEq for ArrayString<N>",
         "arraystring_core/array_string/traits: impl<const N: usize> PartialOrd for ArrayString<N>",
@@ -281,24 +284,46 @@ fn what_counts_says_first_that_most_programs_need_none_of_it() {
     }
 }
 
-#[test]
-fn what_most_programs_do_without_stands_in_blocks_behind_the_other_calls() {
-    let titles = [("_unchecked", "# Unchecked"), ("_counted", "# Counted")];
-    let (mut count, mut file, mut title) = (0, String::new(), None);
-    for item in items() {
-        if item.head.trim_start().starts_with("impl") {
-            let found = item.docs.first().and_then(|line| titles.iter().position(|(_, title)| line == title));
-            // (a file begins with its other calls)
-            assert!(item.file != file || found >= title || item.head.contains(" for "), "{}: {}", item.file, item.head);
-            (file, title) = (item.file, found);
-        } else if let Some(call) = item.head.strip_prefix("    pub ").and_then(|head| head.split_once("fn ")) {
-            let name = call.1.split(['(', '<']).next().unwrap_or_default();
-            let wanted = titles.iter().position(|(ending, _)| name.ends_with(ending));
-            assert_eq!(title, wanted, "{}: {name}", item.file);
-            count += usize::from(wanted.is_some());
+/// The items of the file of a type in the order of rustdoc: those of its modules, one after the other, and then its own.
+fn in_order(file: &str) -> Vec<Item> {
+    let (path, read) = (Path::new(file), |path: &Path| fs::read_to_string(path).expect("a text"));
+    let (mut modules, mut own, mut place, mut is_inside) = (Vec::new(), Vec::new(), None, false);
+    for line in read(path).lines() {
+        if let Some(named) = line.strip_prefix("#[path = \"").and_then(|rest| rest.strip_suffix("\"]")) {
+            place = Some(path.with_file_name(named));
+        } else if let Some(name) = line.strip_prefix("mod ").and_then(|rest| rest.strip_suffix(';')) {
+            let place = place.take().unwrap_or_else(|| path.with_extension("").join(format!("{name}.rs")));
+            modules.push(read(&place));
+        } else {
+            is_inside = (is_inside || line.starts_with("mod ")) && line != "}";
+            if is_inside { &mut modules } else { &mut own }.push(line.to_string());
         }
     }
-    assert_eq!(count, 18, "the calls of the two types with these endings");
+    modules.append(&mut own);
+    items_of(file, &modules.join("\n"))
+}
+
+#[test]
+fn what_most_programs_do_without_stands_in_the_last_blocks_of_its_type() {
+    let blocks = [("_unchecked", "# Unchecked"), ("_counted", "# Counted")];
+    for (file, wanted) in [("src/arraystring_core/array_string.rs", [8, 6]), ("src/cache_string.rs", [4, 0])] {
+        let (mut calls, mut titles, mut block) = (Vec::new(), Vec::new(), None);
+        for item in in_order(file) {
+            let head = item.head.trim_start();
+            if head.starts_with("impl") {
+                block = blocks.iter().position(|(_, title)| item.docs.first().is_some_and(|line| line == title));
+                titles.extend(block);
+            } else if let Some((_, name)) = head.strip_prefix("pub ").and_then(|head| head.split_once("fn ")) {
+                let name = name.split(['(', '<']).next().unwrap_or_default();
+                assert_eq!(block, blocks.iter().position(|(ending, _)| name.ends_with(ending)), "{file}: {name}");
+                calls.push((block, name.to_string()));
+            }
+        }
+        assert!(calls.is_sorted_by_key(|(block, _)| *block), "{file}: {calls:?}");
+        let counts = [0, 1].map(|number| calls.iter().filter(|(block, _)| *block == Some(number)).count());
+        assert_eq!(counts, wanted, "{file}: {calls:?}");
+        assert_eq!(titles, (0..blocks.len()).filter(|number| counts[*number] > 0).collect::<Vec<_>>(), "{file}");
+    }
 }
 
 #[test]

@@ -9,7 +9,7 @@ use std::process::{Command, Stdio};
 use crate::code::is_test;
 use crate::contracts::{Contracts, given_up};
 use crate::cursor::{Cursor, Fault};
-use crate::decoration::reference::{ALIASES, BY_STD, FATES, MORE, ONCE, OTHERS};
+use crate::decoration::reference::{ALIASES, BY_STD, FATES, INLINED, MORE, ONCE, OTHERS};
 use crate::erase::{Read, Source, Tally, line_of};
 use crate::items::{What, items};
 use crate::lists::{ADDED, BY_HAND, CRATES, LEFT_OUT, PLACES, REQUIRED};
@@ -115,6 +115,7 @@ pub fn entries(reasons: &[Reasons]) -> Vec<String> {
     names.extend(ADDED.iter().enumerate().map(|(number, _)| format!("added {number}")));
     names.extend(LEFT_OUT.iter().map(|(path, _)| format!("left out {path}")));
     names.extend(ONCE.iter().map(|rule| format!("once {}", rule.file)));
+    names.extend(INLINED.iter().map(|(file, name)| format!("inlined {file} {name}")));
     names.extend(ORDER.iter().map(|rule| format!("order {}", rule.file)));
     names.extend(MORE.iter().map(|rule| format!("more {}", rule.of)));
     names.extend(twins().map(|rule| format!("twin called {}", rule.call)));

@@ -63,7 +63,9 @@ pub const ORDER: &[Order] = &[Order {
         Module("push"),
         Module("write"),
         Module("insert"),
-        Module("range"),
+        Module("borrowed_range"),
+        Module("drained_range"),
+        Module("replaced_range"),
         Module("remove"),
         Module("retain"),
         Module("trim"),
@@ -72,6 +74,8 @@ pub const ORDER: &[Order] = &[Order {
         Module("append"),
         Module("replaced_part"),
         Module("fill"),
+        Module("unchecked"),
+        Module("counted"),
     ],
 }];
 
@@ -83,6 +87,7 @@ pub const NO_FACTS: &[&str] = &["looked", "moved", "IsFiniteIterable", "IsCallab
 /// word of `NO_FACTS` stops the eraser: `steps.old.looked ≤ length text.now` says of the text what a body may rest on.
 pub const GIVEN_UP: &[&str] = &[
     "steps.old.looked < 2 ^ 64 - 1",
+    "steps.moved ≤ 2 ^ 63",
     "steps.old.moved + len < 2 ^ 64",
     "self.old.moved + len < 2 ^ 64",
     "IsCallableInTurn F.pre F.step f (chars (take size (drop offset array.old)))",

@@ -10,8 +10,8 @@ mod accesses;
 mod compared_files;
 #[path = "tests/known_names.rs"]
 mod known_names;
-#[path = "tests/odd.rs"]
-mod odd;
+#[path = "tests/odd_input.rs"]
+mod odd_input;
 #[path = "tests/pages.rs"]
 mod pages;
 #[path = "tests/preconditions.rs"]
@@ -78,7 +78,7 @@ arraystring_base::sample::Number::fmt
 arraystring_base::sample::ArrayString::push_str
     ArrayString::put: by the test above
 
-arraystring_core::array_string::range::ArrayString::make_ascii_uppercase_in (so no caller shows it)
+arraystring_core::array_string::ascii::ArrayString::make_ascii_uppercase_in (so no caller shows it)
     ArrayString::uppercase_between: the index above panics else
 ";
 
@@ -374,7 +374,8 @@ pub fn slice<R: RangeBounds<u8>>(&self, range: R) -> &str
 }
 ";
     let made =
-        made_as("arraystring_core/src/array_string/range.rt", &format!("impl ArrayString {{\n{text}}}\n")).unwrap();
+        made_as("arraystring_core/src/array_string/borrowed_range.rt", &format!("impl ArrayString {{\n{text}}}\n"))
+            .unwrap();
     assert!(made.contains("\npub fn slice<") && made.contains("\n    &self.as_str()[start..end]\n"), "{made}");
 }
 

@@ -96,12 +96,14 @@ fn wider() -> Vec<String> {
     let mut items = BTreeMap::new();
     for (parameter, calls) in WIDER {
         let (to, of) = match asked(parameter) {
-            Some((name, asked)) => (taken(name, asked), format!(" of `{}`", asked.generics)),
+            Some((name, asked)) => (taken(name, asked), format!(" with `{}`", asked.generics)),
             None => (ASKED_EACH.0.to_string(), String::new()),
         };
         let (count, plural) = (calls.len(), if calls.len() == 1 { "call" } else { "calls" });
-        let said =
-            item(&format!("`{parameter}` of {count} {plural}"), &format!("`{to}`{of}, asked once before it is used"));
+        let said = item(
+            &format!("`{parameter}` of {count} {plural}"),
+            &format!("`{to}`{of}, converted once before it is used"),
+        );
         items.insert(*parameter, said);
     }
     items.into_values().collect()
@@ -195,8 +197,12 @@ mod tests {
         OTHERS.iter().for_each(|(_, here)| has(&format!(": {here}.")));
         twins().for_each(|rule| has(&format!("- `{}`: bodies call `{}`", rule.of, rule.twin)));
         assert_eq!(ADDED.iter().filter(|entry| list.contains(&format!("`: {}.", entry.why))).count(), 2);
-        has("- more calls in `impl<const N: usize> Iterator for Drain<N>`: callers that make room ask for it.");
-        has("- more calls in `impl<'a> Iterator for Units<'a>`: callers that make room ask for it.");
+        has(
+            "- more calls in `impl<const N: usize> Iterator for Drain<N>`: it is the size hint, which a caller needs to reserve room.",
+        );
+        has(
+            "- more calls in `impl<'a> Iterator for Units<'a>`: it is the size hint, which a caller needs to reserve room.",
+        );
         for (path, why) in LEFT_OUT.iter().filter(|(_, why)| *why != WHY_BY_STD) {
             has(&format!("{}` is left out: {why}.", path.rsplit([':', ' ']).next().unwrap()));
         }

@@ -147,11 +147,58 @@ impl<const N: usize> ArrayString<N> {
         Ok(())
     }
 
+    /// Appends `string` behind a text of the array that ends at `end`, and returns where it ends then.
+    /// Returns `None` if there is no room behind it, and then changes nothing. Afterwards the `len` bytes
+    /// from `start` on are UTF-8 and end within the capacity.
+    #[inline(always)]
+    pub(super) fn append_str_behind(
+        array: &mut [u8; N],
+        start: u8,
+        len: &mut u8,
+        end: usize,
+        string: &str,
+    ) -> Option<usize>
+        requires in_array { IsStored N array.old start len.old }
+        requires end { end ≡ start + len.old }
+        ensures in_array { IsStored N array.new start len.new }
+        ensures end { IfSome result (λ next. next ≡ start + len.new) }
+        ensures text { let t = (stored array.old start len.old).text in let new = (stored array.new start len.new).text in
+            MatchOption result ((cap N < end + size (chars string.now)) × (array.new ≡ array.old) × (len.new ≡ len.old))
+            (λ _. (size t + size (chars string.now) ≤ cap N) × (new ≡ t ++ chars string.now)) }
+    {
+        let next = end + string.len();
+        if next > Self::capacity() as usize {
+            return None;
+        }
+        let size = next - start as usize;
+        *len = size as u8;
+        write_over(array, end, string.as_bytes());
+        Some(next)
+    }
+
+    /// Appends `string` to a text that has to move to the start of the array for it, if it fits so. It
+    /// stands apart from `try_push_str`, as `push_at_front` does from `try_push`.
+    #[cold]
+    #[inline(never)]
+    pub(super) fn push_str_at_front(&mut self, string: &str) -> Result<(), OutOfBounds>
+        ensures { Makes (addition self.old.text (chars string.now) (cap N)) self.old.text (from_out_of_bounds result) self.new.text }
+    {
+        let (start, size) = (self.start as usize, self.size as usize);
+        let all = &mut self.array[..];
+        let appended = append_at_front(size, string.as_bytes(), all, start);
+        let Some(size) = appended else {
+            return Err(OutOfBounds);
+        };
+        self.start = 0;
+        self.size = size as u8;
+        Ok(())
+    }
+
     /// Appends `string` to a text of the array that ends at `end`, and returns where it ends then. Returns
     /// `None` if not all of it fits: then it ends at `end` still. Afterwards the `len` bytes from `start`
     /// on are UTF-8 and end within the capacity.
     #[inline(always)]
-    pub(super) fn append_str(
+    fn append_str(
         array: &mut [u8; N],
         start: &mut u8,
         len: &mut u8,
@@ -166,10 +213,7 @@ impl<const N: usize> ArrayString<N> {
             MatchOption result ((cap N < size t + size (chars string.now)) × (new ≡ t))
             (λ _. (size t + size (chars string.now) ≤ cap N) × (new ≡ t ++ chars string.now)) }
     {
-        let next = end + string.len();
-        if next <= Self::capacity() as usize {
-            *len += string.len() as u8;
-            write_over(array, end, string.as_bytes());
+        if let Some(next) = Self::append_str_behind(array, *start, len, end, string) {
             return Some(next);
         }
         let from = *start as usize;

@@ -1,10 +1,13 @@
-//! The ASCII letters of a string, made upper or lower case.
+//! The ASCII letters of a string or of a range of it, made upper or lower case.
 ghost use Rattle.std.specs.Prelude.{◌≡◌, ◌-◌, ◌≤◌, ◌++◌, Ok, IsTrue, length, take, drop, map};
 ghost use Rattle.std.specs.Char.{to_ascii_uppercase, to_ascii_lowercase};
-ghost use Rattle.arraystring_base.specs.Text.{front, back, boundary};
+ghost use Rattle.std.specs.Range.Bound.{start_index, end_index};
+ghost use Rattle.arraystring_base.specs.Text.{size, front, back, boundary};
 ghost use Rattle.arraystring_core.specs.Edits.{Makes, uppercase, lowercase, part};
 
 use crate::ArrayString;
+use crate::range_ends::plain_ends;
+use std::ops::RangeBounds;
 
 impl<const N: usize> ArrayString<N> {
     /// Changes a..z to A..Z. All other characters stay as they are.
@@ -37,8 +40,64 @@ impl<const N: usize> ArrayString<N> {
         self.lowercase_between(0, self.len() as usize);
     }
 
+    /// Changes a..z to A..Z in the range. All other characters stay as they are.
+    ///
+    /// # Precondition
+    ///
+    /// - `has_bounds` must hold of the range. It holds of each range of std, except a
+    ///   `RangeInclusive` that was iterated to its end.
+    /// - The range must not end before it starts.
+    /// - Both ends, read as in `slice`, must be boundaries.
+    ///
+    /// # Examples
+    ///
+    /// ```
+    /// let mut string = ArrayString::<8>::from("hello é");
+    /// string.make_ascii_uppercase_in(..1);
+    /// assert_eq!(string.as_str(), "Hello é");
+    /// ```
+    pub fn make_ascii_uppercase_in<R: RangeBounds<u8> + Drop>(&mut self, range: R)
+        requires known { R.has_bounds range }
+        requires order { start_index (R.start_bound range) ≤ end_index (R.end_bound range) (size self.old.text) }
+        requires start { IsTrue (boundary self.old.text (start_index (R.start_bound range))) }
+        requires end { IsTrue (boundary self.old.text (end_index (R.end_bound range) (size self.old.text))) }
+        ensures { let t = self.old.text in let start = start_index (R.start_bound range) in let end = end_index (R.end_bound range) (size t) in
+            self.new.text ≡ front t start ++ (map to_ascii_uppercase (part t start end) ++ back t end) }
+    {
+        let (start, end) = plain_ends(range, self.len());
+        self.uppercase_between(start, end);
+    }
+
+    /// Changes A..Z to a..z in the range. All other characters stay as they are.
+    ///
+    /// # Precondition
+    ///
+    /// - `has_bounds` must hold of the range. It holds of each range of std, except a
+    ///   `RangeInclusive` that was iterated to its end.
+    /// - The range must not end before it starts.
+    /// - Both ends, read as in `slice`, must be boundaries.
+    ///
+    /// # Examples
+    ///
+    /// ```
+    /// let mut string = ArrayString::<8>::from("HELLO É");
+    /// string.make_ascii_lowercase_in(1..);
+    /// assert_eq!(string.as_str(), "Hello É");
+    /// ```
+    pub fn make_ascii_lowercase_in<R: RangeBounds<u8> + Drop>(&mut self, range: R)
+        requires known { R.has_bounds range }
+        requires order { start_index (R.start_bound range) ≤ end_index (R.end_bound range) (size self.old.text) }
+        requires start { IsTrue (boundary self.old.text (start_index (R.start_bound range))) }
+        requires end { IsTrue (boundary self.old.text (end_index (R.end_bound range) (size self.old.text))) }
+        ensures { let t = self.old.text in let start = start_index (R.start_bound range) in let end = end_index (R.end_bound range) (size t) in
+            self.new.text ≡ front t start ++ (map to_ascii_lowercase (part t start end) ++ back t end) }
+    {
+        let (start, end) = plain_ends(range, self.len());
+        self.lowercase_between(start, end);
+    }
+
     /// Changes a..z to A..Z between two boundaries.
-    pub(super) fn uppercase_between(&mut self, start: usize, end: usize)
+    fn uppercase_between(&mut self, start: usize, end: usize)
         requires order { start ≤ end }
         requires start { IsTrue (boundary self.old.text start) }
         requires end { IsTrue (boundary self.old.text end) }
@@ -49,7 +108,7 @@ impl<const N: usize> ArrayString<N> {
     }
 
     /// Changes A..Z to a..z between two boundaries.
-    pub(super) fn lowercase_between(&mut self, start: usize, end: usize)
+    fn lowercase_between(&mut self, start: usize, end: usize)
         requires order { start ≤ end }
         requires start { IsTrue (boundary self.old.text start) }
         requires end { IsTrue (boundary self.old.text end) }

@@ -1,17 +1,17 @@
 //! The constructors: from a `&str`, from pieces, from characters and from bytes of UTF-8.
-ghost use Rattle.std.specs.Prelude.{◌≡◌, ℕ, ◌≤◌, ◌↔◌, List, Err, IsOk, IfOk, chars, length};
+ghost use Rattle.std.specs.Prelude.{◌≡◌, ℕ, ◌↔◌, List, Err, IsOk, IfOk, chars};
 ghost use Rattle.std.specs.Borrow.{Bor};
 ghost use Rattle.std.specs.Iterator.{IsFiniteIterable};
-ghost use Rattle.arraystring_base.specs.Text.{size, bytes, cap, cut, IsText, IsWellFormed};
+ghost use Rattle.arraystring_base.specs.Text.{bytes, cap, cut, IsText, IsWellFormed};
 ghost use Rattle.arraystring_core.specs.Edits.{from_out_of_bounds};
 ghost use Rattle.arraystring_core.specs.Construct.{IsWholeOrRefused};
-ghost use Rattle.arraystring_core.specs.Taken.{Takes, TakesAll, Fits, Gives, joined, joined_pieces, piece_text};
+ghost use Rattle.arraystring_core.specs.Taken.{Takes, Gives, joined, joined_pieces, piece_text};
 
 use crate::ArrayString;
-use crate::array_string::fill::{fill, try_fill};
+use crate::array_string::fill::try_fill;
 use crate::fast::well_formed::read_utf8;
 use arraystring_base::error::{Error, OutOfBounds, Utf8};
-use arraystring_base::utils::{truncate_str, write_over};
+use arraystring_base::utils::truncate_str;
 use std::str;
 
 impl<const N: usize> ArrayString<N> {
@@ -57,25 +57,6 @@ impl<const N: usize> ArrayString<N> {
         ensures { result.text ≡ cut (chars string.now) (cap N) }
     {
         Self::from_str_unchecked(truncate_str(string, Self::capacity()))
-    }
-
-    /// Creates a string from `string`.
-    ///
-    /// # Precondition
-    ///
-    /// All of `string` must fit.
-    #[inline]
-    pub fn from_str_unchecked(string: &str) -> Self
-        requires { size (chars string.now) ≤ cap N }
-        ensures { result.text ≡ chars string.now }
-    {
-        let mut array = [0; N];
-        fill(&mut array, string.as_bytes());
-        ArrayString {
-            array,
-            start: 0,
-            size: string.len() as u8,
-        }
     }
 
     /// Creates a string from all pieces, joined.
@@ -136,33 +117,6 @@ impl<const N: usize> ArrayString<N> {
         ArrayString { array, start, size }
     }
 
-    /// Creates a string from all pieces, joined.
-    ///
-    /// # Precondition
-    ///
-    /// All of the pieces must fit. The iterator must end, and until then the precondition of its
-    /// `next` must hold.
-    pub fn from_iterator_unchecked<'a, I: IntoIterator<Item = &'a str> + Drop>(pieces: I) -> Self
-        requires ends { IsFiniteIterable I.into_iter_gives I.IntoIter.can_next I.IntoIter.remaining pieces }
-        requires fits { Fits I.into_iter_gives I.IntoIter.next_gives joined_pieces pieces (cap N) }
-        ensures taken { (taken : List (Bor (List ℕ))) × TakesAll I.into_iter_gives I.IntoIter.next_gives pieces taken
-            × (result.text ≡ joined_pieces taken) }
-        ensures whole { (all : List (List ℕ)) → Gives I.into_iter_gives I.IntoIter.next_gives piece_text pieces all
-            → result.text ≡ joined all }
-    {
-        let mut array = [0; N];
-        let mut end = 0;
-        for piece in pieces {
-            write_over(&mut array, end, piece.as_bytes());
-            end += piece.len();
-        }
-        ArrayString {
-            array,
-            start: 0,
-            size: end as u8,
-        }
-    }
-
     /// Creates a string from all characters.
     ///
     /// # Errors
@@ -218,23 +172,6 @@ impl<const N: usize> ArrayString<N> {
         let (mut start, mut size) = (0, 0);
         let _ = Self::append_chars(&mut array, &mut start, &mut size, characters);
         ArrayString { array, start, size }
-    }
-
-    /// Creates a string from all characters.
-    ///
-    /// # Precondition
-    ///
-    /// All of the characters must fit. The iterator must end, and until then the precondition of its
-    /// `next` must hold.
-    pub fn from_chars_unchecked<I: IntoIterator<Item = char> + Drop>(characters: I) -> Self
-        requires ends { IsFiniteIterable I.into_iter_gives I.IntoIter.can_next I.IntoIter.remaining characters }
-        requires fits { Fits I.into_iter_gives I.IntoIter.next_gives (λ cs. cs) characters (cap N) }
-        ensures taken { (taken : List ℕ) × TakesAll I.into_iter_gives I.IntoIter.next_gives characters taken
-            × (result.text ≡ taken) }
-        ensures whole { (all : List ℕ) → Gives I.into_iter_gives I.IntoIter.next_gives (λ c. c) characters all
-            → result.text ≡ all }
-    {
-        Self::from_chars(characters)
     }
 
     /// Creates a string from the UTF-8 in `given`.
@@ -293,21 +230,5 @@ impl<const N: usize> ArrayString<N> {
             return Err(Utf8);
         };
         Ok(Self::from_str_truncate(string))
-    }
-
-    /// Creates a string from the UTF-8 in `given`.
-    ///
-    /// # Precondition
-    ///
-    /// `given` must be well-formed UTF-8 (the Unicode Standard, section 3.9), and all of it must
-    /// fit.
-    pub fn from_utf8_unchecked(given: &[u8]) -> Self
-        requires well_formed { IsWellFormed given.now }
-        requires fits { length given.now ≤ cap N }
-        ensures bytes { bytes result.text ≡ given.now }
-        ensures text { IsText result.text }
-    {
-        // SAFETY: the caller has to give well-formed UTF-8.
-        Self::from_str_unchecked(unsafe { str::from_utf8_unchecked(given) })
     }
 }

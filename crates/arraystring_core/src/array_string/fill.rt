@@ -5,8 +5,8 @@ ghost use Rattle.arraystring_base.specs.Text.{cap};
 use crate::ArrayString;
 use arraystring_base::utils::{write_by_call, write_over};
 
-/// Writes `given` at the start of a new array. In a large one it is written by one call whatever its
-/// length, and the compiler then makes fewer copies of the array on its way out.
+/// Writes `given` at the start of a new array. If the array is large, one call writes `given`, whatever
+/// its length. The compiler then makes fewer copies of the array where the string is returned.
 #[inline(always)]
 pub(super) fn fill<const N: usize>(array: &mut [u8; N], given: &[u8])
     requires { length given.now ≤ N }

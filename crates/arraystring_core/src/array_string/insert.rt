@@ -1,6 +1,6 @@
 //! Texts and characters that are inserted at an index.
-ghost use Rattle.std.specs.Prelude.{◌≡◌, ◌≢◌, ◌+◌, ◌-◌, ◌^◌, ◌≤◌, [], ◌∷◌, ◌++◌, min, IsTrue, OnOk, OnErr, chars};
-ghost use Rattle.arraystring_base.specs.Text.{size, width, cap, front, back, boundary};
+ghost use Rattle.std.specs.Prelude.{[], ◌∷◌, chars};
+ghost use Rattle.arraystring_base.specs.Text.{cap};
 ghost use Rattle.arraystring_core.specs.Edits.{Makes, insertion, insertion_of_cut};
 
 use crate::ArrayString;
@@ -44,19 +44,6 @@ impl<const N: usize> ArrayString<N> {
         Ok(())
     }
 
-    /// Inserts `ch` at the byte index `index`.
-    ///
-    /// # Precondition
-    ///
-    /// The index must be a boundary, and `ch` must fit.
-    pub fn insert_unchecked(&mut self, index: u8, ch: char)
-        requires boundary { IsTrue (boundary self.old.text index) }
-        requires room { size self.old.text + width ch ≤ cap N }
-        ensures { self.new.text ≡ front self.old.text index ++ (ch ∷ back self.old.text index) }
-    {
-        self.put_char(index as usize, ch);
-    }
-
     /// Inserts `string` at the byte index `index`.
     ///
     /// # Errors
@@ -83,59 +70,8 @@ impl<const N: usize> ArrayString<N> {
         self.try_insert_str_counted(index, string, &mut Steps::new())
     }
 
-    /// Most programs need `try_insert_str`, and none of the counted calls. Inserts as
-    /// `try_insert_str` does, with the bytes that it moves counted in `steps`. They are no more than
-    /// the text had. An insertion of at least one character moves at least as many as the shorter of
-    /// the parts before and after the index has. A refused one moves none.
-    ///
-    /// # Errors
-    ///
-    /// Those of `try_insert_str`, in the same order.
-    ///
-    /// # Precondition
-    ///
-    /// Both counts of `steps` must be at most 2^63.
-    ///
-    /// # Examples
-    ///
-    /// ```
-    /// let mut string = ArrayString::<8>::from("abcd");
-    /// let mut steps = Steps::new();
-    /// assert_eq!(string.try_insert_str_counted(3, "é", &mut steps), Ok(()));
-    /// assert_eq!(string.as_str(), "abcéd");
-    /// assert!((1..=4).contains(&steps.moved()));
-    /// ```
-    pub fn try_insert_str_counted(
-        &mut self,
-        index: u8,
-        string: &str,
-        steps: &mut Steps,
-    ) -> Result<(), Error>
-        requires looks { steps.old.looked ≤ 2 ^ 63 }
-        requires moves { steps.old.moved ≤ 2 ^ 63 }
-        ensures edit { Makes (insertion self.old.text index (chars string.now) (cap N)) self.old.text result self.new.text }
-        ensures refused { OnErr result (steps.new.moved ≡ steps.old.moved) }
-        ensures most { steps.new.moved ≤ steps.old.moved + size self.old.text }
-        ensures least { OnOk result (chars string.now ≢ [] → steps.old.moved + min index (size self.old.text - index) ≤ steps.new.moved) }
-        ensures counted { steps.old.moved ≤ steps.new.moved }
-        ensures looked { steps.new.looked ≡ steps.old.looked }
-    {
-        if index > self.len() {
-            return Err(Error::OutOfBounds);
-        }
-        if self.len() as usize + string.len() > Self::capacity() as usize {
-            return Err(Error::OutOfBounds);
-        }
-        let start = index as usize;
-        if !self.is_boundary(start) {
-            return Err(Error::Utf8);
-        }
-        self.splice(start, start, string, steps);
-        Ok(())
-    }
-
-    /// Inserts the longest prefix of whole characters of `string` that fits at the byte index
-    /// `index`.
+    /// Inserts at the byte index `index` the longest prefix of whole characters of `string` that
+    /// fits.
     ///
     /// # Errors
     ///
@@ -165,19 +101,5 @@ impl<const N: usize> ArrayString<N> {
         let room = Self::capacity() - self.len();
         self.insert_str_unchecked(index, truncate_str(string, room));
         Ok(())
-    }
-
-    /// Inserts `string` at the byte index `index`.
-    ///
-    /// # Precondition
-    ///
-    /// The index must be a boundary, and all of `string` must fit.
-    pub fn insert_str_unchecked(&mut self, index: u8, string: &str)
-        requires boundary { IsTrue (boundary self.old.text index) }
-        requires room { size self.old.text + size (chars string.now) ≤ cap N }
-        ensures { self.new.text ≡ front self.old.text index ++ (chars string.now ++ back self.old.text index) }
-    {
-        let start = index as usize;
-        self.splice(start, start, string, &mut Steps::new());
     }
 }

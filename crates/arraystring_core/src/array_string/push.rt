@@ -1,6 +1,6 @@
-//! What is appended: characters, texts, and what an iterator gives.
-ghost use Rattle.std.specs.Prelude.{◌≡◌, ◌+◌, ◌-◌, ◌≤◌, Ok, [], ◌∷◌, ◌++◌, chars, ℕ, List};
-ghost use Rattle.arraystring_base.specs.Text.{size, width, cap};
+//! Appends: of characters, of texts, and of the items of an iterator.
+ghost use Rattle.std.specs.Prelude.{◌-◌, Ok, [], ◌∷◌, chars, ℕ, List};
+ghost use Rattle.arraystring_base.specs.Text.{size, cap};
 ghost use Rattle.arraystring_core.specs.Edits.{Makes, from_out_of_bounds, addition, addition_of_cut};
 ghost use Rattle.std.specs.Borrow.{Bor};
 ghost use Rattle.std.specs.Iterator.{IsFiniteIterable};
@@ -37,21 +37,6 @@ impl<const N: usize> ArrayString<N> {
         }
     }
 
-    /// Appends `ch`.
-    ///
-    /// # Precondition
-    ///
-    /// `ch` must fit.
-    #[inline(always)]
-    pub fn push_unchecked(&mut self, ch: char)
-        requires { size self.old.text + width ch ≤ cap N }
-        ensures { self.new.text ≡ self.old.text ++ ch ∷ [] }
-    {
-        let Ok(()) = self.try_push(ch) else {
-            unreachable!();
-        };
-    }
-
     /// Appends `string`.
     ///
     /// # Errors
@@ -71,15 +56,10 @@ impl<const N: usize> ArrayString<N> {
         ensures { Makes (addition self.old.text (chars string.now) (cap N)) self.old.text (from_out_of_bounds result) self.new.text }
     {
         let end = self.end();
-        match Self::append_str(
-            &mut self.array,
-            &mut self.start,
-            &mut self.size,
-            end,
-            string,
-        ) {
+        match Self::append_str_behind(&mut self.array, self.start, &mut self.size, end, string) {
             Some(_) => Ok(()),
-            None => Err(OutOfBounds),
+            None if self.start == 0 => Err(OutOfBounds),
+            None => self.push_str_at_front(string),
         }
     }
 
@@ -97,21 +77,6 @@ impl<const N: usize> ArrayString<N> {
     {
         let room = Self::capacity() - self.len();
         self.push_str_unchecked(truncate_str(string, room));
-    }
-
-    /// Appends `string`.
-    ///
-    /// # Precondition
-    ///
-    /// All of `string` must fit.
-    #[inline]
-    pub fn push_str_unchecked(&mut self, string: &str)
-        requires { size self.old.text + size (chars string.now) ≤ cap N }
-        ensures { self.new.text ≡ self.old.text ++ chars string.now }
-    {
-        let Ok(()) = self.try_push_str(string) else {
-            unreachable!();
-        };
     }
 
     /// Appends the longest prefix of the characters that fits.

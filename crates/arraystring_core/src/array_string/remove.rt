@@ -1,12 +1,12 @@
 //! What is removed from a string: a character at the end or at an index, the text from an index on, all of
 //! it. The private calls remove a part, a front or an end of the text.
-ghost use Rattle.std.specs.Prelude.{◌≡◌, ◌≢◌, ◌+◌, ◌-◌, ◌^◌, ◌<◌, ◌≤◌, min, IfSome, Ok, ◌++◌, IsTrue, length, IfOk, OnErr, slice_index, drop, ℕ, List};
+ghost use Rattle.std.specs.Prelude.{◌≡◌, ◌≢◌, ◌+◌, ◌-◌, ◌^◌, ◌<◌, ◌≤◌, min, Ok, ◌++◌, IsTrue, length, slice_index, drop, ℕ, List};
 ghost use Rattle.arraystring_base.specs.Text.{size, width, front, back, boundary, utf8};
 ghost use Rattle.arraystring_core.specs.Edits.{Makes, popping, from_utf8_error, with_text, truncation, removal, clearing, split};
 
 use crate::ArrayString;
 use arraystring_base::error::{Error, Utf8};
-use arraystring_base::utils::{Steps, last_char, shift};
+use arraystring_base::utils::{Steps, shift};
 
 impl<const N: usize> ArrayString<N> {
     /// Shortens the text to its first `size` bytes. Nothing changes if it has no more.
@@ -54,35 +54,6 @@ impl<const N: usize> ArrayString<N> {
         self.pop_counted(&mut Steps::new())
     }
 
-    /// Most programs need `pop`, and none of the counted calls. Pops as `pop` does, counted in
-    /// `steps`: at most four looks, at least one if there is a character, and no moves.
-    ///
-    /// # Precondition
-    ///
-    /// Both counts of `steps` must be at most 2^63.
-    ///
-    /// # Examples
-    ///
-    /// ```
-    /// let mut string = ArrayString::<4>::from("aé");
-    /// let mut steps = Steps::new();
-    /// assert_eq!(string.pop_counted(&mut steps), Some('é'));
-    /// assert!((1..=4).contains(&steps.looked()) && steps.moved() == 0);
-    /// ```
-    pub fn pop_counted(&mut self, steps: &mut Steps) -> Option<char>
-        requires looks { steps.old.looked ≤ 2 ^ 63 }
-        requires moves { steps.old.moved ≤ 2 ^ 63 }
-        ensures edit { Makes (popping self.old.text) self.old.text (Ok result) self.new.text }
-        ensures looked { steps.new.looked ≤ steps.old.looked + 4 }
-        ensures least { IfSome result (λ _. steps.old.looked < steps.new.looked) }
-        ensures counted { steps.old.looked ≤ steps.new.looked }
-        ensures moved { steps.new.moved ≡ steps.old.moved }
-    {
-        let (start, ch) = last_char(self.as_str(), steps)?;
-        self.keep(start as u8);
-        Some(ch)
-    }
-
     /// Removes the character that begins at the byte index `index` and returns it.
     ///
     /// # Errors
@@ -107,51 +78,6 @@ impl<const N: usize> ArrayString<N> {
         ensures { Makes (removal self.old.text index) self.old.text result self.new.text }
     {
         self.remove_counted(index, &mut Steps::new())
-    }
-
-    /// Most programs need `remove`, and none of the counted calls. Removes as `remove` does, with the
-    /// bytes that it moves counted in `steps`. They are no more than the part after the character
-    /// has, and at least as many as the shorter of the parts before and after it has. It moves none
-    /// at index 0, and none if it is refused.
-    ///
-    /// # Errors
-    ///
-    /// Those of `remove`, in the same order.
-    ///
-    /// # Precondition
-    ///
-    /// Both counts of `steps` must be at most 2^63.
-    ///
-    /// # Examples
-    ///
-    /// ```
-    /// let mut string = ArrayString::<8>::from("abcd");
-    /// let mut steps = Steps::new();
-    /// assert_eq!(string.remove_counted(2, &mut steps), Ok('c'));
-    /// assert_eq!((string.as_str(), steps.moved()), ("abd", 1)); // `d` moved
-    /// ```
-    #[inline(always)]
-    pub fn remove_counted(&mut self, index: u8, steps: &mut Steps) -> Result<char, Error>
-        requires looks { steps.old.looked ≤ 2 ^ 63 }
-        requires moves { steps.old.moved ≤ 2 ^ 63 }
-        ensures edit { Makes (removal self.old.text index) self.old.text result self.new.text }
-        ensures refused { OnErr result (steps.new.moved ≡ steps.old.moved) }
-        ensures free { index ≡ 0 → steps.new.moved ≡ steps.old.moved }
-        ensures tail_alone { IfOk result (λ ch. steps.new.moved ≤ steps.old.moved + (size self.old.text - (index + width ch))) }
-        ensures least { IfOk result (λ ch. steps.old.moved + min index (size self.old.text - (index + width ch)) ≤ steps.new.moved) }
-        ensures counted { steps.old.moved ≤ steps.new.moved }
-        ensures looked { steps.new.looked ≡ steps.old.looked }
-    {
-        if index >= self.len() {
-            return Err(Error::OutOfBounds);
-        }
-        let start = index as usize;
-        if !self.is_boundary(start) {
-            return Err(Error::Utf8);
-        }
-        let (ch, width) = self.char_at(start);
-        self.take_out(start, start + width, steps);
-        Ok(ch)
     }
 
     /// Splits the text at the byte index `at`, which may be the length. Keeps the part before it
@@ -242,7 +168,7 @@ impl<const N: usize> ArrayString<N> {
     }
 
     /// The character that begins at a boundary before the end, and how many bytes it takes.
-    fn char_at(&self, at: usize) -> (char, usize)
+    pub(super) fn char_at(&self, at: usize) -> (char, usize)
         requires boundary { IsTrue (boundary self.now.text at) }
         requires before_end { at < size self.now.text }
         ensures first { result.0 ≡ slice_index (back self.now.text at) 0 }

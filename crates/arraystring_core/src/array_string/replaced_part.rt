@@ -1,6 +1,6 @@
 //! A part of a text that is replaced by another text. The gap for it is opened in two ways: behind the
 //! text, or, where there is no room, by moving the front of the text too.
-ghost use Rattle.std.specs.Prelude.{◌≡◌, ◌≢◌, ◌+◌, ◌-◌, ◌^◌, ◌<◌, ◌≤◌, min, ◌∷◌, ◌++◌, IsTrue, chars, length, take, drop, if◌then◌else◌, ◌==◌};
+ghost use Rattle.std.specs.Prelude.{◌≡◌, ◌≢◌, ◌+◌, ◌-◌, ◌^◌, ◌≤◌, min, ◌∷◌, ◌++◌, IsTrue, chars, length, take, drop, if◌then◌else◌, ◌==◌};
 ghost use Rattle.arraystring_base.specs.Text.{size, width, cap, front, back, boundary};
 
 use crate::ArrayString;
@@ -27,7 +27,8 @@ impl<const N: usize> ArrayString<N> {
         let len = given.len();
         let tail = text.size - end;
         if text.offset + (start + (len + tail)) > Self::capacity() as usize {
-            return self.compact_and_splice(start, end, given, steps);
+            *steps = self.compact_and_splice(start, end, given, *steps);
+            return;
         }
         self.size = (start + (len + tail)) as u8;
         open_gap(&mut self.array, text, start, end, len, steps);
@@ -35,33 +36,34 @@ impl<const N: usize> ArrayString<N> {
     }
 
     /// Replaces the part between two boundaries of a text that has to move to the start of the array
-    /// for it.
+    /// for it. The count goes through by value: where nobody reads it, the compiler leaves it out.
     #[cold]
     #[inline(never)]
-    pub(super) fn compact_and_splice(
+    fn compact_and_splice(
         &mut self,
         start: usize,
         end: usize,
         given: &str,
-        steps: &mut Steps,
-    )
+        mut steps: Steps,
+    ) -> Steps
         requires order { start ≤ end }
         requires start { IsTrue (boundary self.old.text start) }
         requires end { IsTrue (boundary self.old.text end) }
         requires room { size self.old.text - (end - start) + size (chars given.now) ≤ cap N }
-        requires countable { steps.old.moved ≤ 2 ^ 63 }
+        requires countable { steps.moved ≤ 2 ^ 63 }
         ensures text { self.new.text ≡ front self.old.text start ++ (chars given.now ++ back self.old.text end) }
-        ensures most { steps.new.moved ≤ steps.old.moved + (start + (size self.old.text - end)) }
-        ensures least { end ≢ start + size (chars given.now) → steps.old.moved + min start (size self.old.text - end) ≤ steps.new.moved }
-        ensures counted { steps.old.moved ≤ steps.new.moved }
-        ensures looked { steps.new.looked ≡ steps.old.looked }
+        ensures most { result.moved ≤ steps.moved + (start + (size self.old.text - end)) }
+        ensures least { end ≢ start + size (chars given.now) → steps.moved + min start (size self.old.text - end) ≤ result.moved }
+        ensures counted { steps.moved ≤ result.moved }
+        ensures looked { result.looked ≡ steps.looked }
     {
         let text = Span::new(self.start, self.size);
         let len = given.len();
         self.start = 0;
         self.size = (start + (len + (text.size - end))) as u8;
-        compact_and_open_gap(&mut self.array, text, start, end, len, steps);
+        compact_and_open_gap(&mut self.array, text, start, end, len, &mut steps);
         write_over(&mut self.array, start, given.as_bytes());
+        steps
     }
 
     /// Puts `ch` at a boundary. There must be room for it. It is no call of `splice`, by which `try_insert`
@@ -79,7 +81,8 @@ impl<const N: usize> ArrayString<N> {
             encode(ch, &mut utf8, 0);
             // SAFETY: `encode` wrote the `len` bytes of the UTF-8 of `ch` in front.
             let given = unsafe { str::from_utf8_unchecked(&utf8[..len]) };
-            return self.compact_and_splice(at, at, given, &mut Steps::new());
+            self.compact_and_splice(at, at, given, Steps::new());
+            return;
         }
         self.size = (at + (len + (text.size - at))) as u8;
         open_gap(&mut self.array, text, at, at, len, &mut Steps::new());
@@ -168,26 +171,6 @@ fn compact_and_open_gap<const N: usize>(
     ensures looked { steps.new.looked ≡ steps.old.looked }
 {
     let tail = text.size - end;
-    shift_by_call(array, text.offset, 0, start, steps);
-    shift_by_call(array, text.offset + end, start + len, tail, steps);
-}
-
-/// Moves as `shift` does, which is inlined. The code of both moves of `compact_and_open_gap` is here once.
-#[cold]
-#[inline(never)]
-fn shift_by_call<const N: usize>(
-    array: &mut [u8; N],
-    from: usize,
-    to: usize,
-    len: usize,
-    steps: &mut Steps,
-)
-    requires source { from + len ≤ N }
-    requires target { to + len ≤ N }
-    requires countable { steps.old.moved + len < 2 ^ 64 }
-    ensures bytes { array.new ≡ take to array.old ++ (take len (drop from array.old) ++ drop (to + len) array.old) }
-    ensures moved { steps.new.moved ≡ steps.old.moved + (if from == to then 0 else len) }
-    ensures looked { steps.new.looked ≡ steps.old.looked }
-{
-    shift(array, from, to, len, steps);
+    shift(array, text.offset, 0, start, steps);
+    shift(array, text.offset + end, start + len, tail, steps);
 }

@@ -189,7 +189,7 @@ impl<const N: usize> Ord for ArrayString<N> {
         ensures of_bytes { result ≡ slice_cmp nat_cmp (bytes self.now.text) (bytes other.now.text) }
         ensures says { MatchOrdering result (IsBefore self.now.text other.now.text) (self.now.text ≡ other.now.text) (IsBefore other.now.text self.now.text) }
     {
-        // The other one is read first, so that no register has to be moved.
+        // `other` is read first: in the other order the compiler moves a register.
         let other_text = other.as_str();
         order::<N>(self.as_str(), other_text)
     }

@@ -26,37 +26,6 @@ impl<const N: usize> ArrayString<N> {
         self.trim_counted(&mut Steps::new());
     }
 
-    /// Most programs need `trim`, and none of the counted calls. Trims as `trim` does, with its looks
-    /// at the end counted in `steps`: at each character that it removes there and at the one before
-    /// them, each at least once and at most four times. What it reads at the start is not counted.
-    /// It moves no byte.
-    ///
-    /// # Precondition
-    ///
-    /// Both counts of `steps` must be at most 2^63.
-    ///
-    /// # Examples
-    ///
-    /// ```
-    /// let mut string = ArrayString::<8>::from("  a ");
-    /// let mut steps = Steps::new();
-    /// string.trim_counted(&mut steps);
-    /// assert_eq!((string.as_str(), steps.moved()), ("a", 0));
-    /// assert!((2..=8).contains(&steps.looked())); // the space at the end, and `a`
-    /// ```
-    pub fn trim_counted(&mut self, steps: &mut Steps)
-        requires looks { steps.old.looked ≤ 2 ^ 63 }
-        requires moves { steps.old.moved ≤ 2 ^ 63 }
-        ensures edit { Makes (trimming is_white_space self.old.text) self.old.text (Ok result) self.new.text }
-        ensures moved { steps.new.moved ≡ steps.old.moved }
-        ensures looked { steps.new.looked ≤ steps.old.looked + 4 * (length self.old.text - length (without_trailing is_white_space self.old.text) + 1) }
-        ensures least { steps.old.looked + min (length self.old.text) (length self.old.text - length (without_trailing is_white_space self.old.text) + 1) ≤ steps.new.looked }
-        ensures counted { steps.old.looked ≤ steps.new.looked }
-    {
-        self.drop_trailing(is_white_space, steps);
-        self.drop_leading(is_white_space);
-    }
-
     /// Removes all spaces (U+0020) at both ends, and nothing else.
     ///
     /// # Examples
@@ -76,7 +45,7 @@ impl<const N: usize> ArrayString<N> {
     /// Drops the characters at the end for which `drops` returns true, back to the last for which
     /// it does not. It moves no byte. It looks at each character that it drops and at the one before
     /// them: at each at least once, and at most four times.
-    fn drop_trailing<F: Fn(char) -> bool + Drop>(&mut self, drops: F, steps: &mut Steps)
+    pub(super) fn drop_trailing<F: Fn(char) -> bool + Drop>(&mut self, drops: F, steps: &mut Steps)
         requires callable { F.IsAlwaysCallable drops }
         requires looks { steps.old.looked ≤ 2 ^ 63 }
         ensures text { (passes : ℕ → Bool) → ReturnsAs F.post drops passes → self.new.text ≡ without_trailing passes self.old.text }
@@ -96,7 +65,7 @@ impl<const N: usize> ArrayString<N> {
 
     /// Drops the characters at the start for which `drops` returns true, up to the first for which
     /// it does not.
-    fn drop_leading<F: Fn(char) -> bool + Drop>(&mut self, drops: F)
+    pub(super) fn drop_leading<F: Fn(char) -> bool + Drop>(&mut self, drops: F)
         requires callable { F.IsAlwaysCallable drops }
         ensures { (passes : ℕ → Bool) → ReturnsAs F.post drops passes → self.new.text ≡ without_leading passes self.old.text }
     {
@@ -154,7 +123,7 @@ impl<const N: usize> ArrayString<N> {
 
 /// Whether `ch` has the property White_Space.
 #[tactic(auto, using(crate::proofs::EditLaws::is_white_space_std))]
-fn is_white_space(ch: char) -> bool
+pub(super) fn is_white_space(ch: char) -> bool
     ensures { result ≡ is_white_space ch }
 {
     ch.is_whitespace()

@@ -1,11 +1,12 @@
 //! Refusals: how they are printed and hashed, and how they become an `Error` or a `ValueError`.
-use super::printing::{Alone, debugs_as, displays};
+use super::printing::{debugs_as, displays};
 use super::table::{agree, hash_of};
 use arraystring::error::{Error, OutOfBounds, Utf8, Utf16};
 use arraystring::integration::{NotText, ValueError};
 use std::fmt::{Debug, Display};
 use std::process::Abort;
 use std::str;
+use test_support::printing::Alone;
 
 /// Asserts that a refusal is printed as its name, and for debugging as `debug`, in each form at each
 /// width.

@@ -4,9 +4,9 @@ ghost use Rattle.std.specs.Prelude.{◌≤◌};
 use super::table::{MANY_LETTERS, agree, string};
 use arraystring::ArrayString;
 use arraystring::prelude::*;
-use std::fmt;
 use std::fmt::{Debug, Display};
 use std::process::Abort;
+use test_support::printing::first_printed_apart;
 
 /// Asserts that a value is printed as a text, in each form that could pad or cut it, at each width.
 pub(crate) fn displays<T: Display>(rt: &(impl Abort + AllocGlobal), value: &T, wanted: &str) {
@@ -33,16 +33,6 @@ pub(crate) fn debugs<T: Debug>(rt: &(impl Abort + AllocGlobal), value: &T, wante
     agree(rt, "each form", printed.as_str(), wanted);
 }
 
-/// A text that is printed alone.
-#[derive(Drop)]
-pub(crate) struct Alone<'a>(pub(crate) &'a str);
-
-impl Debug for Alone<'_> {
-    fn fmt<W: fmt::Write>(&self, f: &mut fmt::Formatter<W>) -> fmt::Result {
-        f.write_str(self.0)
-    }
-}
-
 /// Types whose derived forms are those of the strings.
 pub(crate) mod derived {
     #[derive(Debug, Drop)]
@@ -58,30 +48,15 @@ pub(crate) mod derived {
     pub(crate) struct Drain<'a>(pub(crate) &'a str);
 }
 
-/// How a value is printed for debugging in each form that could pad or cut it.
-fn forms<T: Debug>(rt: &(impl Abort + AllocGlobal), value: &T, width: usize) -> String {
-    let printed = format!(in rt.alloc();
-        "{value:?}|{value:#?}|{value:width$?}|{value:<width$?}|{value:>width$?}|{value:*^width$?}|\
-        {value:0width$?}|{value:#width$?}|{value:.width$?}|{value:>width$.1?}|\
-        {value:+?}|{value:+#?}|{value:+width$?}|{value:+.width$?}|{value:+#0width$?}"
-    );
-    printed.expect(rt, "memory for what is printed")
-}
-
 /// Asserts that one value is printed for debugging as the other, in each form, at each width.
 pub(crate) fn debugs_as<T: Debug, W: Debug>(
     rt: &(impl Abort + AllocGlobal),
     value: &T,
     wanted: &W,
 ) {
-    for width in 0..30usize {
-        agree(
-            rt,
-            "each width",
-            forms(rt, value, width),
-            forms(rt, wanted, width),
-        );
-    }
+    let apart = first_printed_apart(rt.alloc(), value, wanted);
+    let apart = apart.expect(rt, "memory for what is printed");
+    agree(rt, "each form", apart, None);
 }
 
 #[test]

@@ -1,13 +1,13 @@
 // Made from crates/arraystring_base/src/error.rt by rust/erase. The proof is there. A change goes there.
-//! What a call refuses, and the conversions to `Error`. A width and a precision in the format of a
-//! printed form are ignored.
+//! The errors, and the conversions to `Error`. When an error is printed, a width and a precision in the
+//! format are ignored.
 
 use core::error::Error as StdError;
 use core::fmt;
 use core::hash::{Hash, Hasher};
 use core::str::Utf8Error;
 
-/// Any refusal.
+/// Why a call was refused.
 ///
 /// # Examples
 ///
@@ -26,8 +26,7 @@ pub enum Error {
     Utf8,
     /// A lone surrogate in UTF-16 (the Unicode Standard, section 3.9).
     Utf16,
-    /// An index or a range outside the text, a range that ends before it starts, or a result larger
-    /// than the capacity.
+    /// An index or a range outside the text, a reversed range, or a result larger than the capacity.
     OutOfBounds,
 }
 
@@ -53,7 +52,7 @@ impl Error {
     }
 }
 
-/// `Error::` and the name.
+/// Prints `Error::` and the name.
 ///
 /// # Examples
 ///
@@ -80,7 +79,7 @@ impl fmt::Debug for Error {
     }
 }
 
-/// The name alone.
+/// Prints the name alone.
 ///
 /// # Examples
 ///
@@ -108,7 +107,7 @@ impl fmt::Display for Error {
     }
 }
 
-/// As an error of any kind. It has no source.
+/// It converts to a `Box<dyn std::error::Error>`, and has no source.
 ///
 /// # Examples
 ///
@@ -125,7 +124,7 @@ impl fmt::Display for Error {
 /// ```
 impl StdError for Error {}
 
-/// The variant of the same name.
+/// Converts to the variant of the same name.
 ///
 /// # Examples
 ///
@@ -155,7 +154,7 @@ impl From<OutOfBounds> for Error {
     }
 }
 
-/// The variant of the same name.
+/// Converts to the variant of the same name.
 ///
 /// # Examples
 ///
@@ -182,7 +181,7 @@ impl From<Utf16> for Error {
     }
 }
 
-/// The variant of the same name.
+/// Converts to the variant of the same name.
 ///
 /// # Examples
 ///
@@ -209,7 +208,7 @@ impl From<Utf8> for Error {
     }
 }
 
-/// Bytes that `std` finds not to be UTF-8 are refused as [`Error::Utf8`](crate::Error::Utf8).
+/// The error of `std` for bytes that are not UTF-8 becomes [`Error::Utf8`](crate::Error::Utf8).
 ///
 /// # Examples
 ///
@@ -265,7 +264,7 @@ impl Hash for Error {
 }
 
 /// Bytes that are not well-formed UTF-8 (the Unicode Standard, section 3.9), or an index inside a
-/// character. [`is_char_boundary`](crate::utils::is_char_boundary) returns it for an index past the text too.
+/// character. [`is_char_boundary`](crate::utils::is_char_boundary) also returns it for an index past the text.
 ///
 /// # Examples
 ///
@@ -280,7 +279,7 @@ impl Hash for Error {
 #[derive(Clone, Copy, Default, PartialEq, Eq)]
 pub struct Utf8;
 
-/// The name alone.
+/// Prints the name alone.
 ///
 /// # Examples
 ///
@@ -306,7 +305,7 @@ impl fmt::Debug for Utf8 {
     }
 }
 
-/// The name alone.
+/// Prints the name alone.
 ///
 /// # Examples
 ///
@@ -333,7 +332,7 @@ impl fmt::Display for Utf8 {
     }
 }
 
-/// As an error of any kind. It has no source.
+/// It converts to a `Box<dyn std::error::Error>`, and has no source.
 ///
 /// # Examples
 ///
@@ -345,7 +344,7 @@ impl fmt::Display for Utf8 {
 /// ```
 impl StdError for Utf8 {}
 
-/// Bytes that `std` finds not to be UTF-8 are refused as [`Utf8`](crate::error::Utf8).
+/// The error of `std` for bytes that are not UTF-8 becomes [`Utf8`](crate::error::Utf8).
 ///
 /// # Examples
 ///
@@ -374,7 +373,7 @@ impl From<Utf8Error> for Utf8 {
 #[derive(Clone, Copy, Default, PartialEq, Eq)]
 pub struct Utf16;
 
-/// The name alone.
+/// Prints the name alone.
 ///
 /// # Examples
 ///
@@ -400,7 +399,7 @@ impl fmt::Debug for Utf16 {
     }
 }
 
-/// The name alone.
+/// Prints the name alone.
 ///
 /// # Examples
 ///
@@ -427,7 +426,7 @@ impl fmt::Display for Utf16 {
     }
 }
 
-/// As an error of any kind. It has no source.
+/// It converts to a `Box<dyn std::error::Error>`, and has no source.
 ///
 /// # Examples
 ///
@@ -439,8 +438,7 @@ impl fmt::Display for Utf16 {
 /// ```
 impl StdError for Utf16 {}
 
-/// An index or a range outside the text, a range that ends before it starts, or a result larger
-/// than the capacity.
+/// An index or a range outside the text, a reversed range, or a result larger than the capacity.
 ///
 /// # Examples
 ///
@@ -453,7 +451,7 @@ impl StdError for Utf16 {}
 #[derive(Clone, Copy, Default, PartialEq, Eq)]
 pub struct OutOfBounds;
 
-/// The name alone.
+/// Prints the name alone.
 ///
 /// # Examples
 ///
@@ -479,7 +477,7 @@ impl fmt::Debug for OutOfBounds {
     }
 }
 
-/// The name alone.
+/// Prints the name alone.
 ///
 /// # Examples
 ///
@@ -506,7 +504,7 @@ impl fmt::Display for OutOfBounds {
     }
 }
 
-/// As an error of any kind. It has no source.
+/// It converts to a `Box<dyn std::error::Error>`, and has no source.
 ///
 /// # Examples
 ///

@@ -4,15 +4,14 @@
 //! too. A byte that both have is written twice, to one offset, and counts as one move. They are read
 //! as vectors, since those stay in registers; arrays of bytes would be put on the stack.
 //!
-//! What is made for each size of an array is small. Long runs are moved by `move_bytes` and written by
-//! `write_by_call`, which take a slice.
+//! `move_bytes` and `write_long_run` take a slice, and so each stands once in a program.
 
 use crate::arraystring_base::steps::Steps;
 use crate::by_hand::simd::Simd;
 
 /// Moves `len` bytes of the array from the offset `from` to the offset `to`; the two runs may
-/// overlap. Each byte counts as one move, also if it is written twice on the way, and none counts if
-/// `from` is `to`. No byte outside the target changes.
+/// overlap. Each byte counts as one move, also if it is written twice on the way. If `from` is `to`,
+/// no move is counted. No byte outside the target changes.
 ///
 /// # Safety
 ///
@@ -56,8 +55,8 @@ pub unsafe fn shift<const N: usize>(array: &mut [u8; N], from: usize, to: usize,
 }
 
 /// Moves `len` bytes of the array from the offset `from` to the offset `to`; the two runs may overlap.
-/// No byte outside the target changes, and nothing is counted. Up to 64 bytes cost no call. What an
-/// array of `N` bytes can't have is not tested.
+/// No byte outside the target changes, and nothing is counted. Up to 64 bytes are moved without a
+/// call. No test is made for more bytes than an array of `N` bytes can have.
 ///
 /// # Safety
 ///
@@ -81,8 +80,9 @@ pub unsafe fn move_run<const N: usize>(array: &mut [u8; N], from: usize, to: usi
         // `# Safety` and the tests above, since `len` is at most `N`.
         unsafe { move_short_run::<N>(all, from, to, len) };
     } else if N > 64 && len > 64 {
-        // SAFETY: `from + len <= all.len()`; `to + len <= all.len()`: by this function's `# Safety`.
-        unsafe { move_bytes(all, from, to, len) };
+        // SAFETY: `from + len <= all.len()`; `to + len <= all.len()`; `len <= N`; `64 < len`: by this function's
+        // `# Safety` and the tests above, since `len` is at most `N`.
+        unsafe { move_long_run_of_array::<N>(all, from, to, len) };
     } else if N > 32 && len > 32 {
         // SAFETY: `from + len <= all.len()`; `to + len <= all.len()`; `32 <= len`; `len - 32 <= 32`: by this function's
         // `# Safety` and the tests above, since `len` is at most `N`.
@@ -118,6 +118,35 @@ pub unsafe fn move_run<const N: usize>(array: &mut [u8; N], from: usize, to: usi
 pub unsafe fn move_bytes(all: &mut [u8], from: usize, to: usize, len: usize) {
     // SAFETY: this is within: by this function's `# Safety`.
     unsafe { copy_within_unchecked!(all, from..from + len, to) };
+}
+
+/// Moves more than 64 bytes, of at most `N`. More than `N` are not tested for.
+///
+/// # Safety
+///
+/// - `from + len <= all.len()`
+/// - `to + len <= all.len()`
+/// - `len <= N`
+/// - `64 < len`
+///
+/// <details><summary>Contract</summary>
+///
+/// ```text
+/// requires source { from + len ≤ length all.old }
+/// requires target { to + len ≤ length all.old }
+/// requires most { len ≤ N }
+/// requires long { 64 < len }
+/// ensures { all.new ≡ take to all.old ++ (take len (drop from all.old) ++ drop (to + len) all.old) }
+/// ```
+///
+/// [How to read a contract](crate::contracts)
+///
+/// </details>
+///
+/// Another body runs here than the one that was proved: `move_bytes` moves the bytes, by `memmove`.
+unsafe fn move_long_run_of_array<const N: usize>(all: &mut [u8], from: usize, to: usize, len: usize) {
+    // SAFETY: `from + len <= all.len()`; `to + len <= all.len()`: by this function's `# Safety`.
+    unsafe { move_bytes(all, from, to, len) };
 }
 
 /// Moves fewer than 16 bytes, of at most `N`. More than `N` are not tested for.
@@ -202,9 +231,9 @@ unsafe fn move_ends<const K: usize>(all: &mut [u8], from: usize, to: usize, len:
     unsafe { put_bytes(all, to + rest, last) };
 }
 
-/// Writes `given` over the bytes of the array from the offset `at` on. No other byte changes. Up to
-/// 64 bytes cost no call, and more bytes one of `memcpy`. What an array of `N` bytes can't have is not
-/// tested.
+/// Writes `given` over the bytes of the array from the offset `at` on. No other byte changes. Up to 64
+/// bytes are written without a call, and more bytes by a call of `memcpy`. No test is made for more
+/// bytes than an array of `N` bytes can have.
 ///
 /// # Safety
 ///
@@ -222,21 +251,23 @@ unsafe fn move_ends<const K: usize>(all: &mut [u8], from: usize, to: usize, len:
 /// </details>
 pub unsafe fn write_over<const N: usize>(array: &mut [u8; N], at: usize, given: &[u8]) {
     let all = &mut array[..];
-    if given.len() < 16 {
-        // SAFETY: `at + given.len() <= all.len()`; `given.len() <= N`; `given.len() < 16`: by this function's
-        // `# Safety` and the tests above, since `len` is at most `N`.
-        unsafe { write_short_run::<N>(all, at, given) };
-    } else if N > 64 && given.len() > 64 {
-        // SAFETY: `at + given.len() <= all.len()`: by this function's `# Safety`.
-        unsafe { write_by_call(all, at, given) };
-    } else if N > 32 && given.len() > 32 {
-        // SAFETY: `at + given.len() <= all.len()`; `32 <= given.len()`; `given.len() - 32 <= 32`: by this function's
-        // `# Safety` and the tests above, since `len` is at most `N`.
-        unsafe { copy_ends::<32>(all, at, given) };
-    } else {
+    if N > 32 && given.len() > 32 {
+        if N > 64 && given.len() > 64 {
+            // SAFETY: `at + given.len() <= all.len()`: by this function's `# Safety`.
+            unsafe { write_long_run(all, given, at) };
+        } else {
+            // SAFETY: `at + given.len() <= all.len()`; `32 <= given.len()`; `given.len() - 32 <= 32`: by this
+            // function's `# Safety` and the tests above, since `len` is at most `N`.
+            unsafe { copy_ends::<32>(all, at, given) };
+        }
+    } else if given.len() >= 16 {
         // SAFETY: `at + given.len() <= all.len()`; `16 <= given.len()`; `given.len() - 16 <= 16`: by this function's
         // `# Safety` and the tests above, since `len` is at most `N`.
         unsafe { copy_ends::<16>(all, at, given) };
+    } else {
+        // SAFETY: `at + given.len() <= all.len()`; `given.len() <= N`; `given.len() < 16`: by this function's
+        // `# Safety` and the tests above, since `len` is at most `N`.
+        unsafe { write_short_run::<N>(all, at, given) };
     }
 }
 
@@ -257,10 +288,33 @@ pub unsafe fn write_over<const N: usize>(array: &mut [u8; N], at: usize, given: 
 /// [How to read a contract](crate::contracts)
 ///
 /// </details>
-#[inline]
+#[inline(always)]
 pub unsafe fn write_by_call(all: &mut [u8], at: usize, given: &[u8]) {
     // SAFETY: this is within: by this function's `# Safety`.
     unsafe { copy_from_slice_unchecked!(all, at..at + given.len(), given) };
+}
+
+/// Does what `write_by_call` does. The proved build never inlines it, so its code stands there once. The
+/// parameters are in the order of those of a call that appends, so that no register is moved for it.
+///
+/// # Safety
+///
+/// - `at + given.len() <= all.len()`
+///
+/// <details><summary>Contract</summary>
+///
+/// ```text
+/// requires { at + length given.now ≤ length all.old }
+/// ensures { all.new ≡ take at all.old ++ (given.now ++ drop (at + length given.now) all.old) }
+/// ```
+///
+/// [How to read a contract](crate::contracts)
+///
+/// </details>
+#[inline]
+unsafe fn write_long_run(all: &mut [u8], given: &[u8], at: usize) {
+    // SAFETY: `at + given.len() <= all.len()`: by this function's `# Safety`.
+    unsafe { write_by_call(all, at, given) };
 }
 
 /// Writes fewer than 16 bytes, of at most `N`. More than `N` are not tested for.

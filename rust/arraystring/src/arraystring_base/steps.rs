@@ -1,9 +1,9 @@
 // Made from crates/arraystring_base/src/steps.rt by rust/erase. The proof is there. A change goes there.
 //! Counting what a call does to bytes.
 
-/// Most programs need no counter. It has the looks and the moves of the calls that end in
-/// `_counted`. A look is one call of [`look`](crate::utils::look), and a move is one byte that [`shift`](crate::utils::shift) takes to another
-/// offset. What calls read otherwise is not counted.
+/// Most programs need no counter. It counts the looks and the moves of calls that end in `_counted`. A look
+/// is one call of [`look`](crate::utils::look). A move is one byte that [`shift`](crate::utils::shift) takes to another offset. Bytes that a call reads
+/// without [`look`](crate::utils::look) are not counted.
 ///
 /// # Examples
 ///

@@ -4,7 +4,7 @@
 use core::char;
 use core::iter::FusedIterator;
 
-/// An item of a reading.
+/// What UTF-16 units are read as: a character, or a lone surrogate.
 ///
 /// # Examples
 ///
@@ -23,9 +23,10 @@ pub enum Unit16 {
     Lone(u16),
 }
 
-/// An iterator over the one reading of some units. It takes no memory.
+/// An iterator that reads UTF-16 units, in order, as characters and lone surrogates. There is only
+/// one way to read them. It allocates nothing.
 ///
-/// Contracts see it as the list of the items that are left.
+/// In contracts it is the list of the items that are left.
 ///
 /// # Examples
 ///
@@ -42,7 +43,7 @@ pub struct Units<'a> {
 }
 
 impl<'a> Units<'a> {
-    /// Returns an iterator over the reading of `units`.
+    /// Returns an iterator over the characters and lone surrogates of `units`.
     ///
     /// # Examples
     ///
@@ -94,7 +95,7 @@ impl<'a> Units<'a> {
 impl<'a> Iterator for Units<'a> {
     type Item = Unit16;
 
-    /// Returns the next item of the reading. If none is left it returns `None`, and does so ever after.
+    /// Returns the next character or lone surrogate. Once none is left, it always returns `None`.
     #[inline]
     fn next(&mut self) -> Option<Unit16> {
         let (first, rest) = self.rest.split_first()?;
@@ -119,7 +120,7 @@ impl<'a> Iterator for Units<'a> {
     }
 }
 
-/// Once no item is left, `next` returns `None` ever after.
+/// Once no item is left, `next` always returns `None`.
 ///
 /// # Examples
 ///
@@ -136,7 +137,8 @@ impl<'a> FusedIterator for Units<'a> {}
 /// <details><summary>Contract</summary>
 ///
 /// ```text
-/// ensures some { IfSome result (λ p. (low : ℕ) × IsHigh high × IsLow low × (p.0 ≡ pair_character high low) × (rest.now ≡ low ∷ p.1.now)) }
+/// ensures some { IfSome result (λ p. (low : ℕ)
+///     × IsHigh high × IsLow low × (p.0 ≡ pair_character high low) × (rest.now ≡ low ∷ p.1.now)) }
 /// ensures none { IfNone result ((low : ℕ) (more : List ℕ) → rest.now ≡ low ∷ more → IsHigh high → IsLow low → ⊥) }
 /// ```
 ///

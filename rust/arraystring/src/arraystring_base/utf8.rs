@@ -5,8 +5,8 @@
 use crate::arraystring_base::steps::{Steps, look_unchecked};
 use core::char;
 
-/// Returns whether `at` is a boundary of `text`, the size of one of its prefixes of whole
-/// characters. It is false past the length of the text.
+/// Returns whether `at` is a boundary of `text`: the size of one of its prefixes of whole characters.
+/// Returns false if `at` is past the length of the text.
 ///
 /// # Examples
 ///
@@ -60,9 +60,9 @@ pub fn truncate_str(text: &str, size: u8) -> &str {
     truncate_str_counted(text, size, &mut Steps::new())
 }
 
-/// Most programs need [`truncate_str`](crate::utils::truncate_str), and none of the counted calls. Cuts as [`truncate_str`](crate::utils::truncate_str) does,
-/// with its looks counted in `steps`. It looks at no more than four bytes, and at one at least if
-/// `size` is not 0 and is below the length. It moves none.
+/// Most programs need [`truncate_str`](crate::utils::truncate_str), and none of the counted calls. Cuts as [`truncate_str`](crate::utils::truncate_str) does, and counts
+/// its looks in `steps`. It makes at most four looks, and at least one if `size` is above 0 and below the
+/// length. It moves no byte.
 ///
 /// # In Rust
 ///
@@ -159,9 +159,8 @@ fn continues(byte: u8) -> bool {
     matches!(byte, 0x80..=0xBF)
 }
 
-/// Returns the index at which the last character of `text` begins, and that character, or `None` if
-/// the text is empty. It looks at no more than four bytes, and at one at least if there is a
-/// character. It moves none.
+/// Returns the index at which the last character of `text` begins, and that character. Returns `None` if the
+/// text is empty. It makes at most four looks, and at least one if there is a character. It moves no byte.
 ///
 /// # In Rust
 ///

@@ -1,7 +1,44 @@
 // Made from crates/arraystring_core/src/array_string.rt by rust/erase. The proof is there. A change goes there.
-//! `ArrayString`: the type, and the calls that read all of it. The modules below have its other calls,
-//! `traits` its impls of traits. `append`, `replaced_part` and `remove` have the private calls that put
-//! bytes into its array or take them out.
+//! `ArrayString`: the type, and the calls that read all of it.
+//!
+//! The modules below have its other calls:
+//!
+//! - `traits` has its impls of traits;
+//! - `unchecked` and `counted` have calls that most programs do without;
+//! - `append`, `replaced_part` and `remove` have the private calls that put bytes into its array or take
+//!   them out.
+//!
+//! # How a string lies in its array
+//!
+//! The text is the `size` bytes of the array from the start offset on. An *offset* counts from the start of
+//! the array, an *index* from the start of the text. The drawings show an array of 8 bytes after each call. A
+//! `.` is a byte outside the text. Such a byte can have any value: strings with the same text are equal. The
+//! last column has the moves that the counted form of the call counts.
+//!
+//! ```text
+//!                           01234567   start   size   moved
+//! from("abcdef")            abcdef..       0      6
+//! remove(0)                 .bcdef..       1      5       0
+//! try_insert_str(2, "-")    .bc-def.       1      6       3
+//! try_insert_str(6, "gh")   bc-defgh       0      8       6
+//! ```
+//!
+//! - A removal at the front (`remove(0)`, `drain(..i)`, `trim`) raises the start offset and moves no byte.
+//! - If there is room after the text, an insertion moves the bytes behind the gap.
+//! - If there is none, the bytes before the gap move to offset 0, and those behind it straight to their final
+//!   offset. So each byte moves at most once.
+//!
+//! An insertion in the middle may move only the bytes before the gap:
+//!
+//! ```text
+//!                           01234567   start   size   moved
+//! from("abcdefgh")          abcdefgh       0      8
+//! remove(0)                 .bcdefgh       1      7       0
+//! try_insert_str(2, "-")    bc-defgh       0      8       2
+//! ```
+//!
+//! A `Drain<N>` borrows nothing. It has a copy of the array from before the removal, the offset and the size of
+//! the removed text, and an index into it. `next` raises the index, and `next_back` lowers the size.
 
 use crate::by_hand::str;
 
@@ -177,7 +214,7 @@ mod views {
         }
 
         /// Returns the bytes of the text, borrowed without a copy. There are as many as [`len`](crate::ArrayString::len) returns.
-        /// The contract adds the same as that of [`as_str`](crate::ArrayString::as_str).
+        /// The contract also promises what the contract of [`as_str`](crate::ArrayString::as_str) promises of the text.
         ///
         /// # Examples
         ///
@@ -212,22 +249,6 @@ mod views {
             unsafe { split_at_unchecked!(front, start) }.1
         }
 
-        /// Whether a character begins at `at`, or the text ends there.
-        ///
-        /// <details><summary>Contract</summary>
-        ///
-        /// ```text
-        /// ensures { result ≡ boundary self.now.text at }
-        /// ```
-        ///
-        /// [How to read a contract](crate::contracts)
-        ///
-        /// </details>
-        #[inline]
-        pub(crate) fn is_boundary(&self, at: usize) -> bool {
-            self.as_str().is_char_boundary(at)
-        }
-
         /// The offset at which the text ends.
         ///
         /// <details><summary>Contract</summary>
@@ -254,7 +275,9 @@ mod push;
 #[path = "../by_hand/write.rs"]
 mod write;
 mod insert;
-mod range;
+mod borrowed_range;
+mod drained_range;
+mod replaced_range;
 mod remove;
 mod retain;
 mod trim;
@@ -263,6 +286,8 @@ mod traits;
 mod append;
 mod replaced_part;
 mod fill;
+mod unchecked;
+mod counted;
 
 /// A string of at most `N` bytes of UTF-8, and at most 255, stored inline. Sizes, indices and the
 /// capacity count bytes of UTF-8.

@@ -1,5 +1,6 @@
 // Made from crates/arraystring_core/src/range_ends.rt by rust/erase. The proof is there. A change goes there.
-//! The ends of ranges over `u8`.
+//! The ends of ranges over `u8`. The contracts speak of the bounds that the range's methods return. If
+//! `has_bounds` holds of the range, they are its own; else no contract says which they are.
 
 use core::ops::{Bound, RangeBounds};
 

@@ -1,8 +1,27 @@
 // Made from crates/arraystring_core/src/utils.rt by rust/erase. The proof is there. A change goes there.
-//! Boundaries of an `ArrayString`. Indices count bytes of UTF-8.
+//! Boundaries of an `ArrayString`, which are those of its text. Indices count bytes of UTF-8.
 
 use crate::arraystring_base::error::Utf8;
-use crate::arraystring_core::array_string::ArrayString;
+use crate::arraystring_base::utils::is_boundary;
+use crate::arraystring_core::ArrayString;
+
+impl<const N: usize> ArrayString<N> {
+    /// Whether a character begins at `at`, or the text ends there.
+    ///
+    /// <details><summary>Contract</summary>
+    ///
+    /// ```text
+    /// ensures { result ≡ boundary self.now.text at }
+    /// ```
+    ///
+    /// [How to read a contract](crate::contracts)
+    ///
+    /// </details>
+    #[inline]
+    pub(crate) fn is_boundary(&self, at: usize) -> bool {
+        is_boundary(self.as_str(), at)
+    }
+}
 
 /// Tests that `idx` is a boundary of `s`, the size of one of its prefixes of whole characters.
 ///

@@ -4,8 +4,8 @@
 use crate::ArrayString;
 use crate::error::OutOfBounds;
 
-/// A string of a text that is known when the program is compiled. One that does not fit never compiles. The capacity is that of
-/// the type that is asked for.
+/// A string of a text that is known when the program is compiled. If the text does not fit, the program does not compile. The
+/// type that is wanted decides the capacity.
 ///
 /// ```
 /// use arraystring::{ArrayString, CacheString, arraystring};
@@ -27,7 +27,8 @@ use crate::error::OutOfBounds;
 /// const GREETING: ArrayString<4> = arraystring!("hello");
 /// ```
 ///
-/// So it is behind a `let`, where [`try_from_str`](crate::ArrayString::try_from_str) is refused when the program runs:
+/// A `let` does not compile either. There [`try_from_str`](crate::ArrayString::try_from_str) would be refused only
+/// when the program runs:
 ///
 /// ```compile_fail,E0080
 /// use arraystring::{ArrayString, arraystring};

@@ -7,7 +7,8 @@ use crate::error::OutOfBounds;
 use crate::{ArrayString, CacheString};
 
 impl<const N: usize> ArrayString<N> {
-    /// As [`try_from_str`](Self::try_from_str), and `const`. So it takes a `&str` and nothing else.
+    /// Does what [`try_from_str`](Self::try_from_str) does, and is `const`. So it takes a `&str`
+    /// and nothing else.
     ///
     /// # Errors
     ///
@@ -71,7 +72,8 @@ impl<const N: usize> ArrayString<N> {
 }
 
 impl CacheString {
-    /// As [`try_from_str`](Self::try_from_str), and `const`. So it takes a `&str` and nothing else.
+    /// Does what [`try_from_str`](Self::try_from_str) does, and is `const`. So it takes a `&str`
+    /// and nothing else.
     ///
     /// # Errors
     ///
@@ -118,7 +120,8 @@ impl CacheString {
 /// Implements what both types of strings have.
 macro_rules! of_a_character {
     ($(($($generics:tt)*) $string:ty),*) => {$(
-        /// The string of one character. One that does not fit is **cut** off, so the string is empty then.
+        /// The string of one character. If the character does not fit, it is **cut** off, and the string
+        /// is empty.
         ///
         /// ```
         /// use arraystring::{ArrayString, CacheString};

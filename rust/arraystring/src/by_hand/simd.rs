@@ -4,7 +4,6 @@ use core::marker::PhantomData;
 
 /// `K` bytes, of which there are at most 64. Few are held as they are, and many as words of 16 bytes, which the compiler keeps in
 /// registers where an array of bytes would go through the stack.
-#[derive(Clone, Copy)]
 pub(crate) struct Simd<T, const K: usize> {
     bytes: [u8; K],
     words: [u128; 4],

@@ -180,7 +180,7 @@ impl FromStr for CacheString {
     }
 }
 
-/// Writes to the hasher what the text writes.
+/// Hashes as the `&str` of the text does.
 ///
 /// # Examples
 ///

@@ -85,6 +85,12 @@ fn fewer_bytes_than_a_vector_has_panic() {
     at_each_size!(at);
 }
 
+/// A release on a machine of 64 bits takes what is proved as it is, and each other build tests it.
+#[test]
+fn each_build_tests_what_it_says() {
+    assert_eq!(IS_TESTED, cfg!(debug_assertions) || cfg!(feature = "checked") || usize::BITS != 64);
+}
+
 #[test]
 fn each_part_is_as_it_is_plainly() {
     let source = bytes();

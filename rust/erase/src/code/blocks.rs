@@ -1,6 +1,6 @@
 //! Public calls that most programs do without stand in impls of their own, behind the others of their impl: so does the reference
-//! show them. Their names tell which they are. They stay in their file, since some of them call what is private there, and rustdoc
-//! shows the impls of a module one after the other.
+//! show them. Their names tell which they are. They stay in their file: those of `ArrayString` have two files of their own, the
+//! last in the order of the reference, and those of `CacheString` are in the file of the type.
 
 use crate::cursor::{Cursor, Fault};
 use crate::decoration::order::items;

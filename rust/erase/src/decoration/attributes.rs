@@ -4,7 +4,7 @@
 use std::ops::Range;
 
 use super::Decoration;
-use super::reference::{ALIASES, FATES, Fate, ONCE, Once};
+use super::reference::{ALIASES, FATES, Fate, INLINED, ONCE, Once};
 use crate::edits::indent;
 use crate::items::Lead;
 
@@ -36,6 +36,7 @@ impl Decoration<'_> {
             self.tally.count("functions that may be inlined");
         }
         self.once(call, head, lead);
+        self.inlined(call, head, lead);
     }
 
     /// Lets rustc decide whether a body is inlined that its source always inlines, if a rule says so.
@@ -49,6 +50,20 @@ impl Decoration<'_> {
             self.edits.replace(at..at + always.len(), "");
             self.tally.count("functions that need not be inlined");
             self.tally.used.insert(format!("once {}", rule.file));
+        }
+    }
+
+    /// Lets rustc inline a body that its source never does, if a rule says so.
+    fn inlined(&mut self, call: &str, head: usize, lead: &Lead) {
+        let never = "#[inline(never)]";
+        let called = call.rsplit("::").next().unwrap_or_default();
+        let is_meant = |(file, name): &&(&str, &str)| *file == self.path && *name == called;
+        let Some((file, name)) = INLINED.iter().find(is_meant) else { return };
+        if let Some(at) = self.text[lead.docs_end..head].find(never) {
+            let at = lead.docs_end + at;
+            self.edits.replace(at..at + never.len(), "#[inline]");
+            self.tally.count("functions that may be inlined here alone");
+            self.tally.used.insert(format!("inlined {file} {name}"));
         }
     }
 
@@ -80,7 +95,7 @@ mod tests {
 
     /// What comes of a file of strings.
     fn made(text: &str) -> Result<String, Fault> {
-        erased_in("arraystring_core", "arraystring_core/src/array_string/range.rt", text)
+        erased_in("arraystring_core", "arraystring_core/src/array_string/borrowed_range.rt", text)
     }
 
     #[test]

@@ -1,6 +1,6 @@
 //! What the second pass adds by name: documentation, links and attributes. Nothing here can change code.
 //!
-//! Each entry of `ALIASES`, `FATES`, `OTHERS`, `BY_STD`, `MORE` and `ONCE` has to match, or it stops the eraser, and so does a public call with a
+//! Each entry of `ALIASES`, `FATES`, `OTHERS`, `BY_STD`, `MORE`, `ONCE` and `INLINED` has to match, or it stops the eraser, and so does a public call with a
 //! precondition that has no entry in `FATES`.
 
 /// The documentation of the Rust crate behind its README, in place of that of its root, which speaks of the proved crate.
@@ -12,7 +12,8 @@ pub const ROOT_DOCS: &str = "\
 ";
 
 /// The attributes that the second pass may add, or take out, beside those of `ALIASES`. It stops at any other.
-pub const ATTRIBUTES: &[&str] = &["#[inline]", "#[inline(always)]", "#[must_use]", "#[track_caller]"];
+pub const ATTRIBUTES: &[&str] =
+    &["#[inline]", "#[inline(always)]", "#[inline(never)]", "#[must_use]", "#[track_caller]"];
 
 /// What others call a call, as an attribute: so who searches the reference for that name finds it.
 pub const ALIASES: &[(&str, &str)] = &[
@@ -151,8 +152,12 @@ pub struct Once {
 
 /// Workers that are large stand once where code is made small, which takes a quarter of its bytes there. They have no
 /// `#[inline]` either, since at `s` that counts as much as at 3. Three more cells of docs/speed.md are behind so, all at
-/// 255; without `always` elsewhere, too, there are more. `shift` only counts, and calls one.
-pub const ONCE: &[Once] = &[Once { file: "arraystring_base/src/moves.rt", but: &["shift"] }];
+/// 255; without `always` elsewhere, too, there are more. `shift` only counts, and calls one. `write_by_call` is one call.
+pub const ONCE: &[Once] = &[Once { file: "arraystring_base/src/moves.rt", but: &["shift", "write_by_call"] }];
+
+/// Functions that rustc may inline, though their sources never are: the file and the name. What `write_long_run` writes takes Rattle's
+/// compiler some 250 bytes of code, and rustc one call of `memcpy`.
+pub const INLINED: &[(&str, &str)] = &[("arraystring_base/src/moves.rt", "write_long_run")];
 
 /// What the reference says of a public call that has a precondition.
 pub enum Fate {
@@ -332,14 +337,15 @@ pub const FATES: &[(&str, Fate)] = &[
 /// What a body does here, as the reference says below its contract, by the path of its place in the list.
 pub const OTHERS: &[(&str, &str)] = &[
     ("arraystring_base::moves::move_bytes", "std moves the bytes, by `memmove`"),
+    ("arraystring_base::moves::move_long_run_of_array", "`move_bytes` moves the bytes, by `memmove`"),
     ("arraystring_base::steps::Steps::count_moves", COUNT_STOPS),
     ("arraystring_base::steps::look", COUNT_STOPS),
     ("arraystring_core::array_string::ArrayString::as_str", SPLITS),
     ("arraystring_core::array_string::ArrayString::as_bytes", SPLITS),
-    ("arraystring_core::array_string::range::ArrayString::slice", "it is the index of `str`, which panics"),
-    ("arraystring_core::array_string::range::ArrayString::get", "std finds the part, by `str::get`"),
-    ("arraystring_core::array_string::range::ArrayString::make_ascii_uppercase_in", TESTS_RANGE),
-    ("arraystring_core::array_string::range::ArrayString::make_ascii_lowercase_in", TESTS_RANGE),
+    ("arraystring_core::array_string::borrowed_range::ArrayString::slice", "it is the index of `str`, which panics"),
+    ("arraystring_core::array_string::borrowed_range::ArrayString::get", "std finds the part, by `str::get`"),
+    ("arraystring_core::array_string::ascii::ArrayString::make_ascii_uppercase_in", TESTS_RANGE),
+    ("arraystring_core::array_string::ascii::ArrayString::make_ascii_lowercase_in", TESTS_RANGE),
     ("arraystring_core::fast::equal::equal", STD_COMPARES),
     ("arraystring_core::fast::order::order", STD_COMPARES),
     ("arraystring_core::fast::well_formed::read_utf8", "std tests UTF-8, behind a test for ASCII by hand"),

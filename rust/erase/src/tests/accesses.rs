@@ -143,7 +143,7 @@ impl ArrayString {
     }
 }
 ";
-    let made = made_as("arraystring_core/src/array_string/range.rt", source).unwrap();
+    let made = made_as("arraystring_core/src/array_string/borrowed_range.rt", source).unwrap();
     assert!(made.contains("        &self.as_str()[start..end]\n") && !made.contains("unchecked"), "{made}");
 }
 

@@ -118,16 +118,20 @@ pub struct ArrayString<const N: usize>;
 
 mod append;
 mod ascii;
+mod borrowed_range;
 mod construct;
+mod counted;
+mod drained_range;
 mod fill;
 mod insert;
 mod push;
-mod range;
 mod remove;
 mod replaced_part;
+mod replaced_range;
 mod retain;
 mod traits;
 mod trim;
+mod unchecked;
 mod utf16;
 
 impl<const N: usize> ArrayString<N> {
@@ -157,8 +161,8 @@ fn the_calls_of_a_file_stand_in_modules_in_the_order_of_the_reference() {
     let made = made_as(path, FILE).unwrap();
     let at = |part: &str| made.find(part).unwrap_or_else(|| panic!("{part}\n--- is not in:\n{made}"));
     let parts = ["struct ArrayString", "fn new()", "mod construct;", "mod utf16;", "fn as_bytes(", "fn end("];
-    let parts =
-        [&parts[..], &["mod room;", "mod push;", "mod replaced_part;", "impl<const N: usize> Default"]].concat();
+    let last = ["mod unchecked;", "mod counted;", "impl<const N: usize> Default"];
+    let parts = [&parts[..], &["mod room;", "mod push;", "mod replaced_part;"], &last].concat();
     assert!(parts.is_sorted_by_key(|part| at(part)), "{made}");
     assert_eq!(made.matches("impl<const N: usize> ArrayString<N> {\n").count(), 2);
     for (from, to, why) in [

@@ -73,7 +73,7 @@ mod tests;
     let made = made_as("arraystring_core/src/lib.rt", modules).unwrap();
     assert!(made.ends_with("hange goes there.\nmod kept;\n"), "{made}");
     let range = "impl ArrayString {\n    /// The part.\n    fn between(at: usize) -> usize {\n        at\n    }\n}\n";
-    let made = made_as("arraystring_core/src/array_string/range.rt", range).unwrap();
+    let made = made_as("arraystring_core/src/array_string/borrowed_range.rt", range).unwrap();
     assert!(made.ends_with("hange goes there.\nimpl ArrayString {\n}\n"), "{made}");
     assert!(made_as("arraystring_core/src/array_string/other.rt", range).unwrap().contains("fn between("));
 }
@@ -104,8 +104,8 @@ fn a_body_is_another_one_and_a_call_is_constant() {
     assert!(!made_as(path, &string()).unwrap().contains("self.array[..]"));
     let get = "    pub fn get<R: RangeBounds<u8>>(&self, range: R) -> Option<&str> {\n        \
                let (start, end) = plain_ends(range, self.len());\n        self.as_str().get(start..end)\n    }\n";
-    has("arraystring_core/src/array_string/range.rt", RANGE, &[get]);
-    assert!(!made_as("arraystring_core/src/array_string/range.rt", RANGE).unwrap().contains("between"));
+    has("arraystring_core/src/array_string/borrowed_range.rt", RANGE, &[get]);
+    assert!(!made_as("arraystring_core/src/array_string/borrowed_range.rt", RANGE).unwrap().contains("between"));
 }
 
 #[test]
@@ -223,7 +223,7 @@ impl<const N: usize> ArrayString<N> {{
          unsafe { self.uppercase_between(start, end) };\n",
         "    /// # Panics\n",
     ];
-    let path = "arraystring_core/src/array_string/range.rt";
+    let path = "arraystring_core/src/array_string/ascii.rt";
     has(path, &found, &parts);
     // The place has the whole body: what its source had there before, the comparison tells by its checksum.
     has(path, &source("f();"), &parts);
@@ -262,7 +262,7 @@ fn what_runs_here_is_said_below_a_contract_that_was_proved_of_another_body() {
     assert!(made.contains(&said("the array is split twice, since that is `const`")), "{made}");
     // (`as_bytes` has no contract in the sample)
     assert_eq!(count(&made), 1, "{made}");
-    let path = "arraystring_core/src/array_string/range.rt";
+    let path = "arraystring_core/src/array_string/borrowed_range.rt";
     assert_eq!(count(&made_as(path, RANGE).unwrap()), 0);
     let contract = RANGE.replace("<&str> {", "<&str>\n        ensures { x }\n    {");
     let made = made_as(path, &contract).unwrap().replace("    ///", "///");
@@ -312,7 +312,7 @@ impl<const N: usize> Ord for ArrayString<N> {
 #[test]
 fn a_rule_that_matches_nothing_is_told() {
     use crate::contracts::given_up;
-    use crate::decoration::reference::{ALIASES, BY_STD, FATES, MORE, ONCE, OTHERS};
+    use crate::decoration::reference::{ALIASES, BY_STD, FATES, INLINED, MORE, ONCE, OTHERS};
     use crate::files::{all_used, entries};
     use crate::lists::{ADDED, LEFT_OUT, PLACES, REQUIRED};
     use crate::names::named;
@@ -326,7 +326,7 @@ fn a_rule_that_matches_nothing_is_told() {
     let wider = WIDER.iter().map(|(_, calls)| calls.len()).sum::<usize>();
     let lists = [FATES.len(), wider, PLACES.len(), OTHERS.len(), BY_STD.len(), of_std, reasons, named];
     let more = [ADDED.len(), ALIASES.len(), ONCE.len(), ORDER.len(), MORE.len(), LEFT_OUT.len(), REQUIRED.len()];
-    let more = [more.iter().sum(), twins().count(), given_up().len()];
+    let more = [more.iter().sum(), INLINED.len(), twins().count(), given_up().len()];
     let all = lists.iter().chain(&more).sum::<usize>();
     let names = entries(tally.reasons);
     assert_eq!(names.len(), all);

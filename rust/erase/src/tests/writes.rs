@@ -89,7 +89,7 @@ fn a_cast_is_expected_by_its_reason() {
 
 #[test]
 fn what_a_public_function_requires_is_tested_first() {
-    let path = "arraystring_core/src/array_string/push.rt";
+    let path = "arraystring_core/src/array_string/unchecked.rt";
     let source = "\
 impl<const N: usize> ArrayString<N> {
     /// Appends.
@@ -104,7 +104,6 @@ impl<const N: usize> ArrayString<N> {
                  required!(self.len() as usize + string.len() <= Self::capacity() as usize);\n        f();\n";
     let text = made_as(path, source).unwrap();
     assert!(text.contains(lines), "{text}");
-    let path = "arraystring_core/src/array_string/construct.rt";
     let source = "\
 impl<const N: usize> ArrayString<N> {
     /// Makes one.

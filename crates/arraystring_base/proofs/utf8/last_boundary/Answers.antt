@@ -8,6 +8,7 @@ returns-after-loop-end-clause-boundary c =
     let start = IsCharBoundary-start c.args.text.now c.utf8.text in
     grind (arith, start)
 
+-- a boundary is at most three bytes back, and none is after the end that was reached, so this is the one
 pub returns-else-limit-end-lt3-clause-boundary : goal.returns-else-limit-end-lt3-clause-boundary
 returns-else-limit-end-lt3-clause-boundary c =
     let found = near-boundary c.args.text.now c.args.limit c.utf8.text c.requires.within in

@@ -1,7 +1,7 @@
 use Rattle.std.proofs.Common.{◌≡◌, ◌≢◌, ◌<◌, ℕ, List, [], ◌∷◌, ◌++◌, ◌⊎◌, length, refl, ap, arith, append_assoc, inl, inr}
 use Rattle.std.proofs.lemmas.Bool.{ne_eqb}
 use Rattle.std.proofs.lemmas.Bool.Decides.{eqb_tells}
-use Rattle.arraystring_run.specs.ScriptLines.{lines, line_feed, first_byte, ended, all_ended, IsOneLine, AreOneLine}
+use Rattle.arraystring_run.specs.ScriptLines.{lines, line_feed, first_byte, with_newline, joined_lines, IsOneLine, AreOneLine}
 use Rattle.arraystring_run.proofs.laws.lines_of_input.Goals as goal
 
 line-before : (line rest : List ℕ) → IsOneLine line → lines (line ++ line_feed ∷ rest) ≡ line ∷ lines rest
@@ -12,21 +12,21 @@ line-alone : (b : ℕ) (line : List ℕ) → IsOneLine (b ∷ line) → lines (b
 line-alone b [] one = rw (ne_eqb b line_feed one.0) refl
 line-alone b (d ∷ line) one = rw (ne_eqb b line_feed one.0) (ap (first_byte b) (line-alone d line one.1))
 
-line-ended : (line rest : List ℕ) → IsOneLine line → lines (ended line ++ rest) ≡ line ∷ lines rest
-line-ended line rest one = cc (append_assoc line (line_feed ∷ []) rest, line-before line rest one)
+line-with_newline : (line rest : List ℕ) → IsOneLine line → lines (with_newline line ++ rest) ≡ line ∷ lines rest
+line-with_newline line rest one = cc (append_assoc line (line_feed ∷ []) rest, line-before line rest one)
 
-lines-ended : (all : List (List ℕ)) → AreOneLine all → lines (all_ended all) ≡ all
-lines-ended [] are = refl
-lines-ended (line ∷ rest) are = cc (line-ended line (all_ended rest) are.0, lines-ended rest are.1)
+lines-joined_lines : (all : List (List ℕ)) → AreOneLine all → lines (joined_lines all) ≡ all
+lines-joined_lines [] are = refl
+lines-joined_lines (line ∷ rest) are = cc (line-with_newline line (joined_lines rest) are.0, lines-joined_lines rest are.1)
 
 lines-open : (all : List (List ℕ)) (last : List ℕ) → AreOneLine all → IsOneLine last → 0 < length last
-    → lines (all_ended all ++ last) ≡ all ++ last ∷ []
+    → lines (joined_lines all ++ last) ≡ all ++ last ∷ []
 lines-open all [] are one some = absurd (omega arith)
 lines-open [] (b ∷ last) are one some = line-alone b last one
 lines-open (line ∷ rest) (b ∷ last) are one some =
     cc (
-      append_assoc (ended line) (all_ended rest) (b ∷ last),
-      line-ended line (all_ended rest ++ b ∷ last) are.0,
+      append_assoc (with_newline line) (joined_lines rest) (b ∷ last),
+      line-with_newline line (joined_lines rest ++ b ∷ last) are.0,
       lines-open rest (b ∷ last) are.1 one some,
     )
 
@@ -44,7 +44,7 @@ lines-one_line (b ∷ bs) =
 
 -- what the lines of an input are, once each is ended: the input, but for its last end
 abbrev IsJoined : List (List ℕ) → List ℕ → Type 0
-IsJoined all bs = (all_ended all ≡ bs) ⊎ (all_ended all ≡ ended bs)
+IsJoined all bs = (joined_lines all ≡ bs) ⊎ (joined_lines all ≡ with_newline bs)
 
 first-joined : (b : ℕ) (all : List (List ℕ)) (bs : List ℕ) → IsJoined all bs → IsJoined (first_byte b all) (b ∷ bs)
 first-joined b [] [] (inl e) = inr refl
@@ -68,7 +68,7 @@ joined (b ∷ bs) =
 
 pub returns : goal.returns
 returns c = record {
-  all_ended = lines-ended;
+  all_ended = lines-joined_lines;
   last_open = lines-open;
   no_ends = lines-one_line;
   input = joined;

@@ -3,9 +3,9 @@ use Rattle.std.proofs.lemmas.List.{append-nil}
 use Rattle.std.proofs.lemmas.Bool.{and_parts, eqb-true}
 use Rattle.arraystring.proofs.TextLaws.{bytes_same}
 use Rattle.arraystring_run.specs.declared.commands.Command.{Command}
-use Rattle.arraystring_run.specs.Runs.{edit}
+use Rattle.arraystring_run.specs.Runs.{effect}
 use Rattle.arraystring_run.specs.Line.{Argument, Number, Character, Text, word, arguments, IsSpelled, AreSpelled, IsLineOf, IsOneWord}
-use Rattle.arraystring_run.proofs.CommandLemmas.{kind, numbers_first, kinds-numbers_first, same-kinds, same-edit}
+use Rattle.arraystring_run.proofs.CommandLemmas.{kind, numbers_first, kinds-numbers_first, same-kinds, same-effect}
 use Rattle.arraystring_run.proofs.LineLemmas.{same-word, spelled-behind, one-word, digits-one}
 use Rattle.arraystring_run.proofs.laws.one_reading.Goals as goal
 
@@ -36,11 +36,11 @@ arguments-same (a ∷ x ∷ given) (b ∷ y ∷ also) bs e first (f, o, whole, s
     let tail = arguments-same (x ∷ given) (y ∷ also) p (cc) parts.1 (subst (λ l. AreSpelled l (x ∷ given)) same.1 more) also_more in cc
 arguments-same given also bs e first is too = absurd (cc)
 
-line-same : (line : List ℕ) (c d : Command) (t : List ℕ) (n : ℕ) → IsLineOf line c → IsLineOf line d → edit c t n ≡ edit d t n
+line-same : (line : List ℕ) (c d : Command) (t : List ℕ) (n : ℕ) → IsLineOf line c → IsLineOf line d → effect c t n ≡ effect d t n
 line-same line c d t n (x, line_is, spelled) (y, also, too) =
     let same = same-word (word c) (word d) x y (one-word c) (one-word d)
     (spelled-behind (arguments c) x spelled) (spelled-behind (arguments d) y too) (sym line_is ∙ also) in
-    same-edit c d t n same.0 (arguments-same (arguments c) (arguments d) y (same-kinds c d same.0) (kinds-numbers_first c)
+    same-effect c d t n same.0 (arguments-same (arguments c) (arguments d) y (same-kinds c d same.0) (kinds-numbers_first c)
     (subst (λ l. AreSpelled l (arguments c)) same.1 spelled) too)
 
 pub returns : goal.returns
@@ -51,4 +51,4 @@ returns c (line ∷ rest) [] ds t n are also = absurd are
 returns c (line ∷ rest) (d ∷ cs) [] t n are also = absurd also
 returns c (line ∷ rest) (d ∷ cs) (e ∷ ds) t n are also =
     let same = line-same line d e t n are.0 also.0 in
-    let others = returns c rest cs ds (edit e t n).text n are.1 also.1 in cc
+    let others = returns c rest cs ds (effect e t n).text n are.1 also.1 in cc

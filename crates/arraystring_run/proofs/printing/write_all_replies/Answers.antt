@@ -2,8 +2,8 @@ use Rattle.std.proofs.Common.{◌≡◌, ℕ, List, [], ◌++◌, ◌+◌, ◌<�
 use Rattle.std.proofs.lemmas.List.{append-nil, drop_more, drop_all}
 use Rattle.std.proofs.KnownBytes.{Appends-nil, Appends-trans}
 use Rattle.std.specs.Io.KnownBytes.{Appends}
-use Rattle.arraystring_run.specs.Runs.{said}
-use Rattle.arraystring_run.specs.ScriptLines.{ended}
+use Rattle.arraystring_run.specs.Runs.{view_of}
+use Rattle.arraystring_run.specs.ScriptLines.{with_newline}
 use Rattle.arraystring_run.specs.Printing.{printed, replies_printed}
 use Rattle.arraystring_run.specs.declared.commands.Reply.{Reply}
 use Rattle.arraystring_run.proofs.PrintLemmas.{front-more, front-then}
@@ -12,13 +12,13 @@ use Rattle.arraystring_run.proofs.printing.write_all_replies.Goals as goal
 
 -- the lines of the replies, of which those before i are printed
 one-more : {N : ℕ} (rs : List (Reply N)) (i : ℕ) (r : Reply N) (done : List ℕ) → i < length rs → r ≡ get_or rs i r
-    → replies_printed (map said rs) ≡ done ++ replies_printed (map said (drop i rs))
-    → replies_printed (map said rs) ≡ (done ++ ended (printed (said r))) ++ replies_printed (map said (drop (i + 1) rs))
+    → replies_printed (map view_of rs) ≡ done ++ replies_printed (map view_of (drop i rs))
+    → replies_printed (map view_of rs) ≡ (done ++ with_newline (printed (view_of r))) ++ replies_printed (map view_of (drop (i + 1) rs))
 one-more rs i r done lt is parts =
-    cc (parts, drop_more rs i r lt, append_assoc done (ended (printed (said r))) (replies_printed (map said (drop (i + 1) rs))))
+    cc (parts, drop_more rs i r lt, append_assoc done (with_newline (printed (view_of r))) (replies_printed (map view_of (drop (i + 1) rs))))
 
 all-written : {N : ℕ} (rs : List (Reply N)) (i : ℕ) (old new : Option (List ℕ)) → length rs ≤ i → IsPartWritten rs i old new
-    → Appends old new (replies_printed (map said rs))
+    → Appends old new (replies_printed (map view_of rs))
 all-written rs i old new le (done, parts, appended) = rw (parts, drop_all i rs le, append-nil) appended
 
 pub loop-reply-init : goal.loop-reply-init
@@ -27,7 +27,7 @@ loop-reply-init g c = ([], refl, Appends-nil _)
 pub loop-reply-preserved : goal.loop-reply-preserved
 loop-reply-preserved g c =
     let (done, parts, appended) = c.loop-reply.invariant in (
-      done ++ ended (printed (said c.reply-item.result)),
+      done ++ with_newline (printed (view_of c.reply-item.result)),
       one-more _ _ _ done c.loop-reply-test.true c.reply-item.is parts,
       Appends-trans _ _ _ _ _ appended c.in_ok-write_reply.ensures.whole,
     )
@@ -35,11 +35,11 @@ loop-reply-preserved g c =
 pub returns-in_err-write_reply-clause-part : goal.returns-in_err-write_reply-clause-part
 returns-in_err-write_reply-clause-part g c =
     let (done, parts, appended) = c.loop-reply.invariant in
-    front-more _ _ (replies_printed (map said c.args.replies.now)) _
+    front-more _ _ (replies_printed (map view_of c.args.replies.now)) _
     (rw (one-more _ _ _ done c.loop-reply-test.true c.reply-item.is parts)
     (front-more _ _ _ _ (front-then _ _ _ _ _ appended c.in_err-write_reply.ensures.part)))
 
 pub returns-clause-part : goal.returns-clause-part
 returns-clause-part g c =
     front-then _ _ _ _ _ (all-written _ _ _ _ c.loop-reply-test.false c.loop-reply.invariant)
-    (rw c.as_str.ensures.bytes at c.put_line.ensures.part)
+    (rw c.as_str.ensures.bytes at c.write_text_line.ensures.part)

@@ -13,4 +13,4 @@ returns-in-Ok-clause-line g c = rw c.in-Ok.is (front-all _ _ [] (Appends-nil _))
 pub returns-in-Err-BadLine-clause-line : goal.returns-in-Err-BadLine-clause-line
 returns-in-Err-BadLine-clause-line g c =
     let fault : c.in-Err-BadLine.field-0 ≡ PlayFault.BadLine c.in-Err-BadLine.number = search rules in
-    rw (c.in-Err-BadLine.is, fault) c.put_shown.ensures.part
+    rw (c.in-Err-BadLine.is, fault) c.write_line_of.ensures.part

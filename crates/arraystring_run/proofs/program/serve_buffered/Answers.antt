@@ -46,15 +46,15 @@ pub returns : goal.returns
 returns g c = elim c.match-capacity.branch [
   | in-None w ↦
       let usage = w.report_usage-status.ensures in
-      let named = named-none _ _ c.capacity_of-capacity.ensures w.in-None.is in
+      let named = named-none _ _ c.capacity_and_buffer-capacity.ensures.capacity w.in-None.is in
       rw (w.input-is, w.errors-is, w.buffered-is, w.status-is, usage.status)
       ([], λ _. refl, not-served named (refl {a = c.args.input.now}) (refl {a = c.args.output}) usage.line)
   | in-Some w ↦
       let played = w.play_into_buffer-played.ensures in
       let report = w.report-status.ensures in
       let buffered = w.play_into_buffer-played.new.buffered in
-      let named = named-some _ _ _ c.capacity_of-capacity.ensures w.in-Some.is in
-      let given = c.buffer-waiting.ensures.empty in
+      let named = named-some _ _ _ c.capacity_and_buffer-capacity.ensures.capacity w.in-Some.is in
+      let given = c.capacity_and_buffer-capacity.ensures.empty in
       rw (w.errors-is, w.buffered-is, w.status-is) (
         buffered.waiting.items,
         λ other. unless-failed w.play_into_buffer-played.result played.sent played.played.unwritten

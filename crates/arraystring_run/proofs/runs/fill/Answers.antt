@@ -1,6 +1,6 @@
 use Rattle.std.proofs.Common.{◌≡◌, ℕ, ◌+◌, ◌<◌, ◌≤◌, List, [], ◌∷◌, ◌++◌, length, drop, get_or, append_assoc, refl, rules, sym, ◌∙◌, Option, Some, None, Bool, true, false, if◌then◌else◌}
 use Rattle.std.proofs.lemmas.List.{append-nil, drop_all, drop_more, nil_from_length}
-use Rattle.arraystring_run.specs.Runs.{Said, edit, tight, after, first_tight_from, earlier_of}
+use Rattle.arraystring_run.specs.Runs.{ReplyView, effect, is_tight, after, first_tight_from, earlier_of}
 use Rattle.arraystring_run.specs.declared.commands.Command.{Command}
 use Rattle.arraystring_run.proofs.runs.fill.Invariants.{IsPartWay}
 use Rattle.arraystring_run.proofs.runs.fill.Goals as goal
@@ -15,7 +15,7 @@ earlier_of-step None true i rest = refl
 earlier_of-step None false i rest = refl
 earlier_of-step (Some k) b i rest = refl
 
-module _ {cs : List Command} {t₀ : List ℕ} {n i : ℕ} {done : List Said} {t : List ℕ} {first : Option ℕ}
+module _ {cs : List Command} {t₀ : List ℕ} {n i : ℕ} {done : List ReplyView} {t : List ℕ} {first : Option ℕ}
     (way : IsPartWay cs t₀ n i done t first) where
   at-end : length cs ≤ i → ((after cs t₀ n).replies ≡ done) × ((after cs t₀ n).text ≡ t) × (first_tight_from 0 cs t₀ n ≡ first)
   at-end le =
@@ -27,16 +27,16 @@ module _ {cs : List Command} {t₀ : List ℕ} {n i : ℕ} {done : List Said} {t
 
   -- the next command is done
   one-more : (d : Command) → i < length cs → let command = get_or cs i d in
-      IsPartWay cs t₀ n (i + 1) (done ++ (edit command t n).reply ∷ []) (edit command t n).text
-      (earlier_of first (if tight command t n then Some i else None))
+      IsPartWay cs t₀ n (i + 1) (done ++ (effect command t n).reply ∷ []) (effect command t n).text
+      (earlier_of first (if is_tight command t n then Some i else None))
   one-more d lt =
       let command = get_or cs i d in
       let next = drop_more cs i d lt in
-      let later = (edit command t n).text in record {
-        replies = way.replies ∙ rw next (sym (append_assoc done ((edit command t n).reply ∷ [])
+      let later = (effect command t n).text in record {
+        replies = way.replies ∙ rw next (sym (append_assoc done ((effect command t n).reply ∷ [])
             (after (drop (i + 1) cs) later n).replies));
         text = way.text ∙ rw next refl;
-        tight = way.tight ∙ rw next (earlier_of-step first (tight command t n) i (first_tight_from (i + 1) (drop (i + 1) cs) later n));
+        tight = way.tight ∙ rw next (earlier_of-step first (is_tight command t n) i (first_tight_from (i + 1) (drop (i + 1) cs) later n));
       }
 
 pub returns-clause-replies : goal.returns-clause-replies
@@ -66,7 +66,7 @@ loop-position-preserved g c =
     let added = c.add_reply-is_tight.ensures in
     let next = one-more l.invariant.way _ c.loop-position-test.true in
     record {
-      way = rw (added.reply, added.text, c.earlier-first_tight.ensures, added.tight) next;
+      way = rw (added.reply, added.text, c.earlier_position-first_tight.ensures, added.tight) next;
       one_each = search rules;
       reserved = search rules;
       in_place = search rules;

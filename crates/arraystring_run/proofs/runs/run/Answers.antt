@@ -1,15 +1,15 @@
 use Rattle.std.proofs.Common.{◌∙◌, ap, length, map, sym}
 use Rattle.arraystring.specs.Text.{cap}
-use Rattle.arraystring_run.specs.Runs.{said}
+use Rattle.arraystring_run.specs.Runs.{view_of}
 use Rattle.arraystring_run.proofs.RunLemmas.{is_empty-none, of-none}
 use Rattle.arraystring_run.proofs.runs.run.Goals.{then-not-is_empty, else-not-is_empty}
 use Rattle.arraystring_run.proofs.runs.run.Goals as goal
 
 pub returns-clause-replies : goal.returns-clause-replies
 returns-clause-replies g c = elim c.if-not-is_empty.branch [
-  | then-not-is_empty w ↦ ap (λ v. map said v.items) w.replies-is ∙ w.fill-first_tight.ensures.replies
+  | then-not-is_empty w ↦ ap (λ v. map view_of v.items) w.replies-is ∙ w.fill-first_tight.ensures.replies
   | else-not-is_empty w ↦
-      ap (λ v. map said v.items) w.replies-is ∙ ap (map said) c.in_ok-replies.ensures.items
+      ap (λ v. map view_of v.items) w.replies-is ∙ ap (map view_of) c.in_ok-replies.ensures.items
       ∙ sym (of-none _ c.args.text.now.text (cap g.row.N) w.if-not-is_empty.ensures).0
 ]
 

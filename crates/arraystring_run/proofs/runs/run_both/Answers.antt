@@ -3,8 +3,8 @@ use Rattle.std.proofs.lemmas.Bool.Decides.{nat_tests}
 use Rattle.std.proofs.lemmas.Bool.{le-ltb, ltb-false}
 use Rattle.arraystring.specs.Text.{cap, size, cut}
 use Rattle.arraystring.proofs.CutLaws.{cut-all}
-use Rattle.arraystring_run.specs.Runs.{Edited, said, edit, tight, adds_less, after, first_tight_from}
-use Rattle.arraystring_run.specs.Agreement.{untight, Agrees, AllAgree, IsNoSooner}
+use Rattle.arraystring_run.specs.Runs.{Effect, view_of, effect, is_tight, adds_less, after, first_tight_from}
+use Rattle.arraystring_run.specs.Agreement.{commands_before, Agrees, AllAgree, IsNoSooner}
 use Rattle.arraystring_run.specs.declared.commands.Command.{Command}
 use Rattle.arraystring_run.specs.declared.commands.Command.TheVariants as command
 use Rattle.arraystring_run.proofs.RunLemmas.{is_cut-larger, is_empty-none, of-none}
@@ -13,9 +13,9 @@ use Rattle.arraystring_run.proofs.runs.run_both.Goals as goal
 
 -- a command that isn't tight at the lesser capacity isn't at the greater, if it does the same
 record IsSameStep (c : Command) (t : List ℕ) (n m : ℕ) : Type 0 where
-  untight : tight c t m ≡ false
-  text : (edit c t n).text ≡ (edit c t m).text
-  agrees : Agrees c (edit c t n).reply (edit c t m).reply
+  untight : is_tight c t m ≡ false
+  text : (effect c t n).text ≡ (effect c t m).text
+  agrees : Agrees c (effect c t n).reply (effect c t m).reply
 
 -- a text that fits whole at n does so at m
 module _ (t : List ℕ) (n m : ℕ) (le : n ≤ m) where
@@ -32,14 +32,15 @@ module _ (t : List ℕ) (n m : ℕ) (le : n ≤ m) where
       let f = fits given whole in
       let more : size given ≤ m - size t = omega arith in cut-all f ∙ sym (cut-all more)
 
--- for all commands at once, but that whose replies are set aside
-same-step : (c : Command) (t : List ℕ) (n m : ℕ) → n ≤ m → tight c t n ≡ false → IsSameStep c t n m
+-- for all commands at once, but that whose replies are set aside: a row that has room at n has it at m, and a cut that is whole
+-- is the same cut. `grind` goes through the commands
+same-step : (c : Command) (t : List ℕ) (n m : ℕ) → n ≤ m → is_tight c t n ≡ false → IsSameStep c t n m
 same-step command.Capacity t n m le loose = record { untight = refl; text = refl; agrees = tt }
 same-step c t n m le loose =
-    let same : edit c t n ≡ edit c t m = grind (arith, nat_tests, same_cut t n m le) in record {
+    let same : effect c t n ≡ effect c t m = grind (arith, nat_tests, same_cut t n m le) in record {
       untight = grind (arith, nat_tests, adds_all t n m le);
-      text = ap (λ (e : Edited). e.text) same;
-      agrees = ap (λ (e : Edited). e.reply) same;
+      text = ap (λ (e : Effect). e.text) same;
+      agrees = ap (λ (e : Effect). e.reply) same;
     }
 
 -- a position, counted from one command further on
@@ -54,11 +55,11 @@ next-if false k o = refl
 tight-from_next : (k : ℕ) (cs : List Command) (t : List ℕ) (n : ℕ) → first_tight_from (k + 1) cs t n ≡ next (first_tight_from k cs t n)
 tight-from_next k [] t n = refl
 tight-from_next k (c ∷ cs) t n =
-    rw (tight-from_next (k + 1) cs (edit c t n).text n) (next-if (tight c t n) k (first_tight_from (k + 1) cs (edit c t n).text n))
+    rw (tight-from_next (k + 1) cs (effect c t n).text n) (next-if (is_tight c t n) k (first_tight_from (k + 1) cs (effect c t n).text n))
 
-untight-next : (c : Command) (cs : List Command) (o : Option ℕ) → untight (c ∷ cs) (next o) ≡ c ∷ untight cs o
-untight-next c cs None = refl
-untight-next c cs (Some k) = let up : k + 1 ≡ suc k = omega arith in ap (λ j. take j (c ∷ cs)) up
+commands_before-next : (c : Command) (cs : List Command) (o : Option ℕ) → commands_before (c ∷ cs) (next o) ≡ c ∷ commands_before cs o
+commands_before-next c cs None = refl
+commands_before-next c cs (Some k) = let up : k + 1 ≡ suc k = omega arith in ap (λ j. take j (c ∷ cs)) up
 
 no_sooner-next : (a b : Option ℕ) → IsNoSooner a b → IsNoSooner (next a) (next b)
 no_sooner-next None None is = tt
@@ -72,38 +73,38 @@ none-next (Some k) e = absurd (cc)
 
 -- what runs from t at two capacities, n and m, have alike, if the first tight command at n is at `first`
 record AreAlike (cs : List Command) (t : List ℕ) (n m : ℕ) (first : Option ℕ) : Type 0 where
-  agree : AllAgree (untight cs first) (after cs t n).replies (after cs t m).replies
+  agree : AllAgree (commands_before cs first) (after cs t n).replies (after cs t m).replies
   no_sooner : IsNoSooner first (first_tight_from 0 cs t m)
   same_text : first ≡ None → (after cs t n).text ≡ (after cs t m).text
 
 alike : (cs : List Command) (t : List ℕ) (n m : ℕ) → n ≤ m → AreAlike cs t n m (first_tight_from 0 cs t n)
 alike [] t n m le = record { agree = tt; no_sooner = tt; same_text = λ none. refl }
-alike (c ∷ cs) t n m le = go (tight c t n) refl (alike cs (edit c t n).text n m le)
+alike (c ∷ cs) t n m le = go (is_tight c t n) refl (alike cs (effect c t n).text n m le)
   where
     zero-first : (o : Option ℕ) → IsNoSooner (Some 0) o
     zero-first None = tt
     zero-first (Some j) = omega arith
 
-    go : (b : Bool) → tight c t n ≡ b → AreAlike cs (edit c t n).text n m (first_tight_from 0 cs (edit c t n).text n)
-        → AreAlike (c ∷ cs) t n m (if b then Some 0 else first_tight_from 1 cs (edit c t n).text n)
+    go : (b : Bool) → is_tight c t n ≡ b → AreAlike cs (effect c t n).text n m (first_tight_from 0 cs (effect c t n).text n)
+        → AreAlike (c ∷ cs) t n m (if b then Some 0 else first_tight_from 1 cs (effect c t n).text n)
     go true e rest =
         record { agree = tt; no_sooner = zero-first (first_tight_from 0 (c ∷ cs) t m); same_text = λ none. absurd (cc) }
     go false e rest =
         let same = same-step c t n m le e in
-        let first = first_tight_from 0 cs (edit c t n).text n in
-        let later = tight-from_next 0 cs (edit c t n).text in
+        let first = first_tight_from 0 cs (effect c t n).text n in
+        let later = tight-from_next 0 cs (effect c t n).text in
         record {
-          agree = rw (later n, untight-next c cs first) (same.agrees, rw (← same.text) rest.agree);
+          agree = rw (later n, commands_before-next c cs first) (same.agrees, rw (← same.text) rest.agree);
           no_sooner = rw (same.untight, ← same.text, later n, later m)
-              (no_sooner-next first (first_tight_from 0 cs (edit c t n).text m) rest.no_sooner);
+              (no_sooner-next first (first_tight_from 0 cs (effect c t n).text m) rest.no_sooner);
           same_text = λ none. cc (rest.same_text (none-next first (sym (later n) ∙ none)), same.text);
         }
 
 pub returns-clause-second_replies : goal.returns-clause-second_replies
 returns-clause-second_replies g c = elim c.if-not-is_empty.branch [
-  | then-not-is_empty w ↦ ap (λ v. map said v.items) w.second_replies-is ∙ w.fill-first_tight.ensures.replies
+  | then-not-is_empty w ↦ ap (λ v. map view_of v.items) w.second_replies-is ∙ w.fill-first_tight.ensures.replies
   | else-not-is_empty w ↦
-      ap (λ v. map said v.items) w.second_replies-is ∙ ap (map said) c.in_ok-second_replies.ensures.items
+      ap (λ v. map view_of v.items) w.second_replies-is ∙ ap (map view_of) c.in_ok-second_replies.ensures.items
       ∙ sym (of-none _ c.args.second.now.text (cap g.row.M) w.if-not-is_empty.ensures).0
 ]
 

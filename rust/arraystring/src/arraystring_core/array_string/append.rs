@@ -220,6 +220,82 @@ impl<const N: usize> ArrayString<N> {
         Ok(())
     }
 
+    /// Appends `string` behind a text of the array that ends at `end`, and returns where it ends then.
+    /// Returns `None` if there is no room behind it, and then changes nothing. Afterwards the `len` bytes
+    /// from `start` on are UTF-8 and end within the capacity.
+    ///
+    /// # Safety
+    ///
+    /// - the `*len` bytes of `array` from `start` on are UTF-8 and end within the capacity
+    /// - `end == start + *len`
+    ///
+    /// <details><summary>Contract</summary>
+    ///
+    /// ```text
+    /// requires in_array { IsStored N array.old start len.old }
+    /// requires end { end ≡ start + len.old }
+    /// ensures in_array { IsStored N array.new start len.new }
+    /// ensures end { IfSome result (λ next. next ≡ start + len.new) }
+    /// ensures text { let t = (stored array.old start len.old).text in let new = (stored array.new start len.new).text in
+    ///     MatchOption result ((cap N < end + size (chars string.now)) × (array.new ≡ array.old) × (len.new ≡ len.old))
+    ///     (λ _. (size t + size (chars string.now) ≤ cap N) × (new ≡ t ++ chars string.now)) }
+    /// ```
+    ///
+    /// [How to read a contract](crate::contracts)
+    ///
+    /// </details>
+    #[expect(clippy::cast_possible_truncation, reason = "the line before the write says why it fits")]
+    #[inline(always)]
+    pub(super) unsafe fn append_str_behind(
+        array: &mut [u8; N],
+        start: u8,
+        len: &mut u8,
+        end: usize,
+        string: &str,
+    ) -> Option<usize> {
+        let next = end + string.len();
+        if next > Self::capacity() as usize {
+            return None;
+        }
+        let size = next - start as usize;
+        // FIELDS: the text with `string` ends at `next`, which is within the capacity by the test above, and
+        // `write_over` writes `string` at its end.
+        *len = size as u8;
+        // SAFETY: `end + string.as_bytes().len() <= N`: by the test above, and the capacity is at most `N`.
+        unsafe { write_over(array, end, string.as_bytes()) };
+        Some(next)
+    }
+
+    /// Appends `string` to a text that has to move to the start of the array for it, if it fits so. It
+    /// stands apart from `try_push_str`, as `push_at_front` does from `try_push`.
+    ///
+    /// <details><summary>Contract</summary>
+    ///
+    /// ```text
+    /// ensures { Makes (addition self.old.text (chars string.now) (cap N)) self.old.text (from_out_of_bounds result) self.new.text }
+    /// ```
+    ///
+    /// [How to read a contract](crate::contracts)
+    ///
+    /// </details>
+    #[expect(clippy::cast_possible_truncation, reason = "the line before the write says why it fits")]
+    #[cold]
+    #[inline(never)]
+    pub(super) fn push_str_at_front(&mut self, string: &str) -> Result<(), OutOfBounds> {
+        let (start, size) = (self.start as usize, self.size as usize);
+        let all = &mut self.array[..];
+        // SAFETY: `start + size <= all.len()`: as the fields of `ArrayString` say.
+        let appended = unsafe { append_at_front(size, string.as_bytes(), all, start) };
+        let Some(size) = appended else {
+            return Err(OutOfBounds);
+        };
+        // FIELDS: `append_at_front` moved the text there, and wrote `string` at its end.
+        self.start = 0;
+        // FIELDS: `append_at_front` returns the size of the text with `string`, which is at most the capacity.
+        self.size = size as u8;
+        Ok(())
+    }
+
     /// Appends `string` to a text of the array that ends at `end`, and returns where it ends then. Returns
     /// `None` if not all of it fits: then it ends at `end` still. Afterwards the `len` bytes from `start`
     /// on are UTF-8 and end within the capacity.
@@ -246,20 +322,10 @@ impl<const N: usize> ArrayString<N> {
     /// </details>
     #[expect(clippy::cast_possible_truncation, reason = "the line before the write says why it fits")]
     #[inline(always)]
-    pub(super) unsafe fn append_str(
-        array: &mut [u8; N],
-        start: &mut u8,
-        len: &mut u8,
-        end: usize,
-        string: &str,
-    ) -> Option<usize> {
-        let next = end + string.len();
-        if next <= Self::capacity() as usize {
-            // FIELDS: the text with `string` ends at `next`, which is within the capacity by the test above, and
-            // `write_over` writes `string` at its end.
-            *len += string.len() as u8;
-            // SAFETY: `end + string.as_bytes().len() <= N`: by the test above, and the capacity is at most `N`.
-            unsafe { write_over(array, end, string.as_bytes()) };
+    unsafe fn append_str(array: &mut [u8; N], start: &mut u8, len: &mut u8, end: usize, string: &str) -> Option<usize> {
+        // SAFETY: the `*len` bytes of `array` from `*start` on are UTF-8 and end within the capacity;
+        // `end == *start + *len`: by this function's `# Safety`.
+        if let Some(next) = unsafe { Self::append_str_behind(array, *start, len, end, string) } {
             return Some(next);
         }
         let from = *start as usize;

@@ -1,7 +1,9 @@
 // Made from crates/arraystring_core/src/array_string/ascii.rt by rust/erase. The proof is there. A change goes there.
-//! The ASCII letters of a string, made upper or lower case.
+//! The ASCII letters of a string or of a range of it, made upper or lower case.
 
 use crate::arraystring_core::ArrayString;
+use crate::arraystring_core::range_ends::plain_ends;
+use core::ops::RangeBounds;
 
 impl<const N: usize> ArrayString<N> {
     /// Changes a..z to A..Z. All other characters stay as they are.
@@ -60,6 +62,92 @@ impl<const N: usize> ArrayString<N> {
         unsafe { self.lowercase_between(0, self.len() as usize) };
     }
 
+    /// Changes a..z to A..Z in the range. All other characters stay as they are.
+    ///
+    /// # Panics
+    ///
+    /// Where the range ends before it starts, ends past the text, or has an end inside a character, as the index of
+    /// `str` does.
+    ///
+    /// # Examples
+    ///
+    /// ```
+    /// use arraystring::ArrayString;
+    ///
+    /// let mut string = ArrayString::<8>::from("hello é");
+    /// string.make_ascii_uppercase_in(..1);
+    /// assert_eq!(string.as_str(), "Hello é");
+    /// ```
+    ///
+    /// <details><summary>Contract</summary>
+    ///
+    /// ```text
+    /// requires known { R.has_bounds range }
+    /// requires order { start_index (R.start_bound range) ≤ end_index (R.end_bound range) (size self.old.text) }
+    /// requires start { IsTrue (boundary self.old.text (start_index (R.start_bound range))) }
+    /// requires end { IsTrue (boundary self.old.text (end_index (R.end_bound range) (size self.old.text))) }
+    /// ensures { let t = self.old.text in let start = start_index (R.start_bound range) in let end = end_index (R.end_bound range) (size t) in
+    ///     self.new.text ≡ front t start ++ (map to_ascii_uppercase (part t start end) ++ back t end) }
+    /// ```
+    ///
+    /// [How to read a contract](crate::contracts)
+    ///
+    /// </details>
+    ///
+    /// Another body runs here than the one that was proved: the range is tested first, by the index of `str`.
+    #[track_caller]
+    #[inline]
+    pub fn make_ascii_uppercase_in<R: RangeBounds<u8>>(&mut self, range: R) {
+        let (start, end) = plain_ends(range, self.len());
+        let _ = &self.as_str()[start..end];
+        // SAFETY: `start <= end`; `start` is a boundary of `self`; `end` is a boundary of `self`: the index above
+        // panics where one of these does not hold, so that the caller of this function need not show them.
+        unsafe { self.uppercase_between(start, end) };
+    }
+
+    /// Changes A..Z to a..z in the range. All other characters stay as they are.
+    ///
+    /// # Panics
+    ///
+    /// Where the range ends before it starts, ends past the text, or has an end inside a character, as the index of
+    /// `str` does.
+    ///
+    /// # Examples
+    ///
+    /// ```
+    /// use arraystring::ArrayString;
+    ///
+    /// let mut string = ArrayString::<8>::from("HELLO É");
+    /// string.make_ascii_lowercase_in(1..);
+    /// assert_eq!(string.as_str(), "Hello É");
+    /// ```
+    ///
+    /// <details><summary>Contract</summary>
+    ///
+    /// ```text
+    /// requires known { R.has_bounds range }
+    /// requires order { start_index (R.start_bound range) ≤ end_index (R.end_bound range) (size self.old.text) }
+    /// requires start { IsTrue (boundary self.old.text (start_index (R.start_bound range))) }
+    /// requires end { IsTrue (boundary self.old.text (end_index (R.end_bound range) (size self.old.text))) }
+    /// ensures { let t = self.old.text in let start = start_index (R.start_bound range) in let end = end_index (R.end_bound range) (size t) in
+    ///     self.new.text ≡ front t start ++ (map to_ascii_lowercase (part t start end) ++ back t end) }
+    /// ```
+    ///
+    /// [How to read a contract](crate::contracts)
+    ///
+    /// </details>
+    ///
+    /// Another body runs here than the one that was proved: the range is tested first, by the index of `str`.
+    #[track_caller]
+    #[inline]
+    pub fn make_ascii_lowercase_in<R: RangeBounds<u8>>(&mut self, range: R) {
+        let (start, end) = plain_ends(range, self.len());
+        let _ = &self.as_str()[start..end];
+        // SAFETY: `start <= end`; `start` is a boundary of `self`; `end` is a boundary of `self`: the index above
+        // panics where one of these does not hold, so that the caller of this function need not show them.
+        unsafe { self.lowercase_between(start, end) };
+    }
+
     /// Changes a..z to A..Z between two boundaries.
     ///
     /// # Safety
@@ -81,7 +169,7 @@ impl<const N: usize> ArrayString<N> {
     ///
     /// </details>
     #[inline]
-    pub(super) unsafe fn uppercase_between(&mut self, start: usize, end: usize) {
+    unsafe fn uppercase_between(&mut self, start: usize, end: usize) {
         let offset = self.start as usize;
         // SAFETY: `offset + start <= offset + end`; `offset + end <= N`: by this function's `# Safety` and what the
         // fields of `ArrayString` say.
@@ -109,7 +197,7 @@ impl<const N: usize> ArrayString<N> {
     ///
     /// </details>
     #[inline]
-    pub(super) unsafe fn lowercase_between(&mut self, start: usize, end: usize) {
+    unsafe fn lowercase_between(&mut self, start: usize, end: usize) {
         let offset = self.start as usize;
         // SAFETY: `offset + start <= offset + end`; `offset + end <= N`: by this function's `# Safety` and what the
         // fields of `ArrayString` say.

@@ -4,8 +4,8 @@
 use crate::arraystring_base::utils::{write_by_call, write_over};
 use crate::arraystring_core::ArrayString;
 
-/// Writes `given` at the start of a new array. In a large one it is written by one call whatever its
-/// length, and the compiler then makes fewer copies of the array on its way out.
+/// Writes `given` at the start of a new array. If the array is large, one call writes `given`, whatever
+/// its length. The compiler then makes fewer copies of the array where the string is returned.
 ///
 /// # Safety
 ///

@@ -1,5 +1,5 @@
 // Made from crates/arraystring_core/src/array_string/push.rt by rust/erase. The proof is there. A change goes there.
-//! What is appended: characters, texts, and what an iterator gives.
+//! Appends: of characters, of texts, and of the items of an iterator.
 
 use crate::arraystring_base::error::OutOfBounds;
 use crate::arraystring_base::utils::truncate_str;
@@ -79,9 +79,10 @@ impl<const N: usize> ArrayString<N> {
         let end = self.end();
         // SAFETY: the `self.size` bytes of `self.array` from `self.start` on are UTF-8 and end within the capacity;
         // `end == self.start + self.size`: as the fields of `ArrayString` say.
-        match unsafe { Self::append_str(&mut self.array, &mut self.start, &mut self.size, end, string) } {
+        match unsafe { Self::append_str_behind(&mut self.array, self.start, &mut self.size, end, string) } {
             Some(_) => Ok(()),
-            None => Err(OutOfBounds),
+            None if self.start == 0 => Err(OutOfBounds),
+            None => self.push_str_at_front(string),
         }
     }
 
@@ -186,86 +187,5 @@ impl<const N: usize> ArrayString<N> {
     #[inline]
     pub fn extend_strs<U: AsRef<str>, I: IntoIterator<Item = U>>(&mut self, pieces: I) {
         let _ = self.add_strs(pieces);
-    }
-}
-
-/// # Unchecked
-///
-/// Most programs need none of these calls. What stands under *Safety* is for the caller to keep. A release build
-/// without the feature `checked` does not test it.
-impl<const N: usize> ArrayString<N> {
-    /// Appends `ch`.
-    ///
-    /// # Safety
-    ///
-    /// The text after the call must fit into the capacity.
-    ///
-    /// # Examples
-    ///
-    /// ```
-    /// use arraystring::ArrayString;
-    ///
-    /// let mut string = ArrayString::<4>::from("abc");
-    /// // SAFETY: there is room for one more byte.
-    /// unsafe { string.push_unchecked('d') };
-    /// assert_eq!(string, "abcd");
-    /// ```
-    ///
-    /// <details><summary>Contract</summary>
-    ///
-    /// ```text
-    /// requires { size self.old.text + width ch ≤ cap N }
-    /// ensures { self.new.text ≡ self.old.text ++ ch ∷ [] }
-    /// ```
-    ///
-    /// [How to read a contract](crate::contracts)
-    ///
-    /// </details>
-    #[inline(always)]
-    pub unsafe fn push_unchecked(&mut self, ch: char) {
-        required!(self.len() as usize + ch.len_utf8() <= Self::capacity() as usize);
-        let Ok(()) = self.try_push(ch) else {
-            // SAFETY: this is not reached: by this function's `# Safety` the text with `ch` fits, and `try_push`
-            // refuses nothing else.
-            unsafe { unreachable_unchecked!() };
-        };
-    }
-
-    /// Appends `string`.
-    ///
-    /// # Safety
-    ///
-    /// The text after the call must fit into the capacity.
-    ///
-    /// # Examples
-    ///
-    /// ```
-    /// use arraystring::ArrayString;
-    ///
-    /// let mut string = ArrayString::<4>::from("ab");
-    /// // SAFETY: there is room for two more bytes, and `é` takes two.
-    /// unsafe { string.push_str_unchecked("é") };
-    /// assert_eq!(string, "abé");
-    /// ```
-    ///
-    /// <details><summary>Contract</summary>
-    ///
-    /// ```text
-    /// requires { size self.old.text + size (chars string.now) ≤ cap N }
-    /// ensures { self.new.text ≡ self.old.text ++ chars string.now }
-    /// ```
-    ///
-    /// [How to read a contract](crate::contracts)
-    ///
-    /// </details>
-    #[inline]
-    pub unsafe fn push_str_unchecked<S: AsRef<str>>(&mut self, string: S) {
-        let string = string.as_ref();
-        required!(self.len() as usize + string.len() <= Self::capacity() as usize);
-        let Ok(()) = self.try_push_str(string) else {
-            // SAFETY: this is not reached: by this function's `# Safety` the text with `string` fits, and
-            // `try_push_str` refuses nothing else.
-            unsafe { unreachable_unchecked!() };
-        };
     }
 }

@@ -3,7 +3,7 @@
 //! it. The private calls remove a part, a front or an end of the text.
 
 use crate::arraystring_base::error::{Error, Utf8};
-use crate::arraystring_base::utils::{Steps, last_char, shift};
+use crate::arraystring_base::utils::{Steps, shift};
 use crate::arraystring_core::ArrayString;
 
 impl<const N: usize> ArrayString<N> {
@@ -300,120 +300,10 @@ impl<const N: usize> ArrayString<N> {
     ///
     /// </details>
     #[inline]
-    unsafe fn char_at(&self, at: usize) -> (char, usize) {
+    pub(super) unsafe fn char_at(&self, at: usize) -> (char, usize) {
         // SAFETY: `0 < self.as_str()[at..].len()`: by this function's `# Safety`.
         // SAFETY: this is within: by this function's `# Safety`.
         unsafe { first_char(get_unchecked!(self.as_str(), at..)) }
-    }
-}
-
-/// # Counted
-///
-/// Most programs need none of these calls. Each does what the call without that ending does, and counts in a
-/// [`Steps`](crate::utils::Steps) what it looks at or moves.
-impl<const N: usize> ArrayString<N> {
-    /// Most programs need [`pop`](crate::ArrayString::pop), and none of the counted calls. Pops as [`pop`](crate::ArrayString::pop) does, counted in
-    /// `steps`: at most four looks, at least one if there is a character, and no moves.
-    ///
-    /// # In Rust
-    ///
-    /// A count that would pass 2^64 - 1 stays there.
-    ///
-    /// # Examples
-    ///
-    /// ```
-    /// use arraystring::ArrayString;
-    /// use arraystring::utils::Steps;
-    ///
-    /// let mut string = ArrayString::<4>::from("aé");
-    /// let mut steps = Steps::new();
-    /// assert_eq!(string.pop_counted(&mut steps), Some('é'));
-    /// assert!((1..=4).contains(&steps.looked()) && steps.moved() == 0);
-    /// ```
-    ///
-    /// <details><summary>Contract</summary>
-    ///
-    /// ```text
-    /// requires looks { steps.old.looked ≤ 2 ^ 63 }
-    /// requires moves { steps.old.moved ≤ 2 ^ 63 }
-    /// ensures edit { Makes (popping self.old.text) self.old.text (Ok result) self.new.text }
-    /// ensures looked { steps.new.looked ≤ steps.old.looked + 4 }
-    /// ensures least { IfSome result (λ _. steps.old.looked < steps.new.looked) }
-    /// ensures counted { steps.old.looked ≤ steps.new.looked }
-    /// ensures moved { steps.new.moved ≡ steps.old.moved }
-    /// ```
-    ///
-    /// [How to read a contract](crate::contracts)
-    ///
-    /// </details>
-    #[inline]
-    #[expect(clippy::cast_possible_truncation, reason = "`start` is an index in a text of at most 255 bytes")]
-    pub fn pop_counted(&mut self, steps: &mut Steps) -> Option<char> {
-        let (start, ch) = last_char(self.as_str(), steps)?;
-        // SAFETY: `start as u8` is a boundary of `self`: `last_char` returns where the last character begins, which is
-        // below 255, whatever was counted.
-        unsafe { self.keep(start as u8) };
-        Some(ch)
-    }
-
-    /// Most programs need [`remove`](crate::ArrayString::remove), and none of the counted calls. Removes as [`remove`](crate::ArrayString::remove) does, with the
-    /// bytes that it moves counted in `steps`. They are no more than the part after the character
-    /// has, and at least as many as the shorter of the parts before and after it has. It moves none
-    /// at index 0, and none if it is refused.
-    ///
-    /// # Errors
-    ///
-    /// Those of [`remove`](crate::ArrayString::remove), in the same order.
-    ///
-    /// # In Rust
-    ///
-    /// A count that would pass 2^64 - 1 stays there.
-    ///
-    /// # Examples
-    ///
-    /// ```
-    /// use arraystring::ArrayString;
-    /// use arraystring::utils::Steps;
-    ///
-    /// let mut string = ArrayString::<8>::from("abcd");
-    /// let mut steps = Steps::new();
-    /// assert_eq!(string.remove_counted(2, &mut steps), Ok('c'));
-    /// assert_eq!((string.as_str(), steps.moved()), ("abd", 1)); // `d` moved
-    /// ```
-    ///
-    /// <details><summary>Contract</summary>
-    ///
-    /// ```text
-    /// requires looks { steps.old.looked ≤ 2 ^ 63 }
-    /// requires moves { steps.old.moved ≤ 2 ^ 63 }
-    /// ensures edit { Makes (removal self.old.text index) self.old.text result self.new.text }
-    /// ensures refused { OnErr result (steps.new.moved ≡ steps.old.moved) }
-    /// ensures free { index ≡ 0 → steps.new.moved ≡ steps.old.moved }
-    /// ensures tail_alone { IfOk result (λ ch. steps.new.moved ≤ steps.old.moved + (size self.old.text - (index + width ch))) }
-    /// ensures least { IfOk result (λ ch. steps.old.moved + min index (size self.old.text - (index + width ch)) ≤ steps.new.moved) }
-    /// ensures counted { steps.old.moved ≤ steps.new.moved }
-    /// ensures looked { steps.new.looked ≡ steps.old.looked }
-    /// ```
-    ///
-    /// [How to read a contract](crate::contracts)
-    ///
-    /// </details>
-    #[inline(always)]
-    pub fn remove_counted(&mut self, index: u8, steps: &mut Steps) -> Result<char, Error> {
-        if index >= self.len() {
-            return Err(Error::OutOfBounds);
-        }
-        let start = index as usize;
-        if !self.is_boundary(start) {
-            return Err(Error::Utf8);
-        }
-        // SAFETY: `start` is a boundary of `self`; `start < self.len()`: by the tests above, whatever was counted.
-        let (ch, width) = unsafe { self.char_at(start) };
-        // SAFETY: `start <= start + width`; `start` is a boundary of `self`; `start + width` is a boundary of `self`: a
-        // character begins at `start` by the tests above, and `char_at` returned that it takes `width` bytes, whatever
-        // was counted.
-        unsafe { self.take_out(start, start + width, steps) };
-        Ok(ch)
     }
 }
 

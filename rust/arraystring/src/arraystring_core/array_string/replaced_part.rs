@@ -45,7 +45,8 @@ impl<const N: usize> ArrayString<N> {
             // SAFETY: `start <= end`; `start` is a boundary of `self`; `end` is a boundary of `self`;
             // `self.len() - (end - start) + given.len() <= Self::capacity()`: by this function's `# Safety`, whatever
             // was counted.
-            return unsafe { self.compact_and_splice(start, end, given, steps) };
+            *steps = unsafe { self.compact_and_splice(start, end, given, *steps) };
+            return;
         }
         // FIELDS: the new text ends within the capacity by the test above; `open_gap` and `write_over` make it,
         // whatever was counted.
@@ -60,7 +61,7 @@ impl<const N: usize> ArrayString<N> {
     }
 
     /// Replaces the part between two boundaries of a text that has to move to the start of the array
-    /// for it.
+    /// for it. The count goes through by value: where nobody reads it, the compiler leaves it out.
     ///
     /// # Safety
     ///
@@ -76,12 +77,12 @@ impl<const N: usize> ArrayString<N> {
     /// requires start { IsTrue (boundary self.old.text start) }
     /// requires end { IsTrue (boundary self.old.text end) }
     /// requires room { size self.old.text - (end - start) + size (chars given.now) ≤ cap N }
-    /// requires countable { steps.old.moved ≤ 2 ^ 63 }
+    /// requires countable { steps.moved ≤ 2 ^ 63 }
     /// ensures text { self.new.text ≡ front self.old.text start ++ (chars given.now ++ back self.old.text end) }
-    /// ensures most { steps.new.moved ≤ steps.old.moved + (start + (size self.old.text - end)) }
-    /// ensures least { end ≢ start + size (chars given.now) → steps.old.moved + min start (size self.old.text - end) ≤ steps.new.moved }
-    /// ensures counted { steps.old.moved ≤ steps.new.moved }
-    /// ensures looked { steps.new.looked ≡ steps.old.looked }
+    /// ensures most { result.moved ≤ steps.moved + (start + (size self.old.text - end)) }
+    /// ensures least { end ≢ start + size (chars given.now) → steps.moved + min start (size self.old.text - end) ≤ result.moved }
+    /// ensures counted { steps.moved ≤ result.moved }
+    /// ensures looked { result.looked ≡ steps.looked }
     /// ```
     ///
     /// [How to read a contract](crate::contracts)
@@ -90,7 +91,7 @@ impl<const N: usize> ArrayString<N> {
     #[expect(clippy::cast_possible_truncation, reason = "the line before the write says why it fits")]
     #[cold]
     #[inline(never)]
-    pub(super) unsafe fn compact_and_splice(&mut self, start: usize, end: usize, given: &str, steps: &mut Steps) {
+    unsafe fn compact_and_splice(&mut self, start: usize, end: usize, given: &str, mut steps: Steps) -> Steps {
         let text = Span::new(self.start, self.size);
         let len = given.len();
         // FIELDS: `compact_and_open_gap` moves the text there, whatever was counted.
@@ -101,10 +102,11 @@ impl<const N: usize> ArrayString<N> {
         // SAFETY: `start <= end`; `end <= text.size`; `text.offset + text.size <= Self::capacity()`;
         // `start + (len + (text.size - end)) <= Self::capacity()`: by this function's `# Safety` and what the fields of
         // `ArrayString` say, whatever was counted.
-        unsafe { compact_and_open_gap(&mut self.array, text, start, end, len, steps) };
+        unsafe { compact_and_open_gap(&mut self.array, text, start, end, len, &mut steps) };
         // SAFETY: `start + given.as_bytes().len() <= N`: by this function's `# Safety` the new text fits into the
         // capacity, which is at most `N`, and `given` ends in it, whatever was counted.
         unsafe { write_over(&mut self.array, start, given.as_bytes()) };
+        steps
     }
 
     /// Puts `ch` at a boundary. There must be room for it. It is no call of `splice`, by which `try_insert`
@@ -140,7 +142,8 @@ impl<const N: usize> ArrayString<N> {
             let given = unsafe { str::from_utf8_unchecked(get_unchecked!(utf8, ..len)) };
             // SAFETY: `at` is a boundary of `self`; `self.len() - (at - at) + given.len() <= Self::capacity()`: by this
             // function's `# Safety`, since `given` is the UTF-8 of `ch`.
-            return unsafe { self.compact_and_splice(at, at, given, &mut Steps::new()) };
+            unsafe { self.compact_and_splice(at, at, given, Steps::new()) };
+            return;
         }
         // FIELDS: the new text ends within the capacity by the test above; `open_gap` and `encode` make it.
         self.size = (at + (len + (text.size - at))) as u8;
@@ -267,36 +270,8 @@ unsafe fn compact_and_open_gap<const N: usize>(
     let tail = text.size - end;
     // SAFETY: `text.offset + start <= N`; `start <= N`: by this function's `# Safety`, since the capacity is at most
     // `N`, whatever was counted.
-    unsafe { shift_by_call(array, text.offset, 0, start, steps) };
+    unsafe { shift(array, text.offset, 0, start, steps) };
     // SAFETY: `text.offset + end + tail <= N`; `start + len + tail <= N`: by this function's `# Safety`, since the
     // capacity is at most `N`, whatever was counted.
-    unsafe { shift_by_call(array, text.offset + end, start + len, tail, steps) };
-}
-
-/// Moves as `shift` does, which is inlined. The code of both moves of `compact_and_open_gap` is here once.
-///
-/// # Safety
-///
-/// - `from + len <= N`
-/// - `to + len <= N`
-///
-/// <details><summary>Contract</summary>
-///
-/// ```text
-/// requires source { from + len ≤ N }
-/// requires target { to + len ≤ N }
-/// requires countable { steps.old.moved + len < 2 ^ 64 }
-/// ensures bytes { array.new ≡ take to array.old ++ (take len (drop from array.old) ++ drop (to + len) array.old) }
-/// ensures moved { steps.new.moved ≡ steps.old.moved + (if from == to then 0 else len) }
-/// ensures looked { steps.new.looked ≡ steps.old.looked }
-/// ```
-///
-/// [How to read a contract](crate::contracts)
-///
-/// </details>
-#[cold]
-#[inline(never)]
-unsafe fn shift_by_call<const N: usize>(array: &mut [u8; N], from: usize, to: usize, len: usize, steps: &mut Steps) {
-    // SAFETY: `from + len <= N`; `to + len <= N`: by this function's `# Safety`, whatever was counted.
-    unsafe { shift(array, from, to, len, steps) };
+    unsafe { shift(array, text.offset + end, start + len, tail, steps) };
 }

@@ -47,7 +47,7 @@ impl<const N: usize> ArrayString<N> {
 /// true together. The text is the `size` bytes of the array from `offset` on, and keeps
 /// its offset; `kept` becomes the size of what is kept. Each kept character is moved on its own, and
 /// only to the left. At each call of `f` the `kept` bytes from `offset` on are those of the
-/// characters that were kept so far: they are what a closure leaves that ends the loop.
+/// characters that were kept so far. If `f` panics, the text is those bytes.
 ///
 /// # Safety
 ///

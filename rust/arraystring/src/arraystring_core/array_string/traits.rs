@@ -273,7 +273,7 @@ impl<const N: usize> Ord for ArrayString<N> {
     /// Another body runs here than the one that was proved: std compares the bytes of the texts.
     #[inline(always)]
     fn cmp(&self, other: &Self) -> Ordering {
-        // The other one is read first, so that no register has to be moved.
+        // `other` is read first: in the other order the compiler moves a register.
         let other_text = other.as_str();
         order::<N>(self.as_str(), other_text)
     }

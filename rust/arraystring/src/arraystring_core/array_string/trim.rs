@@ -81,7 +81,7 @@ impl<const N: usize> ArrayString<N> {
     /// </details>
     #[inline]
     #[expect(clippy::cast_possible_truncation, reason = "`start` is an index in a text of at most 255 bytes")]
-    fn drop_trailing<F: Fn(char) -> bool>(&mut self, drops: F, steps: &mut Steps) {
+    pub(super) fn drop_trailing<F: Fn(char) -> bool>(&mut self, drops: F, steps: &mut Steps) {
         while let Some((start, ch)) = last_char(self.as_str(), steps) {
             if !drops(ch) {
                 break;
@@ -106,7 +106,7 @@ impl<const N: usize> ArrayString<N> {
     ///
     /// </details>
     #[inline]
-    fn drop_leading<F: Fn(char) -> bool>(&mut self, drops: F) {
+    pub(super) fn drop_leading<F: Fn(char) -> bool>(&mut self, drops: F) {
         if !self.drop_leading_ascii(&drops) {
             self.drop_leading_decoded(drops);
         }
@@ -196,55 +196,6 @@ impl<const N: usize> ArrayString<N> {
     }
 }
 
-/// # Counted
-///
-/// Most programs need none of these calls. Each does what the call without that ending does, and counts in a
-/// [`Steps`](crate::utils::Steps) what it looks at or moves.
-impl<const N: usize> ArrayString<N> {
-    /// Most programs need [`trim`](crate::ArrayString::trim), and none of the counted calls. Trims as [`trim`](crate::ArrayString::trim) does, with its looks
-    /// at the end counted in `steps`: at each character that it removes there and at the one before
-    /// them, each at least once and at most four times. What it reads at the start is not counted.
-    /// It moves no byte.
-    ///
-    /// # In Rust
-    ///
-    /// A count that would pass 2^64 - 1 stays there.
-    ///
-    /// # Examples
-    ///
-    /// ```
-    /// use arraystring::ArrayString;
-    /// use arraystring::utils::Steps;
-    ///
-    /// let mut string = ArrayString::<8>::from("  a ");
-    /// let mut steps = Steps::new();
-    /// string.trim_counted(&mut steps);
-    /// assert_eq!((string.as_str(), steps.moved()), ("a", 0));
-    /// assert!((2..=8).contains(&steps.looked())); // the space at the end, and `a`
-    /// ```
-    ///
-    /// <details><summary>Contract</summary>
-    ///
-    /// ```text
-    /// requires looks { steps.old.looked ≤ 2 ^ 63 }
-    /// requires moves { steps.old.moved ≤ 2 ^ 63 }
-    /// ensures edit { Makes (trimming is_white_space self.old.text) self.old.text (Ok result) self.new.text }
-    /// ensures moved { steps.new.moved ≡ steps.old.moved }
-    /// ensures looked { steps.new.looked ≤ steps.old.looked + 4 * (length self.old.text - length (without_trailing is_white_space self.old.text) + 1) }
-    /// ensures least { steps.old.looked + min (length self.old.text) (length self.old.text - length (without_trailing is_white_space self.old.text) + 1) ≤ steps.new.looked }
-    /// ensures counted { steps.old.looked ≤ steps.new.looked }
-    /// ```
-    ///
-    /// [How to read a contract](crate::contracts)
-    ///
-    /// </details>
-    #[inline]
-    pub fn trim_counted(&mut self, steps: &mut Steps) {
-        self.drop_trailing(is_white_space, steps);
-        self.drop_leading(is_white_space);
-    }
-}
-
 /// Whether `ch` has the property White_Space.
 ///
 /// <details><summary>Contract</summary>
@@ -257,7 +208,7 @@ impl<const N: usize> ArrayString<N> {
 ///
 /// </details>
 #[inline]
-fn is_white_space(ch: char) -> bool {
+pub(super) fn is_white_space(ch: char) -> bool {
     ch.is_whitespace()
 }
 

@@ -1,0 +1,38 @@
+-- The characters and parts of a text: its first and last character, what stands between two boundaries, and what is left without
+-- the characters at an end that pass.
+use Rattle.std.specs.Prelude.{ℕ, List, [], ◌∷◌, Bool, ◌&&◌, Option, Some, None, if◌then◌else◌, nat_le, reverse}
+use Rattle.arraystring_base.specs.Text.{front, back, boundary}
+
+-- the first character of a text, if any
+abbrev pub first_of : List ℕ → Option ℕ
+first_of [] = None
+first_of (c ∷ cs) = Some c
+
+-- the last character of a text, if any
+abbrev pub last_of : List ℕ → Option ℕ
+last_of [] = None
+last_of (c ∷ []) = Some c
+last_of (c ∷ d ∷ ds) = last_of (d ∷ ds)
+
+-- the characters before the last
+abbrev pub all_but_last : List ℕ → List ℕ
+all_but_last [] = []
+all_but_last (c ∷ []) = []
+all_but_last (c ∷ d ∷ ds) = c ∷ all_but_last (d ∷ ds)
+
+-- a text without the characters at its start that pass
+abbrev pub without_leading : (ℕ → Bool) → List ℕ → List ℕ
+without_leading passes [] = []
+without_leading passes (c ∷ cs) = if passes c then without_leading passes cs else c ∷ cs
+
+-- a text without the characters at its end that pass
+abbrev pub without_trailing : (ℕ → Bool) → List ℕ → List ℕ
+without_trailing passes t = reverse (without_leading passes (reverse t))
+
+-- the part of t between two boundaries
+abbrev pub part : List ℕ → ℕ → ℕ → List ℕ
+part t start end = back (front t end) start
+
+-- the part in a range, if there is one: both ends are boundaries, and in order
+abbrev pub part_in : List ℕ → ℕ → ℕ → Option (List ℕ)
+part_in t start end = if nat_le start end && (boundary t start && boundary t end) then Some (part t start end) else None

@@ -1,0 +1,84 @@
+//! The part of a text in a range of bytes, taken out as a `Drain`.
+ghost use Rattle.std.specs.Prelude.{◌≡◌, ◌≢◌, ◌+◌, ◌-◌, ◌^◌, ◌≤◌, min, OnOk, OnErr};
+ghost use Rattle.arraystring_base.specs.Text.{size};
+ghost use Rattle.arraystring_core.specs.RangeEnds.{OfReturnedBounds, saturated_start, saturated_end};
+ghost use Rattle.arraystring_core.specs.Drained.{with_left};
+ghost use Rattle.arraystring_core.specs.Edits.{Makes, first_cause, ok_unless, draining};
+
+use crate::range_ends::saturating_ends;
+use crate::{ArrayString, Drain};
+use arraystring_base::error::Error;
+use arraystring_base::utils::Steps;
+use std::ops::RangeBounds;
+
+impl<const N: usize> ArrayString<N> {
+    /// Removes the part in the range and returns its characters as a `Drain`. The part is removed
+    /// at once, whether or not the `Drain` is used. An excluded start and an included end count as
+    /// one more, but as no more than 255: `..=255` ends at 255.
+    ///
+    /// # Errors
+    ///
+    /// The first of these whose condition holds is returned, and the text is then unchanged:
+    ///
+    /// - `Err(Error::OutOfBounds)` if the range ends before it starts;
+    /// - `Err(Error::OutOfBounds)` if the range ends past the text;
+    /// - `Err(Error::Utf8)` if the start of the range is inside a character;
+    /// - `Err(Error::Utf8)` if the end of the range is inside a character.
+    ///
+    /// # Examples
+    ///
+    /// ```
+    /// let mut string = ArrayString::<8>::from("abcdé");
+    /// let drained = string.drain(1..=2).map(|drained| drained.as_str() == "bc");
+    /// assert_eq!((drained, string.as_str()), (Ok(true), "adé"));
+    /// assert_eq!(string.drain(2..9), Err(Error::OutOfBounds)); // past the text
+    /// assert_eq!(string.drain(..3), Err(Error::Utf8)); // inside `é`
+    /// ```
+    #[inline(always)]
+    pub fn drain<R: RangeBounds<u8> + Drop>(&mut self, range: R) -> Result<Drain<N>, Error>
+        ensures { OfReturnedBounds R.has_bounds R.start_bound R.end_bound range (λ start end. let t = self.old.text in
+            Makes (draining t (saturated_start start) (saturated_end end (size t))) t (with_left result) self.new.text) }
+    {
+        self.drain_through(range, &mut Steps::new(), &mut Drain::default())
+    }
+
+    /// Drains the part in the range. What is removed goes through `removed`, which is the caller's: the compiler copies a local
+    /// of this function once more.
+    #[inline(always)]
+    pub(super) fn drain_through<R: RangeBounds<u8> + Drop>(
+        &mut self,
+        range: R,
+        steps: &mut Steps,
+        removed: &mut Drain<N>,
+    ) -> Result<Drain<N>, Error>
+        requires { steps.old.moved ≤ 2 ^ 63 }
+        ensures edit { OfReturnedBounds R.has_bounds R.start_bound R.end_bound range (λ start end.
+            let t = self.old.text in let from = saturated_start start in let to = saturated_end end (size t) in
+            Makes (draining t from to) t (with_left result) self.new.text
+            × (from ≡ 0 → steps.new.moved ≡ steps.old.moved)
+            × (steps.new.moved ≤ steps.old.moved + (size t - to))
+            × OnOk result (from ≢ to → steps.old.moved + min from (size t - to) ≤ steps.new.moved)) }
+        ensures refused { OnErr result (steps.new.moved ≡ steps.old.moved) }
+        ensures counted { steps.old.moved ≤ steps.new.moved }
+        ensures looked { steps.new.looked ≡ steps.old.looked }
+    {
+        let (from, to) = saturating_ends(range, self.len());
+        self.check_part(from, to)?;
+        *removed = Drain::new(self.array, self.start + from, to - from);
+        self.take_out(from as usize, to as usize, steps);
+        Ok(*removed)
+    }
+
+    /// Refuses the bytes from `start` to `end` where `drain` has to.
+    fn check_part(&self, start: u8, end: u8) -> Result<(), Error>
+        ensures { result ≡ ok_unless (first_cause (draining self.now.text start end).tests) tt }
+    {
+        if start > end || end > self.len() {
+            return Err(Error::OutOfBounds);
+        }
+        if !self.is_boundary(start as usize) || !self.is_boundary(end as usize) {
+            return Err(Error::Utf8);
+        }
+        Ok(())
+    }
+}

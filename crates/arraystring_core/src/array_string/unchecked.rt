@@ -1,0 +1,149 @@
+//! The calls that leave a test to the caller, of which most programs need none.
+ghost use Rattle.std.specs.Prelude.{◌≡◌, ◌+◌, ◌≤◌, ◌∷◌, [], ◌++◌, ℕ, List, IsTrue, chars, length};
+ghost use Rattle.std.specs.Borrow.{Bor};
+ghost use Rattle.std.specs.Iterator.{IsFiniteIterable};
+ghost use Rattle.arraystring_base.specs.Text.{size, width, bytes, cap, front, back, boundary, IsText, IsWellFormed};
+ghost use Rattle.arraystring_core.specs.Taken.{TakesAll, Fits, Gives, joined, joined_pieces, piece_text};
+
+use crate::ArrayString;
+use crate::array_string::fill::fill;
+use arraystring_base::utils::{Steps, write_over};
+use std::str;
+
+impl<const N: usize> ArrayString<N> {
+    /// Creates a string from `string`.
+    ///
+    /// # Precondition
+    ///
+    /// All of `string` must fit.
+    #[inline]
+    pub fn from_str_unchecked(string: &str) -> Self
+        requires { size (chars string.now) ≤ cap N }
+        ensures { result.text ≡ chars string.now }
+    {
+        let mut array = [0; N];
+        fill(&mut array, string.as_bytes());
+        ArrayString {
+            array,
+            start: 0,
+            size: string.len() as u8,
+        }
+    }
+
+    /// Creates a string from all pieces, joined.
+    ///
+    /// # Precondition
+    ///
+    /// All of the pieces must fit. The iterator must end, and until then the precondition of its
+    /// `next` must hold.
+    pub fn from_iterator_unchecked<'a, I: IntoIterator<Item = &'a str> + Drop>(pieces: I) -> Self
+        requires ends { IsFiniteIterable I.into_iter_gives I.IntoIter.can_next I.IntoIter.remaining pieces }
+        requires fits { Fits I.into_iter_gives I.IntoIter.next_gives joined_pieces pieces (cap N) }
+        ensures taken { (taken : List (Bor (List ℕ))) × TakesAll I.into_iter_gives I.IntoIter.next_gives pieces taken
+            × (result.text ≡ joined_pieces taken) }
+        ensures whole { (all : List (List ℕ)) → Gives I.into_iter_gives I.IntoIter.next_gives piece_text pieces all
+            → result.text ≡ joined all }
+    {
+        let mut array = [0; N];
+        let mut end = 0;
+        for piece in pieces {
+            write_over(&mut array, end, piece.as_bytes());
+            end += piece.len();
+        }
+        ArrayString {
+            array,
+            start: 0,
+            size: end as u8,
+        }
+    }
+
+    /// Creates a string from all characters.
+    ///
+    /// # Precondition
+    ///
+    /// All of the characters must fit. The iterator must end, and until then the precondition of its
+    /// `next` must hold.
+    pub fn from_chars_unchecked<I: IntoIterator<Item = char> + Drop>(characters: I) -> Self
+        requires ends { IsFiniteIterable I.into_iter_gives I.IntoIter.can_next I.IntoIter.remaining characters }
+        requires fits { Fits I.into_iter_gives I.IntoIter.next_gives (λ cs. cs) characters (cap N) }
+        ensures taken { (taken : List ℕ) × TakesAll I.into_iter_gives I.IntoIter.next_gives characters taken
+            × (result.text ≡ taken) }
+        ensures whole { (all : List ℕ) → Gives I.into_iter_gives I.IntoIter.next_gives (λ c. c) characters all
+            → result.text ≡ all }
+    {
+        Self::from_chars(characters)
+    }
+
+    /// Creates a string from the UTF-8 in `given`.
+    ///
+    /// # Precondition
+    ///
+    /// `given` must be well-formed UTF-8 (the Unicode Standard, section 3.9), and all of it must
+    /// fit.
+    pub fn from_utf8_unchecked(given: &[u8]) -> Self
+        requires well_formed { IsWellFormed given.now }
+        requires fits { length given.now ≤ cap N }
+        ensures bytes { bytes result.text ≡ given.now }
+        ensures text { IsText result.text }
+    {
+        // SAFETY: the caller has to give well-formed UTF-8.
+        Self::from_str_unchecked(unsafe { str::from_utf8_unchecked(given) })
+    }
+
+    /// Appends `ch`.
+    ///
+    /// # Precondition
+    ///
+    /// `ch` must fit.
+    #[inline(always)]
+    pub fn push_unchecked(&mut self, ch: char)
+        requires { size self.old.text + width ch ≤ cap N }
+        ensures { self.new.text ≡ self.old.text ++ ch ∷ [] }
+    {
+        let Ok(()) = self.try_push(ch) else {
+            unreachable!();
+        };
+    }
+
+    /// Appends `string`.
+    ///
+    /// # Precondition
+    ///
+    /// All of `string` must fit.
+    #[inline]
+    pub fn push_str_unchecked(&mut self, string: &str)
+        requires { size self.old.text + size (chars string.now) ≤ cap N }
+        ensures { self.new.text ≡ self.old.text ++ chars string.now }
+    {
+        let Ok(()) = self.try_push_str(string) else {
+            unreachable!();
+        };
+    }
+
+    /// Inserts `ch` at the byte index `index`.
+    ///
+    /// # Precondition
+    ///
+    /// The index must be a boundary, and `ch` must fit.
+    pub fn insert_unchecked(&mut self, index: u8, ch: char)
+        requires boundary { IsTrue (boundary self.old.text index) }
+        requires room { size self.old.text + width ch ≤ cap N }
+        ensures { self.new.text ≡ front self.old.text index ++ (ch ∷ back self.old.text index) }
+    {
+        self.put_char(index as usize, ch);
+    }
+
+    /// Inserts `string` at the byte index `index`.
+    ///
+    /// # Precondition
+    ///
+    /// The index must be a boundary, and all of `string` must fit.
+    pub fn insert_str_unchecked(&mut self, index: u8, string: &str)
+        requires boundary { IsTrue (boundary self.old.text index) }
+        requires room { size self.old.text + size (chars string.now) ≤ cap N }
+        ensures { self.new.text ≡ front self.old.text index ++ (chars string.now ++ back self.old.text index) }
+    {
+        let start = index as usize;
+        self.splice(start, start, string, &mut Steps::new());
+    }
+}

@@ -1,0 +1,47 @@
+//! How values are printed for debugging, and a type that is printed as a text.
+use std::alloc::{AllocError, Global};
+use std::fmt;
+use std::fmt::Debug;
+
+/// A text that is printed alone.
+#[derive(Drop)]
+pub struct Alone<'a>(pub &'a str);
+
+impl Debug for Alone<'_> {
+    fn fmt<W: fmt::Write>(&self, f: &mut fmt::Formatter<W>) -> fmt::Result {
+        f.write_str(self.0)
+    }
+}
+
+/// How a value is printed for debugging in each form that could pad, cut or break it.
+pub(crate) fn forms<T: Debug>(
+    alloc: Global,
+    value: &T,
+    width: usize,
+) -> Result<String, AllocError> {
+    format!(in alloc;
+        "{value:?}|{value:#?}|{value:width$?}|{value:<width$?}|{value:>width$?}|{value:*^width$?}|\
+        {value:0width$?}|{value:#width$?}|{value:.width$?}|{value:>width$.1?}|{value:*^#width$.1?}|\
+        {value:+?}|{value:+#?}|{value:+width$?}|{value:+.width$?}|{value:+#0width$?}"
+    )
+}
+
+/// Returns how two values are printed for debugging at the first width, of those below 30, at which they
+/// are printed differently in some form, or `None` if there is no such width.
+///
+/// # Errors
+///
+/// Returns `Err(AllocError)` if there is no memory for what is printed.
+pub fn first_printed_apart<T: Debug, W: Debug>(
+    alloc: Global,
+    value: &T,
+    other: &W,
+) -> Result<Option<(String, String)>, AllocError> {
+    for width in 0..30usize {
+        let both = (forms(alloc, value, width)?, forms(alloc, other, width)?);
+        if both.0 != both.1 {
+            return Ok(Some(both));
+        }
+    }
+    Ok(None)
+}

@@ -1,0 +1,111 @@
+// Made from crates/arraystring_core/src/array_string/drained_range.rt by rust/erase. The proof is there. A change goes there.
+//! The part of a text in a range of bytes, taken out as a `Drain`.
+
+use crate::arraystring_base::error::Error;
+use crate::arraystring_base::utils::Steps;
+use crate::arraystring_core::range_ends::saturating_ends;
+use crate::arraystring_core::{ArrayString, Drain};
+use core::ops::RangeBounds;
+
+impl<const N: usize> ArrayString<N> {
+    /// Removes the part in the range and returns its characters as a [`Drain`](crate::Drain). The part is removed
+    /// at once, whether or not the [`Drain`](crate::Drain) is used. An excluded start and an included end count as
+    /// one more, but as no more than 255: `..=255` ends at 255.
+    ///
+    /// # Errors
+    ///
+    /// The first of these whose condition holds is returned, and the text is then unchanged:
+    ///
+    /// - [`Err(Error::OutOfBounds)`](crate::Error::OutOfBounds) if the range ends before it starts;
+    /// - [`Err(Error::OutOfBounds)`](crate::Error::OutOfBounds) if the range ends past the text;
+    /// - [`Err(Error::Utf8)`](crate::Error::Utf8) if the start of the range is inside a character;
+    /// - [`Err(Error::Utf8)`](crate::Error::Utf8) if the end of the range is inside a character.
+    ///
+    /// # Examples
+    ///
+    /// ```
+    /// use arraystring::{ArrayString, Error};
+    ///
+    /// let mut string = ArrayString::<8>::from("abcdé");
+    /// let drained = string.drain(1..=2).map(|drained| drained.as_str() == "bc");
+    /// assert_eq!((drained, string.as_str()), (Ok(true), "adé"));
+    /// assert_eq!(string.drain(2..9), Err(Error::OutOfBounds)); // past the text
+    /// assert_eq!(string.drain(..3), Err(Error::Utf8)); // inside `é`
+    /// ```
+    ///
+    /// <details><summary>Contract</summary>
+    ///
+    /// ```text
+    /// ensures { OfReturnedBounds R.has_bounds R.start_bound R.end_bound range (λ start end. let t = self.old.text in
+    ///     Makes (draining t (saturated_start start) (saturated_end end (size t))) t (with_left result) self.new.text) }
+    /// ```
+    ///
+    /// [How to read a contract](crate::contracts)
+    ///
+    /// </details>
+    #[inline(always)]
+    pub fn drain<R: RangeBounds<u8>>(&mut self, range: R) -> Result<Drain<N>, Error> {
+        self.drain_through(range, &mut Steps::new(), &mut Drain::default())
+    }
+
+    /// Drains the part in the range. What is removed goes through `removed`, which is the caller's: the compiler copies a local
+    /// of this function once more.
+    ///
+    /// <details><summary>Contract</summary>
+    ///
+    /// ```text
+    /// requires { steps.old.moved ≤ 2 ^ 63 }
+    /// ensures edit { OfReturnedBounds R.has_bounds R.start_bound R.end_bound range (λ start end.
+    ///     let t = self.old.text in let from = saturated_start start in let to = saturated_end end (size t) in
+    ///     Makes (draining t from to) t (with_left result) self.new.text
+    ///     × (from ≡ 0 → steps.new.moved ≡ steps.old.moved)
+    ///     × (steps.new.moved ≤ steps.old.moved + (size t - to))
+    ///     × OnOk result (from ≢ to → steps.old.moved + min from (size t - to) ≤ steps.new.moved)) }
+    /// ensures refused { OnErr result (steps.new.moved ≡ steps.old.moved) }
+    /// ensures counted { steps.old.moved ≤ steps.new.moved }
+    /// ensures looked { steps.new.looked ≡ steps.old.looked }
+    /// ```
+    ///
+    /// [How to read a contract](crate::contracts)
+    ///
+    /// </details>
+    #[inline(always)]
+    pub(super) fn drain_through<R: RangeBounds<u8>>(
+        &mut self,
+        range: R,
+        steps: &mut Steps,
+        removed: &mut Drain<N>,
+    ) -> Result<Drain<N>, Error> {
+        let (from, to) = saturating_ends(range, self.len());
+        self.check_part(from, to)?;
+        // SAFETY: the `to - from` bytes of `self.array` from `self.start + from` on are UTF-8 and end within the
+        // capacity: `check_part` returned `Ok`, so this is a part of the text, whatever was counted.
+        *removed = unsafe { Drain::new(self.array, self.start + from, to - from) };
+        // SAFETY: `from <= to`; `from` is a boundary of `self`; `to` is a boundary of `self`: `check_part` returned
+        // `Ok`, so this is a part of the text, whatever was counted.
+        unsafe { self.take_out(from as usize, to as usize, steps) };
+        Ok(*removed)
+    }
+
+    /// Refuses the bytes from `start` to `end` where `drain` has to.
+    ///
+    /// <details><summary>Contract</summary>
+    ///
+    /// ```text
+    /// ensures { result ≡ ok_unless (first_cause (draining self.now.text start end).tests) tt }
+    /// ```
+    ///
+    /// [How to read a contract](crate::contracts)
+    ///
+    /// </details>
+    #[inline]
+    fn check_part(&self, start: u8, end: u8) -> Result<(), Error> {
+        if start > end || end > self.len() {
+            return Err(Error::OutOfBounds);
+        }
+        if !self.is_boundary(start as usize) || !self.is_boundary(end as usize) {
+            return Err(Error::Utf8);
+        }
+        Ok(())
+    }
+}
