@@ -390,6 +390,8 @@ class OtherMachines(ScriptTest):
     # (what is there where all packages are installed)
     THERE = ("usr/lib/gcc/x86_64-linux-gnu/12/32/libgcc.a", "usr/s390x-linux-gnu/lib/libc.so.6")
     TESTED = "echo 'test result: ok. 2 passed; 0 failed'"
+    # A program on s390x that is not built without the step of LLVM gets another argument.
+    EMULATED = 'grep -q disable-postra "$3"'
     # A package of one compiler, with the sources of `core`.
     UNPACKED = 'mkdir -p "$3/usr/bin" "$3/usr/src/rustc-1/library/core/src" && cp "${0%/*}/rustc" "$3/usr/bin" && ' \
         'touch "$3/usr/src/rustc-1/library/core/src/lib.rs"'
@@ -401,8 +403,10 @@ class OtherMachines(ScriptTest):
         self.stand_in("bin/apt-get", '[ $2 != update ] || cat "$APT_CONFIG" >> "$CALLS"', "[ $2 != download ] || : > a.deb")
         self.stand_in("bin/dpkg", f"PATH=/usr/bin:/bin\n{self.UNPACKED}")
         self.stand_in("bin/cargo", self.TESTED)
-        for name in ("rustc", "gcc-12", "s390x-linux-gnu-gcc-12", "qemu-s390x-static"):
+        for name in ("gcc-12", "s390x-linux-gnu-gcc-12"):
             self.stand_in(f"bin/{name}")
+        self.stand_in("bin/rustc", '[ $1 != fifth_argument.rs ] || echo "$*" > "${10}"')
+        self.stand_in("bin/qemu-s390x-static", self.EMULATED)
         for path in self.THERE:
             self.write(path, "")
 
@@ -430,11 +434,18 @@ class OtherMachines(ScriptTest):
                 self.assertFalse(failed)
                 said = said.replace(str(self.root), "")
                 self.assertIn(f"6 tests passed, 4 builds passed and 0 failed, skipped: {skipped}", said)
+        self.stand_in("bin/qemu-s390x-static", self.EMULATED)
         self.stand_in("bin/cargo", "echo 'test result: ok. 0 passed; 0 failed'")
         self.assert_refused("0 tests passed, 6 builds passed and 0 failed")
         self.stand_in("bin/cargo", "[ $3 != --release ] || exit 1", self.TESTED)
         (self.root / "bin/apt-get").unlink()
         self.assert_refused("skipped all of them (no apt-get)")
+
+    def test_the_mistake_of_the_compiler_is_seen_and_turned_off(self):
+        for runs, said in (("exit 0", "the mistake is not seen (status 0)"), ("exit 1", "6 builds passed and 1 failed"),
+                           ("exit 3", "the mistake is not seen (status 3)")):
+            self.stand_in("bin/qemu-s390x-static", runs)
+            self.assert_refused(said)
 
 
 class Hosts(unittest.TestCase):
