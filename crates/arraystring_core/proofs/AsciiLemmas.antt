@@ -12,8 +12,8 @@ use Rattle.arraystring_core.specs.Layout.{stored, IsStored}
 use Rattle.arraystring_core.specs.GhostProofs.{stored-utf8, stored-bytes}
 use Rattle.arraystring_core.proofs.StoredLaws.{opened-within}
 use Rattle.arraystring_core.specs.Edits.{part}
-use Rattle.arraystring_core.proofs.PartLemmas.{part_lies}
-use Rattle.arraystring_core.proofs.SpanLemmas.{Lies, spliced, filled}
+use Rattle.arraystring_core.proofs.PartLemmas.{part_stored}
+use Rattle.arraystring_core.proofs.SpanLemmas.{StoredAt, spliced, filled}
 
 -- a change of ASCII characters alone
 pub record IsAsciiChange (f : ℕ → ℕ) : Type 0 where
@@ -54,9 +54,9 @@ module _ {f : ℕ → ℕ} (is : IsAsciiChange f) {array_size : ℕ} {array : Li
     (e : stored array p n ≡ v) {start end : ℕ} (order : start ≤ end) (b : boundary v.text start ≡ true) (d : boundary v.text end ≡ true)
     {after : List ℕ}
     (written : after ≡ take (p + start) array ++ (map f (take (p + end - (p + start)) (drop (p + start) array)) ++ drop (p + end) array)) where
-  pub changed : Lies array_size after p n (front v.text start ++ (map f (part v.text start end) ++ back v.text end))
+  pub changed : StoredAt array_size after p n (front v.text start ++ (map f (part v.text start end) ++ back v.text end))
   changed =
-      let there = part_lies in_array e order b d in
+      let there = part_stored in_array e order b d in
       let run = take (end - start) (drop (p + start) array) in
       let of : IsText (part v.text start end) = rw there.shown at (text-chars (stored-utf8 there.in_array)) in
       let same : run ≡ bytes (part v.text start end) = sym (stored-bytes there.in_array) ∙ ap bytes there.shown in

@@ -183,7 +183,7 @@ impl<const N: usize> ArrayString<N> {
         ensures moved { steps.new.moved ≡ steps.old.moved }
     {
         let (start, ch) = last_char(self.as_str(), steps)?;
-        self.keep(start as u8);
+        self.set_len(start as u8);
         Some(ch)
     }
 
@@ -228,7 +228,7 @@ impl<const N: usize> ArrayString<N> {
             return Err(Error::Utf8);
         }
         let (ch, width) = self.char_at(start);
-        self.take_out(start, start + width, steps);
+        self.remove_range(start, start + width, steps);
         Ok(ch)
     }
 

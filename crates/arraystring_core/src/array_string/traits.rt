@@ -9,8 +9,8 @@ ghost use Rattle.std.specs.Hash as fed;
 ghost use Rattle.std.specs.Ordering.{nat_cmp, MatchOrdering};
 
 use crate::ArrayString;
-use crate::fast::equal::equal;
-use crate::fast::order::order;
+use crate::blockwise::equal::equal;
+use crate::blockwise::order::order;
 use arraystring_base::error::OutOfBounds;
 use std::cmp::Ordering;
 use std::fmt;

@@ -59,7 +59,7 @@ impl<const N: usize> ArrayString<N> {
             if !drops(ch) {
                 break;
             }
-            self.keep(start as u8);
+            self.set_len(start as u8);
         }
     }
 

@@ -8,7 +8,7 @@ ghost use Rattle.std.specs.Hash as fed;
 ghost use Rattle.std.specs.Ordering.{nat_cmp, MatchOrdering};
 
 use crate::Drain;
-use crate::fast::order::order;
+use crate::blockwise::order::order;
 use arraystring_base::utils::{Steps, last_char};
 use std::cmp::Ordering;
 use std::fmt;

@@ -5,7 +5,7 @@ use crate::arraystring_base::error::{Error, OutOfBounds, Utf8};
 use crate::arraystring_base::utils::truncate_str;
 use crate::arraystring_core::ArrayString;
 use crate::arraystring_core::array_string::fill::try_fill;
-use crate::arraystring_core::fast::well_formed::read_utf8;
+use crate::arraystring_core::blockwise::well_formed::read_utf8;
 use crate::by_hand::str;
 
 impl<const N: usize> ArrayString<N> {

@@ -226,7 +226,7 @@ impl<const N: usize> ArrayString<N> {
         let (start, ch) = last_char(self.as_str(), steps)?;
         // SAFETY: `start as u8` is a boundary of `self`: `last_char` returns where the last character begins, which is
         // below 255, whatever was counted.
-        unsafe { self.keep(start as u8) };
+        unsafe { self.set_len(start as u8) };
         Some(ch)
     }
 
@@ -286,7 +286,7 @@ impl<const N: usize> ArrayString<N> {
         // SAFETY: `start <= start + width`; `start` is a boundary of `self`; `start + width` is a boundary of `self`: a
         // character begins at `start` by the tests above, and `char_at` returned that it takes `width` bytes, whatever
         // was counted.
-        unsafe { self.take_out(start, start + width, steps) };
+        unsafe { self.remove_range(start, start + width, steps) };
         Ok(ch)
     }
 

@@ -3,8 +3,8 @@
 
 use crate::arraystring_base::error::OutOfBounds;
 use crate::arraystring_core::ArrayString;
-use crate::arraystring_core::fast::equal::equal;
-use crate::arraystring_core::fast::order::order;
+use crate::arraystring_core::blockwise::equal::equal;
+use crate::arraystring_core::blockwise::order::order;
 use core::cmp::Ordering;
 use core::fmt;
 use core::hash::{Hash, Hasher};

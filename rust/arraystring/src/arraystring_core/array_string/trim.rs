@@ -88,7 +88,7 @@ impl<const N: usize> ArrayString<N> {
             }
             // SAFETY: `start as u8` is a boundary of `self`: `last_char` returns where the last character begins, which
             // is below 255, whatever the closure answers and whatever was counted.
-            unsafe { self.keep(start as u8) };
+            unsafe { self.set_len(start as u8) };
         }
     }
 

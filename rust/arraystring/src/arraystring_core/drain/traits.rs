@@ -3,7 +3,7 @@
 
 use crate::arraystring_base::utils::{Steps, last_char};
 use crate::arraystring_core::Drain;
-use crate::arraystring_core::fast::order::order;
+use crate::arraystring_core::blockwise::order::order;
 use core::cmp::Ordering;
 use core::fmt;
 use core::hash::{Hash, Hasher};
