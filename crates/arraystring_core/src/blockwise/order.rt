@@ -72,8 +72,10 @@ fn order_by_ends<const K: usize>(
     requires least { K ≤ common }
     requires most { common ≤ K + K }
     requires lesser { common ≡ min (length a.now) (length b.now) }
-    requires in_first { nat_cmp first.0 first.1 ≡ slice_cmp nat_cmp (take K a.now) (take K b.now) }
-    requires in_last { nat_cmp last.0 last.1 ≡ slice_cmp nat_cmp (take K (drop (common - K) a.now)) (take K (drop (common - K) b.now)) }
+    requires in_first { nat_cmp first.0 first.1
+        ≡ slice_cmp nat_cmp (take K a.now) (take K b.now) }
+    requires in_last { nat_cmp last.0 last.1
+        ≡ slice_cmp nat_cmp (take K (drop (common - K) a.now)) (take K (drop (common - K) b.now)) }
     ensures { result ≡ slice_cmp nat_cmp a.now b.now }
 {
     if first.0 != first.1 {
