@@ -27,6 +27,7 @@ pub lowercase-change : IsAsciiChange to_ascii_lowercase
 lowercase-change = record { low = lowercase_ascii; high = λ c ge. (lowercase_is c).2 (omega arith) }
 
 module _ (f : ℕ → ℕ) (is : IsAsciiChange f) where
+  -- a character below 128 is one byte and stays one, and any other stays as it is, as do its bytes, which are all 128 and more
   utf8-change : (c : ℕ) → utf8 (f c) ≡ map f (utf8 c)
   unfolding utf8
   utf8-change c = grind (arith, nat_tests, is.low, is.high)
@@ -35,6 +36,7 @@ module _ (f : ℕ → ℕ) (is : IsAsciiChange f) where
   bytes-change [] = refl
   bytes-change (c ∷ cs) = rw (utf8-change c, bytes-change cs, map-append f (utf8 c) (bytes cs)) refl
 
+  -- a number below 128 stays below it, and is a scalar value; any other stays as it is
   scalar-change : (c : ℕ) → IsScalarValue c → IsScalarValue (f c)
   scalar-change c s = grind (arith, is.low c, is.high c)
 
