@@ -106,7 +106,8 @@ impl<const N: usize> ArrayString<N> {
     ///
     /// ```text
     /// requires { IsFiniteIterable I.into_iter_gives I.IntoIter.can_next I.IntoIter.remaining pieces }
-    /// ensures taken { (taken : List (Bor (List ℕ))) × Takes I.into_iter_gives I.IntoIter.next_gives joined_pieces pieces (cap N) taken
+    /// ensures taken { (taken : List (Bor (List ℕ)))
+    ///     × Takes I.into_iter_gives I.IntoIter.next_gives joined_pieces pieces (cap N) taken
     ///     × IsWholeOrRefused (joined_pieces taken) (cap N) (from_out_of_bounds result) }
     /// ensures whole { (all : List (List ℕ)) → Gives I.into_iter_gives I.IntoIter.next_gives piece_text pieces all
     ///     → IsWholeOrRefused (joined all) (cap N) (from_out_of_bounds result) }
@@ -148,7 +149,8 @@ impl<const N: usize> ArrayString<N> {
     ///
     /// ```text
     /// requires { IsFiniteIterable I.into_iter_gives I.IntoIter.can_next I.IntoIter.remaining pieces }
-    /// ensures taken { (taken : List (Bor (List ℕ))) × Takes I.into_iter_gives I.IntoIter.next_gives joined_pieces pieces (cap N) taken
+    /// ensures taken { (taken : List (Bor (List ℕ)))
+    ///     × Takes I.into_iter_gives I.IntoIter.next_gives joined_pieces pieces (cap N) taken
     ///     × (result.text ≡ cut (joined_pieces taken) (cap N)) }
     /// ensures whole { (all : List (List ℕ)) → Gives I.into_iter_gives I.IntoIter.next_gives piece_text pieces all
     ///     → result.text ≡ cut (joined all) (cap N) }

@@ -244,7 +244,10 @@ impl<const N: usize> Ord for Drain<N> {
     /// ```text
     /// ensures order { result ≡ slice_cmp nat_cmp self.now.left other.now.left }
     /// ensures of_bytes { result ≡ slice_cmp nat_cmp (bytes self.now.left) (bytes other.now.left) }
-    /// ensures says { MatchOrdering result (IsBefore self.now.left other.now.left) (self.now.left ≡ other.now.left) (IsBefore other.now.left self.now.left) }
+    /// ensures says { MatchOrdering result
+    ///     (IsBefore self.now.left other.now.left)
+    ///     (self.now.left ≡ other.now.left)
+    ///     (IsBefore other.now.left self.now.left) }
     /// ```
     ///
     /// [How to read a contract](crate::contracts)
