@@ -146,8 +146,9 @@ impl<const N: usize> ArrayString<N> {
         // The edit, and then the moves: if the text does not grow, at most the bytes after the range; if its
         // size changes, at least the bytes before the range or those after it, whichever are fewer.
         ensures edit { OfReturnedBounds R.has_bounds R.start_bound R.end_bound range (λ start end.
-            let t = self.old.text in let given = chars with.now in
+            let t = self.old.text in
             let from = saturated_start start in let to = saturated_end end (size t) in
+            let given = chars with.now in
             Makes (replacement t from to given (cap N)) t result self.new.text
             × (size given ≤ to - from → steps.new.moved ≤ steps.old.moved + (size t - to))
             × OnOk result (to ≢ from + size given → steps.old.moved + min from (size t - to) ≤ steps.new.moved)) }
