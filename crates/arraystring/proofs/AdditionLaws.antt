@@ -1,6 +1,8 @@
 -- Laws of the rows that add: `addition`, `addition_of_cut`, `insertion` and `insertion_of_cut` (specs/Edits).
 -- Of each row: what holds after an `Ok` (`-made`) and after an `Err` (`-refused`), when the result is `Ok` (`-makes`), and
 -- when it is which `Err` (`-past`, `-over`, `-inside`). A law takes what its row takes after the text, and then facts.
+-- After an `Ok` no test of the row holds, and an `Err` is that of the first that does. `grind` reads each test as the comparison
+-- that it makes, one after the other; where a test asks for a boundary, the law that says whether it holds stands beside.
 use Rattle.std.proofs.Common.{◌≡◌, ℕ, ◌+◌, ◌-◌, ◌<◌, ◌≤◌, ◌⊎◌, List, [], ◌++◌, arith, true, false, refl, Result, Ok, Err}
 use Rattle.std.proofs.lemmas.Bool.Decides.{nat_tests}
 use Rattle.arraystring_base.specs.Text.{size, cut, front, back, boundary}
@@ -79,7 +81,7 @@ module _ {t : List ℕ} (given : List ℕ) (n : ℕ) {new : List ℕ} where
   pub insertion_at_start-made : Makes (insertion t 0 given n) t (Ok tt) new → (size t + size given ≤ n) × (new ≡ given ++ t)
   insertion_at_start-made m = ((insertion-made 0 given n m).1, rw (front-start, back-start) at m.ok)
 
-  -- one that returned `Err`: it did not fit, and the text is the old one
+  -- one that returned `Err`: it did not fit, since index 0 is a boundary of each text; and the text is the old one
   pub insertion_at_start-refused : {error : Error} → Makes (insertion t 0 given n) t (Err error) new
       → (n < size t + size given) × (error ≡ OutOfBounds) × (new ≡ t)
   insertion_at_start-refused m = grind (arith, insertion-refused 0 given n m, boundary-is [] t 0 refl)

@@ -24,7 +24,7 @@ part-start t i = back-start (front t i)
 pub part-end : (t : List ℕ) (i : ℕ) → part t i (size t) ≡ back t i
 part-end t i = rw front-end refl
 
--- a range that has a part is in order and lies between two boundaries
+-- a range that has a part is in order and lies between two boundaries: `part_in` tests all three, and is `None` unless they hold
 pub part_in-found : (t : List ℕ) (start end : ℕ) {found : List ℕ} → part_in t start end ≡ Some found
     → (start ≤ end) × (boundary t start ≡ true) × (boundary t end ≡ true) × (found ≡ part t start end)
 part_in-found t start end {found} some = grind (arith, nat_tests)

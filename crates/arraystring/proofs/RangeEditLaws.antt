@@ -1,6 +1,8 @@
 -- Laws of the rows of ranges, `draining` and `replacement` (specs/Edits).
 -- Of each row: what holds after an `Ok` (`-made`) and after an `Err` (`-refused`), when the result is `Ok` (`-makes`), and
 -- when it is which `Err` (`-crossed`, `-past`, `-over`, `-inside`). A law takes what its row takes after the text, and then facts.
+-- After an `Ok` no test of the row holds, and an `Err` is that of the first that does. `grind` reads each test as the comparison
+-- that it makes, one after the other; where a test asks for a boundary, the law that says whether it holds stands beside.
 use Rattle.std.proofs.Common.{◌≡◌, ℕ, ◌+◌, ◌-◌, ◌<◌, ◌≤◌, ◌⊎◌, List, ◌++◌, arith, true, false, Result, Ok, Err}
 use Rattle.std.proofs.lemmas.Bool.Decides.{nat_tests}
 use Rattle.arraystring_base.specs.Text.{size, front, back, boundary}

@@ -1,6 +1,8 @@
 -- Laws of the rows that take out or change characters, but for those of ranges (specs/Edits).
 -- Of each row: what holds after an `Ok` (`-made`) and after an `Err` (`-refused`), when the result is `Ok` (`-makes`), and
 -- when it is which `Err` (`-past`, `-inside`). A law takes what its row takes after the text, and then facts.
+-- After an `Ok` no test of the row holds, and an `Err` is that of the first that does. `grind` reads each test as the comparison
+-- that it makes, one after the other; where a test asks for a boundary, the law that says whether it holds stands beside.
 use Rattle.std.proofs.Common.{◌≡◌, ℕ, ◌<◌, ◌≤◌, ◌⊎◌, List, [], ◌∷◌, ◌++◌, ap, sym, ◌∙◌, arith, true, false, Bool, refl, Option, Some, None, Result, Ok, Err, map, drop}
 use Rattle.std.proofs.lemmas.Bool.{lt-leb, leb-false}
 use Rattle.std.proofs.lemmas.Bool.Decides.{nat_tests}
@@ -110,7 +112,7 @@ module _ {t new : List ℕ} where
       let left = (removal-made 0 m).2 in
       sym (back-start t) ∙ left.1 ∙ ap (λ l. c ∷ l) (sym (left.2 ∙ ap (λ l. l ++ left.0) (front-start t)))
 
-  -- one that returned `Err`: the text was empty
+  -- one that returned `Err`: the text was empty, since index 0 is a boundary of each text, and so not inside a character
   pub removal_at_start-refused : {error : Error} → Makes (removal t 0) t (Err error) new → (t ≡ []) × (error ≡ OutOfBounds) × (new ≡ [])
   removal_at_start-refused m =
       let refused = removal-refused 0 m in

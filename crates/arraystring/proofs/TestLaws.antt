@@ -25,20 +25,20 @@ past-failed t i = ltb-false (size t) i
 pub past-held : (t : List ℕ) (i : ℕ) → (past t i).holds ≡ true → size t < i
 past-held t i = ltb-true (size t) i
 
--- an index inside a character is no boundary
+-- an index inside a character is no boundary: `inside` asks for an index that is below the size, and no boundary
 pub inside-held : (t : List ℕ) (i : ℕ) → (inside t i).holds ≡ true → (i < size t) × (boundary t i ≡ false)
 inside-held t i holds = grind (arith, nat_tests)
 
--- a boundary, or an index past the text, is not inside a character
+-- a boundary, or an index past the text, is not inside a character: it lacks one of the two
 pub inside-fails : (t : List ℕ) (i : ℕ) → (i ≤ size t → boundary t i ≡ true) → (inside t i).holds ≡ false
 inside-fails t i b = grind (arith, nat_tests)
 
--- the first test of an index that holds
+-- the first test of an index that holds: the index is past the text, or else inside a character
 pub index-held : (t : List ℕ) (i : ℕ) {cause : Cause} {error : Error} → FirstHolds (past t i ∷ inside t i ∷ []) cause → error ≡ error_of cause
     → ((size t < i) × (error ≡ OutOfBounds)) ⊎ ((i < size t) × (boundary t i ≡ false) × (error ≡ Utf8))
 index-held t i first e = grind (arith, nat_tests)
 
--- if the range is in order and in the text, an end inside a character is found
+-- if the range is in order and in the text, an end inside a character is found: either test has the same cause
 pub ends-held : (t : List ℕ) (start end : ℕ) → start ≤ end → end ≤ size t → (boundary t start ≡ false) ⊎ (boundary t end ≡ false)
     → first_cause (inside t start ∷ inside t end ∷ []) ≡ Some Inside
 ends-held t start end order within at = grind (arith, nat_tests, inside-so t start (omega arith), inside-so t end within)

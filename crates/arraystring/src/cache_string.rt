@@ -123,7 +123,8 @@ impl CacheString {
         pieces: I,
     ) -> Result<Self, OutOfBounds>
         requires { IsFiniteIterable I.into_iter_gives I.IntoIter.can_next I.IntoIter.remaining pieces }
-        ensures taken { (taken : List (Bor (List ℕ))) × Takes I.into_iter_gives I.IntoIter.next_gives joined_pieces pieces 63 taken
+        ensures taken { (taken : List (Bor (List ℕ)))
+            × Takes I.into_iter_gives I.IntoIter.next_gives joined_pieces pieces 63 taken
             × IsWholeOrRefused (joined_pieces taken) 63 (from_out_of_bounds (held result)) }
         ensures whole { (all : List (List ℕ)) → Gives I.into_iter_gives I.IntoIter.next_gives piece_text pieces all
             → IsWholeOrRefused (joined all) 63 (from_out_of_bounds (held result)) }
@@ -146,7 +147,8 @@ impl CacheString {
     /// ```
     pub fn from_iterator<'a, I: IntoIterator<Item = &'a str> + Drop>(pieces: I) -> Self
         requires { IsFiniteIterable I.into_iter_gives I.IntoIter.can_next I.IntoIter.remaining pieces }
-        ensures taken { (taken : List (Bor (List ℕ))) × Takes I.into_iter_gives I.IntoIter.next_gives joined_pieces pieces 63 taken
+        ensures taken { (taken : List (Bor (List ℕ)))
+            × Takes I.into_iter_gives I.IntoIter.next_gives joined_pieces pieces 63 taken
             × (result.0.text ≡ cut (joined_pieces taken) 63) }
         ensures whole { (all : List (List ℕ)) → Gives I.into_iter_gives I.IntoIter.next_gives piece_text pieces all
             → result.0.text ≡ cut (joined all) 63 }

@@ -7,7 +7,7 @@ use Rattle.arraystring_base.specs.Text.{utf8, width, size, cap, front, back, bou
 use Rattle.arraystring_base.proofs.TextLaws.{chars-bytes, utf8-is, length-utf8, size-borrowed}
 use Rattle.arraystring_core.specs.Stored.{Stored}
 use Rattle.arraystring_core.specs.Layout.{stored, IsStored}
-use Rattle.arraystring_core.proofs.SpanLemmas.{Lies, appended, appended_at_front, filled}
+use Rattle.arraystring_core.proofs.SpanLemmas.{StoredAt, appended, appended_at_front, filled}
 
 module _ (ch : ℕ) (scalar : IsScalar ch) where
   pub char-utf8 : IsUtf8 (utf8 ch)
@@ -29,14 +29,14 @@ module _ {array_size : ℕ} {array : List ℕ} {p n : ℕ} (is : IsStored array_
     (ch : ℕ) (scalar : IsScalar ch) {len : ℕ} (wide : len ≡ width ch) where
   pub char-appended : {after : List ℕ} → p + n + width ch ≤ cap array_size
       → after ≡ take (p + n) array ++ (utf8 ch ++ drop (p + n + width ch) array)
-      → Lies array_size after p (n + len) (v.text ++ ch ∷ [])
+      → StoredAt array_size after p (n + len) (v.text ++ ch ∷ [])
   char-appended =
       rw (wide, ← length-utf8 ch, ← char-chars ch scalar) (appended is e (char-utf8 ch scalar))
 
   -- the text was moved to offset 0 before
   pub char-appended_at_front : {after : List ℕ} → n + width ch ≤ cap array_size
       → after ≡ take n (drop p array) ++ (utf8 ch ++ drop (n + width ch) array)
-      → Lies array_size after 0 (n + len) (v.text ++ ch ∷ [])
+      → StoredAt array_size after 0 (n + len) (v.text ++ ch ∷ [])
   char-appended_at_front =
       rw (wide, ← length-utf8 ch, ← char-chars ch scalar) (appended_at_front is e (char-utf8 ch scalar))
 
@@ -50,7 +50,7 @@ module _ {array_size : ℕ} {array : List ℕ} {p n : ℕ} (is : IsStored array_
         → take m (drop offset gapped) ≡ take m (drop offset array)
         → take (count - m) (drop (offset + (m + len)) gapped) ≡ take (count - m) (drop (offset + m) array)
         → after ≡ take (offset + m) gapped ++ (utf8 ch ++ drop (offset + m + width ch) gapped)
-        → Lies array_size after p (m + (len + (count - m))) (front v.text m ++ (ch ∷ back v.text m))
+        → StoredAt array_size after p (m + (len + (count - m))) (front v.text m ++ (ch ∷ back v.text m))
     char-inserted {after} =
         rw (length-utf8 ch, char-chars ch scalar) at
         (filled is e (omega arith) b b fits (char-utf8 ch scalar) at many (wide ∙ sym (length-utf8 ch)) gapped {after = after} long)

@@ -12,8 +12,8 @@ use Rattle.arraystring_core.specs.Layout.{stored, IsStored}
 use Rattle.arraystring_core.specs.GhostProofs.{stored-utf8, stored-bytes}
 use Rattle.arraystring_core.proofs.StoredLaws.{opened-within}
 use Rattle.arraystring_core.specs.Edits.{part}
-use Rattle.arraystring_core.proofs.PartLemmas.{part_lies}
-use Rattle.arraystring_core.proofs.SpanLemmas.{Lies, spliced, filled}
+use Rattle.arraystring_core.proofs.PartLemmas.{part_stored}
+use Rattle.arraystring_core.proofs.SpanLemmas.{StoredAt, spliced, filled}
 
 -- a change of ASCII characters alone
 pub record IsAsciiChange (f : ℕ → ℕ) : Type 0 where
@@ -27,6 +27,7 @@ pub lowercase-change : IsAsciiChange to_ascii_lowercase
 lowercase-change = record { low = lowercase_ascii; high = λ c ge. (lowercase_is c).2 (omega arith) }
 
 module _ (f : ℕ → ℕ) (is : IsAsciiChange f) where
+  -- a character below 128 is one byte and stays one, and any other stays as it is, as do its bytes, which are all 128 and more
   utf8-change : (c : ℕ) → utf8 (f c) ≡ map f (utf8 c)
   unfolding utf8
   utf8-change c = grind (arith, nat_tests, is.low, is.high)
@@ -35,6 +36,7 @@ module _ (f : ℕ → ℕ) (is : IsAsciiChange f) where
   bytes-change [] = refl
   bytes-change (c ∷ cs) = rw (utf8-change c, bytes-change cs, map-append f (utf8 c) (bytes cs)) refl
 
+  -- a number below 128 stays below it, and is a scalar value; any other stays as it is
   scalar-change : (c : ℕ) → IsScalarValue c → IsScalarValue (f c)
   scalar-change c s = grind (arith, is.low c, is.high c)
 
@@ -54,9 +56,9 @@ module _ {f : ℕ → ℕ} (is : IsAsciiChange f) {array_size : ℕ} {array : Li
     (e : stored array p n ≡ v) {start end : ℕ} (order : start ≤ end) (b : boundary v.text start ≡ true) (d : boundary v.text end ≡ true)
     {after : List ℕ}
     (written : after ≡ take (p + start) array ++ (map f (take (p + end - (p + start)) (drop (p + start) array)) ++ drop (p + end) array)) where
-  pub changed : Lies array_size after p n (front v.text start ++ (map f (part v.text start end) ++ back v.text end))
+  pub changed : StoredAt array_size after p n (front v.text start ++ (map f (part v.text start end) ++ back v.text end))
   changed =
-      let there = part_lies in_array e order b d in
+      let there = part_stored in_array e order b d in
       let run = take (end - start) (drop (p + start) array) in
       let of : IsText (part v.text start end) = rw there.shown at (text-chars (stored-utf8 there.in_array)) in
       let same : run ≡ bytes (part v.text start end) = sym (stored-bytes there.in_array) ∙ ap bytes there.shown in

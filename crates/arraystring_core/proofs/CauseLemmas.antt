@@ -6,6 +6,7 @@ use Rattle.arraystring_base.specs.declared.error.Error.TheVariants.{OutOfBounds,
 use Rattle.arraystring_core.specs.Edits.{Test, first_cause, ok_unless, replacement, Makes, Room, Inside, addition, insertion}
 use Rattle.arraystring_core.proofs.EditLaws.{none-holds, inside-failed, refuses, makes, inside-so, inside-not, addition-no_cause, addition-room}
 
+-- `ok_unless` returns `Ok` only without a cause
 pub no_cause : (tests : List Test) → Ok (tt {0}) ≡ ok_unless (first_cause tests) (tt {0}) → first_cause tests ≡ None
 no_cause tests is = grind arith
 

@@ -10,7 +10,7 @@ use Rattle.arraystring_core.specs.Layout.{stored, IsDrained}
 use Rattle.arraystring_core.specs.GhostProofs.{stored-utf8, stored-size, stored-bytes}
 use Rattle.arraystring_core.specs.Drained.{Drained, drained}
 use Rattle.arraystring_core.proofs.StoredLaws.{opened-within}
-use Rattle.arraystring_core.proofs.SpanLemmas.{Lies, dropped, kept}
+use Rattle.arraystring_core.proofs.SpanLemmas.{StoredAt, dropped, kept}
 use Rattle.arraystring_core.proofs.EndLemmas.{low-width, first-low}
 
 -- c came off the front, or off the back, of the text t, and the part from i on of the n bytes from the offset p on is left
@@ -29,8 +29,8 @@ module _ {array_size : ℕ} {array : List ℕ} {p n i : ℕ} (is : IsDrained arr
   pub given-within : i ≤ n
   given-within = opened-within is.in_array refl i is.at
 
-  lies : Lies array_size array (p + i) (n - i) (back removed i)
-  lies = dropped is.in_array refl i is.at
+  left_stored : StoredAt array_size array (p + i) (n - i) (back removed i)
+  left_stored = dropped is.in_array refl i is.at
 
   -- the bytes of what is left are those of the array from f to t
   module _ (f t : ℕ) (from : f ≡ p + i) (to : t ≡ p + n) where
@@ -38,10 +38,10 @@ module _ {array_size : ℕ} {array : List ℕ} {p n i : ℕ} (is : IsDrained arr
     long = omega (arith, given-within)
 
     pub borrowed-utf8 : IsUtf8 (take (t - f) (drop f array))
-    borrowed-utf8 = rw (long, from) (stored-utf8 lies.in_array)
+    borrowed-utf8 = rw (long, from) (stored-utf8 left_stored.in_array)
 
     pub borrowed-bytes : {v : Drained} → drained (stored array p n) i ≡ v → take (t - f) (drop f array) ≡ bytes v.left
-    borrowed-bytes e = rw (long, from) (sym (stored-bytes lies.in_array) ∙ ap bytes (lies.shown ∙ ap (λ d. d.left) e))
+    borrowed-bytes e = rw (long, from) (sym (stored-bytes left_stored.in_array) ∙ ap bytes (left_stored.shown ∙ ap (λ d. d.left) e))
 
   -- the value that a contract sees
   module _ {v : Drained} (e : drained (stored array p n) i ≡ v) where
@@ -108,18 +108,18 @@ module _ {array_size : ℕ} {array : List ℕ} {p n i : ℕ} (is : IsDrained arr
       last-starts : boundary removed (i + size rest) ≡ true
       last-starts = rw parts (boundary-is (before ++ rest) (c ∷ []) (i + size rest) shorter)
 
-      kept_lies : Lies array_size array p (i + size rest) (front removed (i + size rest))
-      kept_lies = kept is.in_array refl (i + size rest) last-starts
+      kept_stored : StoredAt array_size array p (i + size rest) (front removed (i + size rest))
+      kept_stored = kept is.in_array refl (i + size rest) last-starts
 
       kept-text : (stored array p (i + size rest)).text ≡ before ++ rest
       kept-text =
-          kept_lies.shown ∙ ap (λ t. front t (i + size rest)) parts ∙ front-is (before ++ rest) (c ∷ []) (i + size rest) shorter
+          kept_stored.shown ∙ ap (λ t. front t (i + size rest)) parts ∙ front-is (before ++ rest) (c ∷ []) (i + size rest) shorter
 
       pub back-within : i + size rest ≤ n
       back-within = opened-within is.in_array refl (i + size rest) last-starts
 
       pub back-given : GivesLast array_size array p (i + size rest) i v.left c
       back-given = record {
-        in_array = record { in_array = kept_lies.in_array; at = rw kept-text (boundary-is before rest i (front-size removed i is.at)) };
+        in_array = record { in_array = kept_stored.in_array; at = rw kept-text (boundary-is before rest i (front-size removed i is.at)) };
         rest = rw (kept-text, back-is before rest i (front-size removed i is.at)) ends;
       }

@@ -20,7 +20,7 @@ module _ {A : Type 0} (edit : Edit A) (t : List ℕ) where
       → Makes edit t (Ok value) new
   makes value new e a n = record { returns = rw e (ap Ok a); ok = n; err = tt }
 
--- if no cause is found, none of the tests holds
+-- if no cause is found, none of the tests holds: of one that holds the cause would be found, and so the rest has none either
 pub none-holds : (tests : List Test) → first_cause tests ≡ None → NoneHolds tests
 none-holds [] e = tt
 none-holds (test ∷ rest) e = grind (arith, none-holds rest)
@@ -36,7 +36,7 @@ all_but_last-push [] c = refl
 all_but_last-push (a ∷ []) c = refl
 all_but_last-push (a ∷ b ∷ t) c = ap (λ l. a ∷ l) (all_but_last-push (b ∷ t) c)
 
--- a boundary is not inside, and an index in the text that is no boundary is
+-- a boundary is not inside, and an index in the text that is no boundary is: it is not the end, which is a boundary
 pub inside-not : (t : List ℕ) (i : ℕ) → boundary t i ≡ true → (inside t i).holds ≡ false
 inside-not t i b = rw b (and_right _ false refl)
 
@@ -47,7 +47,7 @@ inside-so t i le b = grind (arith, nat_tests, boundary-end t)
 pub inside-past : (t : List ℕ) (i : ℕ) → size t ≤ i → (inside t i).holds ≡ false
 inside-past t i ge = rw (le-ltb i (size t) ge)
 
--- an index in the text that is not inside a character is a boundary
+-- an index in the text that is not inside a character is a boundary: if it were none, it would be inside
 pub inside-failed : (t : List ℕ) (i : ℕ) → i ≤ size t → (inside t i).holds ≡ false → boundary t i ≡ true
 inside-failed t i within out = grind (arith, inside-so t i within)
 
@@ -58,7 +58,7 @@ addition-no_cause t given n fits = rw (le-ltb n (size t + size given) fits) refl
 pub addition-room : (t given : List ℕ) (n : ℕ) → n < size t + size given → first_cause (addition t given n).tests ≡ Some Room
 addition-room t given n over = rw (lt-ltb n (size t + size given) over) refl
 
--- what an addition did, by what it returned
+-- what an addition did, by what it returned: its one test is that of the room, which holds exactly if an error was returned
 module _ {t : List ℕ} (given : List ℕ) (n : ℕ) {new : List ℕ} where
   pub addition-made : Makes (addition t given n) t (Ok tt) new → (size t + size given ≤ n) × (new ≡ t ++ given)
   addition-made m = grind (arith, nat_tests)
@@ -67,7 +67,8 @@ module _ {t : List ℕ} (given : List ℕ) (n : ℕ) {new : List ℕ} where
       → (n < size t + size given) × (error ≡ OutOfBounds) × (new ≡ t)
   addition-refused {error} m = grind (arith, nat_tests)
 
--- the ranges of white space are those of `char::is_whitespace`
+-- the ranges of white space are those of `char::is_whitespace`, which names the number before a range and the one behind it;
+-- of a range of two it names both, and of a range of one that one
 range-std : (a b c : ℕ) → (nat_le (suc a) c && nat_le c b) ≡ (nat_lt a c && nat_lt c (suc b))
 range-std a b c = grind (arith, nat_tests)
 

@@ -13,7 +13,7 @@ last-split c (d ∷ ds) = let rest = last-split d ds in (c ∷ rest.0, rest.1, a
 pub pushed-length : (t xs : List ℕ) (x : ℕ) → t ≡ xs ++ x ∷ [] → length t ≡ length xs + 1
 pushed-length t xs x is = ap length is ∙ length-append xs (x ∷ [])
 
--- a character below 128 is one byte, and one whose first byte is below 128 is below it
+-- a character below 128 is one byte, and one whose first byte is below 128 is below it: any other begins with C0 or more
 pub low-width : (c : ℕ) → c < 0x80 → width c ≡ 1
 low-width c lt = sym (length-utf8 c) ∙ ap length (utf8-one c lt)
 

@@ -9,13 +9,13 @@ use Rattle.arraystring_core.specs.Edits.{part, draining, first_cause, ok_unless,
 use Rattle.arraystring_core.proofs.StoredLaws.{opened-size}
 use Rattle.arraystring_core.proofs.EditLaws.{makes, none-holds, inside-failed}
 use Rattle.arraystring_core.proofs.CauseLemmas.{no_cause}
-use Rattle.arraystring_core.proofs.SpanLemmas.{Lies, dropped, kept}
+use Rattle.arraystring_core.proofs.SpanLemmas.{StoredAt, dropped, kept}
 
 -- the part between two boundaries of a stored text, where it is in the array
 module _ {array_size : ℕ} {array : List ℕ} {p n : ℕ} (is : IsStored array_size array p n) {v : Stored} (e : stored array p n ≡ v)
     {start end : ℕ} (order : start ≤ end) (b : boundary v.text start ≡ true) (d : boundary v.text end ≡ true) where
-  pub part_lies : Lies array_size array (p + start) (end - start) (part v.text start end)
-  part_lies =
+  pub part_stored : StoredAt array_size array (p + start) (end - start) (part v.text start end)
+  part_stored =
       let front_is = kept is e end d in
       let starts : boundary (stored array p end).text start ≡ true =
       rw front_is.shown (boundary-in_front v.text start end order b) in
@@ -47,6 +47,6 @@ takable is {v = v} e start end checked =
       within = omega (arith, opened-size is e);
       starts = starts;
       ends = ends;
-      in_array = (part_lies is e order starts ends).in_array;
-      made = λ left new same after. makes edit v.text left new none (same ∙ (part_lies is e order starts ends).shown) after;
+      in_array = (part_stored is e order starts ends).in_array;
+      made = λ left new same after. makes edit v.text left new none (same ∙ (part_stored is e order starts ends).shown) after;
     }

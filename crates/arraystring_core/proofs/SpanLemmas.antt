@@ -13,47 +13,47 @@ use Rattle.arraystring_core.proofs.StoredLaws.{opened-bytes, opened-size, opened
 use Rattle.arraystring_core.proofs.GapLemmas.{written, written-from-zero, shifted}
 
 -- the n bytes of the array from the offset p on are the text t, and end within the capacity
-pub record Lies (array_size : ℕ) (array : List ℕ) (p n : ℕ) (t : List ℕ) : Type 0 where
+pub record StoredAt (array_size : ℕ) (array : List ℕ) (p n : ℕ) (t : List ℕ) : Type 0 where
   pub in_array : IsStored array_size array p n
   pub shown : chars (take n (drop p array)) ≡ t
 
 -- these bytes are the UTF-8 of t
-pub laid : {array_size : ℕ} (array : List ℕ) (p n : ℕ) {bs t : List ℕ} → IsUtf8 bs → chars bs ≡ t → length array ≡ array_size
-    → p + n ≤ cap array_size → take n (drop p array) ≡ bs → Lies array_size array p n t
-laid array p n u is long within same =
+pub stored-from-utf8 : {array_size : ℕ} (array : List ℕ) (p n : ℕ) {bs t : List ℕ} → IsUtf8 bs → chars bs ≡ t → length array ≡ array_size
+    → p + n ≤ cap array_size → take n (drop p array) ≡ bs → StoredAt array_size array p n t
+stored-from-utf8 array p n u is long within same =
     record { in_array = record { within = within; length = long; utf8 = ∣ rw same u ∣₁ }; shown = ap chars same ∙ is }
 
 -- where the same bytes are is the same text
-pub carried : {array_size : ℕ} {array : List ℕ} {p n : ℕ} {t : List ℕ} → Lies array_size array p n t → (after : List ℕ) (q : ℕ)
-    → length after ≡ array_size → q + n ≤ cap array_size → take n (drop q after) ≡ take n (drop p array) → Lies array_size after q n t
-carried {n = n} is after q = laid after q n (stored-utf8 is.in_array) is.shown
+pub carried : {array_size : ℕ} {array : List ℕ} {p n : ℕ} {t : List ℕ} → StoredAt array_size array p n t → (after : List ℕ) (q : ℕ)
+    → length after ≡ array_size → q + n ≤ cap array_size → take n (drop q after) ≡ take n (drop p array) → StoredAt array_size after q n t
+carried {n = n} is after q = stored-from-utf8 after q n (stored-utf8 is.in_array) is.shown
 
 -- two texts, one behind the other
-pub joined : {array_size : ℕ} {array : List ℕ} {p n m : ℕ} {a b : List ℕ} → Lies array_size array p n a → Lies array_size array (p + n) m b
-    → Lies array_size array p (n + m) (a ++ b)
+pub joined : {array_size : ℕ} {array : List ℕ} {p n m : ℕ} {a b : List ℕ} → StoredAt array_size array p n a → StoredAt array_size array (p + n) m b
+    → StoredAt array_size array p (n + m) (a ++ b)
 joined {array = array} {p} {n} {m} one two =
     let u = stored-utf8 one.in_array in
     let w = stored-utf8 two.in_array in
     let both = take-add n m (drop p array) ∙ ap (λ l. take n (drop p array) ++ take m l) (drop-drop n p array) in
-    laid array p (n + m) (IsUtf8-append _ _ u w) (rw (chars-append _ _ u, one.shown, two.shown)) one.in_array.length
+    stored-from-utf8 array p (n + m) (IsUtf8-append _ _ u w) (rw (chars-append _ _ u, one.shown, two.shown)) one.in_array.length
     (omega (arith, two.in_array)) both
 
 module _ {array_size : ℕ} {array : List ℕ} {p n : ℕ} (is : IsStored array_size array p n) {v : Stored} (e : stored array p n ≡ v) where
   -- the part before the boundary m, and that from it on
   module _ (m : ℕ) (b : boundary v.text m ≡ true) where
-    pub kept : Lies array_size array p m (front v.text m)
+    pub kept : StoredAt array_size array p m (front v.text m)
     kept =
         let within = opened-within is e m b in
         let text = front-text v.text m (opened-text is e) in
-        laid array p m (bytes-utf8 _ text) (text_spelled _ text) is.length (omega arith)
+        stored-from-utf8 array p m (bytes-utf8 _ text) (text_spelled _ text) is.length (omega arith)
         (rw (← take-take m n (drop p array) within, ← opened-bytes is e) (bytes-front v.text m b))
 
-    pub dropped : Lies array_size array (p + m) (n - m) (back v.text m)
+    pub dropped : StoredAt array_size array (p + m) (n - m) (back v.text m)
     dropped =
         let within = opened-within is e m b in
         let whole : m + (n - m) ≡ n = omega arith in
         let text = back-text v.text m (opened-text is e) in
-        laid array (p + m) (n - m) (bytes-utf8 _ text) (text_spelled _ text) is.length (omega arith)
+        stored-from-utf8 array (p + m) (n - m) (bytes-utf8 _ text) (text_spelled _ text) is.length (omega arith)
         (rw (← drop-drop m p array, ← drop-take m (n - m) (drop p array), whole, ← opened-bytes is e) (bytes-back v.text m b))
 
   -- what the sizes of the text and of `given` are, and that a boundary is within
@@ -64,18 +64,18 @@ module _ {array_size : ℕ} {array : List ℕ} {p n : ℕ} (is : IsStored array_
   -- `given` was written behind the text
   pub appended : {given after : List ℕ} → IsUtf8 given → p + n + length given ≤ cap array_size
       → after ≡ take (p + n) array ++ (given ++ drop (p + n + length given) array)
-      → Lies array_size after p (n + length given) (v.text ++ chars given)
+      → StoredAt array_size after p (n + length given) (v.text ++ chars given)
   appended {given} {after} u room put =
       let there = written array after given (p + n) (length given) refl (omega arith) put in
       let long = there.long ∙ is.length in
-      joined (laid after p n (stored-utf8 is) (ap (λ w. w.text) e) long is.within (there.before p n (omega arith)))
-      (laid after (p + n) (length given) u refl long room there.here)
+      joined (stored-from-utf8 after p n (stored-utf8 is) (ap (λ w. w.text) e) long is.within (there.before p n (omega arith)))
+      (stored-from-utf8 after (p + n) (length given) u refl long room there.here)
 
   module _ {start end : ℕ} (order : start ≤ end) (b : boundary v.text start ≡ true) (d : boundary v.text end ≡ true) where
     -- the bytes from the boundary `end` on were moved to the boundary `start`
     pub closed : {after : List ℕ}
         → after ≡ take (p + start) array ++ (take (n - end) (drop (p + end) array) ++ drop (p + start + (n - end)) array)
-        → Lies array_size after p (start + (n - end)) (front v.text start ++ back v.text end)
+        → StoredAt array_size after p (start + (n - end)) (front v.text start ++ back v.text end)
     closed {after} moved =
         let within = opened-within is e end d in
         let there = shifted array after (p + end) (p + start) (n - end) (omega arith) (omega arith) moved in
@@ -91,14 +91,14 @@ module _ {array_size : ℕ} {array : List ℕ} {p n : ℕ} (is : IsStored array_
           → take start (drop q gapped) ≡ take start (drop p array)
           → take (n - end) (drop (q + (start + length given)) gapped) ≡ take (n - end) (drop (p + end) array)
           → after ≡ take (q + start) gapped ++ (given ++ drop (q + start + length given) gapped)
-          → Lies array_size after q (start + (len + (count - end))) (front v.text start ++ (chars given ++ back v.text end))
+          → StoredAt array_size after q (start + (len + (count - end))) (front v.text start ++ (chars given ++ back v.text end))
       put q within moved tail over =
           let there = written gapped after given (q + start) (length given) refl (omega arith) over in
           let still = there.long ∙ long in
           let sum : q + start + length given ≡ q + (start + length given) = omega arith in
           rw (many, wide)
           (joined (carried (kept start b) after q still (omega arith) (there.before q start (omega arith) ∙ moved))
-          (joined (laid after (q + start) (length given) u refl still (omega arith) there.here)
+          (joined (stored-from-utf8 after (q + start) (length given) u refl still (omega arith) there.here)
           (carried (dropped end d) after (q + start + length given) still (omega arith)
           (ap (take (n - end)) (there.behind (q + start + length given) (omega arith)) ∙ rw sum tail))))
 
@@ -106,14 +106,14 @@ module _ {array_size : ℕ} {array : List ℕ} {p n : ℕ} (is : IsStored array_
           → take start (drop offset gapped) ≡ take start (drop offset array)
           → take (count - end) (drop (offset + (start + len)) gapped) ≡ take (count - end) (drop (offset + end) array)
           → after ≡ take (offset + start) gapped ++ (given ++ drop (offset + start + length given) gapped)
-          → Lies array_size after p (start + (len + (count - end))) (front v.text start ++ (chars given ++ back v.text end))
+          → StoredAt array_size after p (start + (len + (count - end))) (front v.text start ++ (chars given ++ back v.text end))
       filled within moved tail over =
           put p (omega arith) (rw at at moved) (rw (at, many, wide) at tail) (rw at at over)
 
       pub moved_to_start : take start gapped ≡ take start (drop offset array)
           → take (count - end) (drop (start + len) gapped) ≡ take (count - end) (drop (offset + end) array)
           → after ≡ take start gapped ++ (given ++ drop (start + length given) gapped)
-          → Lies array_size after 0 (start + (len + (count - end))) (front v.text start ++ (chars given ++ back v.text end))
+          → StoredAt array_size after 0 (start + (len + (count - end))) (front v.text start ++ (chars given ++ back v.text end))
       moved_to_start moved tail over =
           let sum : 0 + (start + length given) ≡ start + length given = omega arith in
           put 0 (omega (arith, spliced d u)) (rw at at moved) (rw sum (rw (at, many, wide) at tail))
@@ -123,7 +123,7 @@ module _ {array_size : ℕ} {array : List ℕ} {p n : ℕ} (is : IsStored array_
 pub appended_at_front : {array_size : ℕ} {array : List ℕ} {p n : ℕ} (is : IsStored array_size array p n) {v : Stored} → stored array p n ≡ v
     → {given after : List ℕ} → IsUtf8 given → n + length given ≤ cap array_size
     → after ≡ take n (drop p array) ++ (given ++ drop (n + length given) array)
-    → Lies array_size after 0 (n + length given) (v.text ++ chars given)
+    → StoredAt array_size after 0 (n + length given) (v.text ++ chars given)
 appended_at_front {array_size} {array} {p} {n} is e {given} {after} u room put =
     let text = take n (drop p array) in
     let rest = given ++ drop (n + length given) array in
@@ -131,7 +131,7 @@ appended_at_front {array_size} {array} {p} {n} is e {given} {after} u room put =
     let long : length after ≡ array_size =
     omega (arith, simp length-append at (ap length put), front, length-drop (n + length given) array, is.length) in
     let zero : 0 + n ≡ n = omega arith in
-    joined (laid after 0 n (stored-utf8 is) (ap (λ w. w.text) e) long (omega arith) (ap (take n) put ∙ take_at text rest n front))
-    (laid after (0 + n) (length given) u refl long (omega arith)
+    joined (stored-from-utf8 after 0 n (stored-utf8 is) (ap (λ w. w.text) e) long (omega arith) (ap (take n) put ∙ take_at text rest n front))
+    (stored-from-utf8 after (0 + n) (length given) u refl long (omega arith)
     (rw zero (ap (λ l. take (length given) (drop n l)) put ∙ ap (take (length given)) (drop_at text rest n front)
     ∙ take_at given _ (length given) refl)))

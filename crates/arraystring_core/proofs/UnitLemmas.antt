@@ -10,7 +10,7 @@ use Rattle.arraystring_base.specs.Text.{cap}
 use Rattle.arraystring_base.specs.declared.utf16.Unit16.{Unit16}
 use Rattle.arraystring_base.specs.declared.utf16.Unit16.TheVariants.{Char, Lone}
 use Rattle.arraystring_base.specs.Utf16.{IsHigh, IsLow, lossy_text, IsItem, NoPairApart, IsReading}
-use Rattle.arraystring_core.proofs.SpanLemmas.{Lies, laid}
+use Rattle.arraystring_core.proofs.SpanLemmas.{StoredAt, stored-from-utf8}
 
 abbrev pub AreAscii : List ℕ → ℕ → Type 0
 AreAscii units n = (i : ℕ) → i < n → get_or units i 0 < 0x80
@@ -56,12 +56,12 @@ run-longer array units n now in_array in_units is =
     (rw (append_assoc (take n units) (get_or units n 0 ∷ []) (drop (n + 1) array)) (set_at (take n units) _ _ _ n (length-take-le n units (omega arith))))
 
 -- a run at the start of an array is the text of its bytes
-pub run-lies : {array_size : ℕ} (array units : List ℕ) (n : ℕ) {after : List ℕ} → length array ≡ array_size → n ≤ cap array_size → n ≤ length units
-    → AreAscii units n → after ≡ take n units ++ drop n array → Lies array_size after 0 n (take n units)
-run-lies array units n {after} long room within ascii is =
+pub run-stored : {array_size : ℕ} (array units : List ℕ) (n : ℕ) {after : List ℕ} → length array ≡ array_size → n ≤ cap array_size → n ≤ length units
+    → AreAscii units n → after ≡ take n units ++ drop n array → StoredAt array_size after 0 n (take n units)
+run-stored array units n {after} long room within ascii is =
     let run : length (take n units) ≡ n = length-take-le n units within in
     let whole : length after ≡ length array = omega (arith, simp length-append at (ap length is), length-drop n array) in
-    laid after 0 n (run-utf8 n units ascii) (run-chars n units ascii) (whole ∙ long) (omega arith)
+    stored-from-utf8 after 0 n (run-utf8 n units ascii) (run-chars n units ascii) (whole ∙ long) (omega arith)
     (ap (take n) is ∙ take_at (take n units) (drop n array) n run)
 
 -- so the only reading is that of the run, and then what the units behind it give

@@ -29,11 +29,13 @@ one-byte a low = of_one (a ∷ []) 0 (omega arith) (omega arith)
 pub two-bytes : (a b : ℕ) → 0xC2 ≤ a → a ≤ 0xDF → (0x80 ≤ b) × (b ≤ 0xBF) → IsUtf8 (a ∷ b ∷ [])
 two-bytes a b least most second = of_two (a ∷ b ∷ []) 0 (omega arith) (omega arith) (omega arith)
 
+-- the number is at least 800, since behind E0 the second byte is at least A0, and no surrogate, since behind ED it is at most 9F
 pub three-bytes : (a b c : ℕ) → 0xE0 ≤ a → a ≤ 0xEF → (0x80 ≤ b) × (b ≤ 0xBF) → (a ≡ 0xE0 → 0xA0 ≤ b) → (a ≡ 0xED → b ≤ 0x9F)
     → (0x80 ≤ c) × (c ≤ 0xBF) → IsUtf8 (a ∷ b ∷ c ∷ [])
 three-bytes a b c least most second long low third =
     of_three (a ∷ b ∷ c ∷ []) 0 (omega arith) (omega arith) (omega arith) (omega arith) (grind arith) (grind arith)
 
+-- the number is at least 1_0000, since behind F0 the second byte is at least 90, and below 11_0000: behind F4 it is at most 8F
 pub four-bytes : (a b c d : ℕ) → 0xF0 ≤ a → a ≤ 0xF4 → (0x80 ≤ b) × (b ≤ 0xBF) → (a ≡ 0xF0 → 0x90 ≤ b) → (a ≡ 0xF4 → b ≤ 0x8F)
     → (0x80 ≤ c) × (c ≤ 0xBF) → (0x80 ≤ d) × (d ≤ 0xBF) → IsUtf8 (a ∷ b ∷ c ∷ d ∷ [])
 four-bytes a b c d least most second long low third fourth =

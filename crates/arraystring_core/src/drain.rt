@@ -50,7 +50,12 @@ impl<const N: usize> Model for Drain<N> {
     ghost invariant = { λ d. IsDrained N d.array d.start d.size d.front };
 
     ghost inverse = { λ v. let removed = removed_of v in
-        record { front = text_size v.yielded; start = start_of removed; size = text_size removed.text; array = array_of removed } };
+        record {
+          front = text_size v.yielded;
+          start = start_of removed;
+          size = text_size removed.text;
+          array = array_of removed;
+        } };
 
     ghost inverse_ok = { λ d h i. record {
       front = drained-front h i;

@@ -44,7 +44,8 @@ pub fn text_spelled<const N: usize>(string: &ArrayString<N>)
 #[tactic(auto, using(crate::proofs::TakenLaws::drain_gives))]
 #[inline]
 pub fn left_given<const N: usize>(drained: &Drain<N>)
-    ensures { (it : Drained) → it.left ≡ drained.now.left → AlwaysYields (YieldsFirst (λ d. d.left)) (λ c. c) it drained.now.left }
+    ensures { (it : Drained) → it.left ≡ drained.now.left
+        → AlwaysYields (YieldsFirst (λ d. d.left)) (λ c. c) it drained.now.left }
 {}
 
 /// What is left of a drain fits the capacity of the string from which it was taken.
@@ -60,7 +61,8 @@ pub fn left_fits<const N: usize>(drained: &Drain<N>)
 #[tactic(auto, using(crate::proofs::TakenLaws::past_the_room))]
 pub fn what_comes_past_the_room()
     ensures characters { (taken more : List ℕ) (n : ℕ) → n < size taken → cut (taken ++ more) n ≡ cut taken n }
-    ensures pieces { (taken more : List (List ℕ)) (n : ℕ) → n < size (joined taken) → cut (joined (taken ++ more)) n ≡ cut (joined taken) n }
+    ensures pieces { (taken more : List (List ℕ)) (n : ℕ)
+        → n < size (joined taken) → cut (joined (taken ++ more)) n ≡ cut (joined taken) n }
 {}
 
 /// If the bytes of `whole` are the bytes of the pieces, one after the other, then `whole` is the
@@ -69,23 +71,30 @@ pub fn what_comes_past_the_room()
 #[tactic(auto, using(crate::proofs::TakenLaws::bytes_joined))]
 pub fn pieces_make_one_text(whole: &str)
     ensures text { (pieces : List (List ℕ)) → whole.now ≡ joined (map bytes pieces) → chars whole.now ≡ joined pieces }
-    ensures cut { (pieces : List (List ℕ)) (n : ℕ) → whole.now ≡ joined (map bytes pieces) → cut (joined pieces) n ≡ cut (chars whole.now) n }
+    ensures cut { (pieces : List (List ℕ)) (n : ℕ)
+        → whole.now ≡ joined (map bytes pieces) → cut (joined pieces) n ≡ cut (chars whole.now) n }
 {}
 
 /// The UTF-16 of a text that fits is read back as that text by `try_from_utf16`, `from_utf16` and
 /// `from_utf16_lossy`: no other result meets their contracts.
 pub fn units_read_back()
     ensures reading { (t : List ℕ) → IsText t → (items : List Unit16) × IsReading (text_units t) items }
-    ensures whole { (t : List ℕ) (n : ℕ) (items : List Unit16) (result : Result Stored Error) → IsText t → size t ≤ n → IsReading (text_units t) items → GivesWhole (first_stop items n) result → IsOkAnd result (λ string. string.text ≡ t) }
-    ensures prefix { (t : List ℕ) (n : ℕ) (items : List Unit16) (result : Result Stored Utf16) → IsText t → size t ≤ n → IsReading (text_units t) items → GivesPrefix (first_stop items n) result → IsOkAnd result (λ string. string.text ≡ t) }
-    ensures lossy { (t : List ℕ) (n : ℕ) (items : List Unit16) → IsText t → size t ≤ n → IsReading (text_units t) items → cut (lossy_text items) n ≡ t }
+    ensures whole { (t : List ℕ) (n : ℕ) (items : List Unit16) (result : Result Stored Error)
+        → IsText t → size t ≤ n → IsReading (text_units t) items
+        → GivesWhole (first_stop items n) result → IsOkAnd result (λ string. string.text ≡ t) }
+    ensures prefix { (t : List ℕ) (n : ℕ) (items : List Unit16) (result : Result Stored Utf16)
+        → IsText t → size t ≤ n → IsReading (text_units t) items
+        → GivesPrefix (first_stop items n) result → IsOkAnd result (λ string. string.text ≡ t) }
+    ensures lossy { (t : List ℕ) (n : ℕ) (items : List Unit16)
+        → IsText t → size t ≤ n → IsReading (text_units t) items → cut (lossy_text items) n ≡ t }
 {}
 
 /// The text before a pop is what the pop leaves, followed by the character that it returns. If the
 /// text is empty, a pop returns `None`, and the text stays empty.
 #[tactic(auto, using(crate::proofs::EditLaws::popped))]
 pub fn popped()
-    ensures last { (front : List ℕ) (ch : ℕ) → ((popping (front ++ ch ∷ [])).result ≡ Some ch) × ((popping (front ++ ch ∷ [])).after ≡ front) }
+    ensures last { (front : List ℕ) (ch : ℕ)
+        → ((popping (front ++ ch ∷ [])).result ≡ Some ch) × ((popping (front ++ ch ∷ [])).after ≡ front) }
     ensures empty { ((popping []).result ≡ None) × ((popping []).after ≡ []) }
 {}
 
@@ -93,8 +102,13 @@ pub fn popped()
 /// characters that pass, then what the trim leaves, then some characters that pass. What it leaves
 /// neither begins nor ends with a character that passes.
 pub fn trimmed()
-    ensures dropped { (passes : ℕ → Bool) (t : List ℕ) → (before behind : List ℕ) × All (λ c. IsTrue (passes c)) before × All (λ c. IsTrue (passes c)) behind × (t ≡ before ++ ((trimming passes t).after ++ behind)) }
-    ensures bare { (passes : ℕ → Bool) (t : List ℕ) → IfSome (first_of (trimming passes t).after) (λ c. passes c ≡ false) × IfSome (last_of (trimming passes t).after) (λ c. passes c ≡ false) }
+    ensures dropped { (passes : ℕ → Bool) (t : List ℕ)
+        → (before behind : List ℕ)
+        × All (λ c. IsTrue (passes c)) before × All (λ c. IsTrue (passes c)) behind
+        × (t ≡ before ++ ((trimming passes t).after ++ behind)) }
+    ensures bare { (passes : ℕ → Bool) (t : List ℕ)
+        → IfSome (first_of (trimming passes t).after) (λ c. passes c ≡ false)
+        × IfSome (last_of (trimming passes t).after) (λ c. passes c ≡ false) }
 {}
 
 /// The ranges of white space are those of `char::is_whitespace`.
@@ -116,7 +130,8 @@ pub fn split_back()
 pub fn replaced_back()
     ensures allowed { (t given : List ℕ) (start end n : ℕ) → size t ≤ n →
         first_cause (replacement t start end given n).tests ≡ None →
-        first_cause (replacement (replacement t start end given n).after start (start + size given) (part t start end) n).tests ≡ None }
+        first_cause (replacement (replacement t start end given n).after
+        start (start + size given) (part t start end) n).tests ≡ None }
     ensures back { (t given : List ℕ) (start end n : ℕ) → first_cause (replacement t start end given n).tests ≡ None →
         (replacement (replacement t start end given n).after start (start + size given) (part t start end) n).after ≡ t }
 {}
@@ -126,7 +141,8 @@ pub fn replaced_back()
 /// While a character is left, each step takes one. So after as many steps as there are characters
 /// nothing is left, and a step then gives nothing.
 pub fn walks()
-    ensures whole { (ends : List End) (t : List ℕ) → (walked ends t).fronts ++ ((walked ends t).left ++ reverse (walked ends t).backs) ≡ t }
+    ensures whole { (ends : List End) (t : List ℕ)
+        → (walked ends t).fronts ++ ((walked ends t).left ++ reverse (walked ends t).backs) ≡ t }
     ensures each { (ends : List End) (t : List ℕ) → length (walked ends t).left ≡ length t - length ends }
     ensures all { (ends : List End) (t : List ℕ) → length t ≤ length ends → (walked ends t).left ≡ [] }
     ensures ended { (ends : List End) → walked ends [] ≡ walked [] [] }
@@ -138,7 +154,8 @@ pub fn equal_texts()
     ensures same { (a b : List ℕ) → IsTrue (pointwise nat_eq a b) ↔ (a ≡ b) }
     ensures reflexive { (a : List ℕ) → IsTrue (pointwise nat_eq a a) }
     ensures symmetric { (a b : List ℕ) → IsTrue (pointwise nat_eq a b) → IsTrue (pointwise nat_eq b a) }
-    ensures transitive { (a b c : List ℕ) → IsTrue (pointwise nat_eq a b) → IsTrue (pointwise nat_eq b c) → IsTrue (pointwise nat_eq a c) }
+    ensures transitive { (a b c : List ℕ)
+        → IsTrue (pointwise nat_eq a b) → IsTrue (pointwise nat_eq b c) → IsTrue (pointwise nat_eq a c) }
     ensures hashed { (a b : List ℕ) → IsTrue (pointwise nat_eq a b) → fed.str (bytes a) ≡ fed.str (bytes b) }
 {}
 

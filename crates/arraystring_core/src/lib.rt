@@ -4,8 +4,8 @@
 #![tactic(auto)]
 
 pub mod array_string;
+mod blockwise;
 pub mod drain;
-mod fast;
 pub mod integration;
 pub mod laws;
 mod range_ends;

@@ -8,7 +8,8 @@ use std::ops::{Bound, RangeBounds};
 
 /// The ends in a text of `len` bytes. An excluded start and an included end add 1, and stop at 255.
 pub(crate) fn saturating_ends<R: RangeBounds<u8> + Drop>(range: R, len: u8) -> (u8, u8)
-    ensures { OfReturnedBounds R.has_bounds R.start_bound R.end_bound range (λ start end. (result.0 ≡ saturated_start start) × (result.1 ≡ saturated_end end len)) }
+    ensures { OfReturnedBounds R.has_bounds R.start_bound R.end_bound range (λ start end.
+        (result.0 ≡ saturated_start start) × (result.1 ≡ saturated_end end len)) }
 {
     let start = match range.start_bound() {
         Bound::Included(a) => *a,
@@ -25,7 +26,8 @@ pub(crate) fn saturating_ends<R: RangeBounds<u8> + Drop>(range: R, len: u8) -> (
 
 /// The ends in a text of `len` bytes, as plain numbers.
 pub(crate) fn plain_ends<R: RangeBounds<u8> + Drop>(range: R, len: u8) -> (usize, usize)
-    ensures { OfReturnedBounds R.has_bounds R.start_bound R.end_bound range (λ start end. (result.0 ≡ start_index start) × (result.1 ≡ end_index end len)) }
+    ensures { OfReturnedBounds R.has_bounds R.start_bound R.end_bound range (λ start end.
+        (result.0 ≡ start_index start) × (result.1 ≡ end_index end len)) }
 {
     let start = match range.start_bound() {
         Bound::Included(a) => *a as usize,

@@ -22,31 +22,31 @@ pub(crate) fn execute<const N: usize>(
 {
     match command {
         Command::PushStr(given) => push_cut(text, given),
-        Command::Pop => untight_reply(reply_to_pop(text.pop())),
+        Command::Pop => not_tight(reply_to_pop(text.pop())),
         Command::Trim => {
             text.trim();
-            untight_reply(Reply::Done)
+            not_tight(Reply::Done)
         }
         Command::RetainNot(unwanted) => {
             retain_not(text, unwanted);
-            untight_reply(Reply::Done)
+            not_tight(Reply::Done)
         }
         Command::Clear => {
             text.clear();
-            untight_reply(Reply::Done)
+            not_tight(Reply::Done)
         }
         Command::Upper => {
             text.make_ascii_uppercase();
-            untight_reply(Reply::Done)
+            not_tight(Reply::Done)
         }
         Command::Lower => {
             text.make_ascii_lowercase();
-            untight_reply(Reply::Done)
+            not_tight(Reply::Done)
         }
-        Command::Get { start, end } => untight_reply(reply_to_get(text, start, end)),
-        Command::Len => untight_reply(Reply::Number(text.len())),
-        Command::Capacity => untight_reply(Reply::Number(ArrayString::<N>::capacity())),
-        Command::AsStr => untight_reply(Reply::Text(*text)),
+        Command::Get { start, end } => not_tight(reply_to_get(text, start, end)),
+        Command::Len => not_tight(Reply::Number(text.len())),
+        Command::Capacity => not_tight(Reply::Number(ArrayString::<N>::capacity())),
+        Command::AsStr => not_tight(Reply::Text(*text)),
         _ => execute_refusable(text, command),
     }
 }
@@ -64,26 +64,24 @@ fn execute_refusable<const N: usize>(
     match command {
         Command::TryPush(ch) => reply_to_addition(text.try_push(ch)),
         Command::TryPushStr(given) => reply_to_addition(text.try_push_str(given)),
-        Command::Truncate(size) => untight_reply(reply_to_truncate(text.truncate(size))),
-        Command::Remove(index) => untight_reply(reply_to_remove(text.remove(index))),
+        Command::Truncate(size) => not_tight(reply_to_truncate(text.truncate(size))),
+        Command::Remove(index) => not_tight(reply_to_remove(text.remove(index))),
         Command::TryInsert(index, ch) => insert_char(text, index, ch),
         Command::TryInsertStr(index, given) => insert_all(text, index, given),
         Command::InsertStr(index, given) => insert_cut(text, index, given),
-        Command::SplitOff(at) => untight_reply(reply_to_split_off(text.split_off(at))),
-        Command::Drain { start, end } => untight_reply(reply_to_drain(text.drain(start..end))),
-        Command::DrainThrough { start, last } => untight_reply(reply_to_drain(text.drain(
+        Command::SplitOff(at) => not_tight(reply_to_split_off(text.split_off(at))),
+        Command::Drain { start, end } => not_tight(reply_to_drain(text.drain(start..end))),
+        Command::DrainThrough { start, last } => not_tight(reply_to_drain(text.drain(
             start..=last,
         ))),
-        Command::DrainBack { start, end } => untight_reply(reply_to_drain_back(text.drain(
-            start..end,
-        ))),
+        Command::DrainBack { start, end } => not_tight(reply_to_drain_back(text.drain(start..end))),
         Command::ReplaceRange { start, end, given } => replace(text, start, end, given),
         _ => unreachable!(),
     }
 }
 
 /// The reply to a command that is not tight.
-fn untight_reply<const N: usize>(reply: Reply<N>) -> (Reply<N>, bool)
+fn not_tight<const N: usize>(reply: Reply<N>) -> (Reply<N>, bool)
     ensures reply { result.0 ≡ reply.entry }
     ensures tight { result.1 ≡ false }
 {
@@ -97,7 +95,7 @@ fn reply_to_addition<const N: usize>(outcome: Result<(), OutOfBounds>) -> (Reply
     ensures tight { result.1 ≡ is_err outcome }
 {
     match outcome {
-        Ok(()) => untight_reply(Reply::Done),
+        Ok(()) => not_tight(Reply::Done),
         Err(OutOfBounds) => (Reply::Refused(Error::OutOfBounds), true),
     }
 }
@@ -196,7 +194,7 @@ fn insert_cut<const N: usize>(text: &mut ArrayString<N>, index: u8, given: &str)
     let is_less = adds_less(text, given);
     match text.insert_str(index, given) {
         Ok(()) => (Reply::Done, is_less),
-        Err(error) => untight_reply(Reply::Refused(error)),
+        Err(error) => not_tight(Reply::Refused(error)),
     }
 }
 
@@ -224,9 +222,9 @@ fn reply_to_insert<const N: usize>(outcome: Result<(), Error>, is_within: bool) 
     ensures tight { result.1 ≡ (is_within && is_out_of_bounds outcome) }
 {
     match outcome {
-        Ok(()) => untight_reply(Reply::Done),
+        Ok(()) => not_tight(Reply::Done),
         Err(Error::OutOfBounds) => (Reply::Refused(Error::OutOfBounds), is_within),
-        Err(error) => untight_reply(Reply::Refused(error)),
+        Err(error) => not_tight(Reply::Refused(error)),
     }
 }
 

@@ -26,13 +26,13 @@ fn filling_script(rt: &(impl Abort + AllocGlobal)) -> String {
 /// What is printed of that script if `fit` bytes fit.
 fn filling_printed(rt: &(impl Abort + AllocGlobal), fit: u8) -> String {
     let kept = filled(rt, fit);
-    let (taken, put) = if fit == 0 {
+    let (popped, pushed) = if fit == 0 {
         ("no char", "refused OutOfBounds")
     } else {
         ("char a", "done")
     };
     format!(in rt.alloc();
-        "number {fit}\ndone\nnumber {fit}\nrefused OutOfBounds\n{taken}\nrefused OutOfBounds\n{put}\ntext {kept}\nfinal {kept}\n"
+        "number {fit}\ndone\nnumber {fit}\nrefused OutOfBounds\n{popped}\nrefused OutOfBounds\n{pushed}\ntext {kept}\nfinal {kept}\n"
     ).expect(rt, "memory for an output")
 }
 

@@ -299,11 +299,11 @@ fn want_of_memory_leaves_the_text(rt: HostRuntime) -> Result<(), Fail> {
         return Ok(());
     };
     let mut refused = 0u32;
-    let mut made = 0usize;
+    let mut replies = 0usize;
     for _ in 0..TIMES {
         scarce.leave_more(rt.alloc())?;
         if let Ok(outcome) = run(rt.alloc(), &mut text, &commands) {
-            made = outcome.replies.len();
+            replies = outcome.replies.len();
             break;
         }
         refused = refused.saturating_add(1);
@@ -311,7 +311,7 @@ fn want_of_memory_leaves_the_text(rt: HostRuntime) -> Result<(), Fail> {
     }
     drop(scarce);
     assert!(rt; refused >= 1);
-    assert_eq!(rt; made, 100);
+    assert_eq!(rt; replies, 100);
     assert_eq!(rt; text.as_str(), "abccccccccccccccccccccc");
     Ok(())
 }
@@ -331,7 +331,7 @@ fn want_of_memory_leaves_both_texts(rt: HostRuntime) -> Result<(), Fail> {
     let mut refused = 0u32;
     let mut refused_first = 0u32;
     let mut refused_second = 0u32;
-    let mut made = 0usize;
+    let mut replies = 0usize;
     for _ in 0..TIMES {
         scarce.leave_more(rt.alloc())?;
         if run(rt.alloc(), &mut alone, &commands).is_err() {
@@ -341,7 +341,7 @@ fn want_of_memory_leaves_both_texts(rt: HostRuntime) -> Result<(), Fail> {
             refused_second = refused_second.saturating_add(1);
         }
         if let Ok(outcomes) = run_both(rt.alloc(), &mut first, &mut second, &commands) {
-            made = outcomes.1.replies.len();
+            replies = outcomes.1.replies.len();
             break;
         }
         refused = refused.saturating_add(1);
@@ -349,7 +349,7 @@ fn want_of_memory_leaves_both_texts(rt: HostRuntime) -> Result<(), Fail> {
     }
     drop(scarce);
     assert!(rt; 1 <= refused_second && refused_second < refused_first && refused_first < refused);
-    assert_eq!(rt; made, 300);
+    assert_eq!(rt; replies, 300);
     assert_eq!(rt; (first.len(), second.as_str()), (23, "abcc"));
     Ok(())
 }

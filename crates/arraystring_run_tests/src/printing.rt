@@ -5,7 +5,7 @@ use arraystring::error::Error;
 use arraystring_run::{PlayFault, Reply};
 use std::fmt::Debug;
 use std::process::Abort;
-use test_support::printing::{Alone, first_printed_apart};
+use test_support::printing::{Alone, first_debug_difference};
 
 /// Types whose derived forms are those of replies and faults.
 mod derived {
@@ -39,7 +39,7 @@ mod derived {
 
 /// Asserts that one value is printed for debugging as the other, in each form, at each width.
 fn debugs_as<T: Debug, W: Debug>(rt: &(impl Abort + AllocGlobal), value: &T, wanted: &W) {
-    let apart = first_printed_apart(rt.alloc(), value, wanted);
+    let apart = first_debug_difference(rt.alloc(), value, wanted);
     let apart = apart.expect(rt, "memory for what is printed");
     agree(rt, "each form", apart, None);
 }

@@ -5,7 +5,7 @@ use bounded_records::Directory;
 use std::collections::BTreeSet;
 use std::fmt::Debug;
 use std::process::Abort;
-use test_support::printing::first_printed_apart;
+use test_support::printing::first_debug_difference;
 
 /// Types whose derived forms are those of a user.
 mod derived {
@@ -48,7 +48,7 @@ fn user_form<'a>(texts: &(&'a str, &'a str)) -> derived::User<'a> {
 
 /// Asserts that one value is printed for debugging as the other, in each form, at each width.
 fn debugs_as<T: Debug, W: Debug>(rt: &(impl Abort + AllocGlobal), value: &T, wanted: &W) {
-    let apart = first_printed_apart(rt.alloc(), value, wanted);
+    let apart = first_debug_difference(rt.alloc(), value, wanted);
     let apart = apart.expect(rt, "memory for what is printed");
     agree(rt, apart, None);
 }

@@ -32,7 +32,7 @@ pub(crate) fn forms<T: Debug>(
 /// # Errors
 ///
 /// Returns `Err(AllocError)` if there is no memory for what is printed.
-pub fn first_printed_apart<T: Debug, W: Debug>(
+pub fn first_debug_difference<T: Debug, W: Debug>(
     alloc: Global,
     value: &T,
     other: &W,

@@ -2,7 +2,7 @@
 //! that all memory is taken but for what is left.
 use crate::equality::first_mistaken;
 use crate::memory::ScarceMemory;
-use crate::printing::{Alone, first_printed_apart, forms};
+use crate::printing::{Alone, first_debug_difference, forms};
 use crate::table::{LETTERS, column, rows};
 use std::fmt;
 use std::fmt::{Alignment, Debug, Write};
@@ -63,14 +63,14 @@ impl Debug for At {
 fn two_values_that_are_printed_differently_at_a_width(rt: HostRuntime) -> Result<(), Fail> {
     let alloc = rt.alloc();
     for at in 1..40usize {
-        let apart = first_printed_apart(alloc, &At(at), &Alone("a"))?;
+        let apart = first_debug_difference(alloc, &At(at), &Alone("a"))?;
         assert_eq!(rt; apart.is_some(), at < 30);
         if let Some((printed, other)) = apart {
             assert_eq!(rt; printed, forms(alloc, &At(at), at)?);
             assert_eq!(rt; other, forms(alloc, &Alone("a"), at)?);
         }
         assert_eq!(rt;
-            first_printed_apart(alloc, &At(at), &At(at))?.is_some(),
+            first_debug_difference(alloc, &At(at), &At(at))?.is_some(),
             false
         );
     }

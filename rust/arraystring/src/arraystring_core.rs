@@ -4,8 +4,8 @@
 //! its paths. Its tests are in `crates/arraystring_tests`.
 
 pub mod array_string;
+mod blockwise;
 pub mod drain;
-mod fast;
 mod range_ends;
 pub mod utils;
 

@@ -399,7 +399,7 @@ fn equal_by_blocks() -> bool {
 }
 ";
     let wanted = "\
-// Made from crates/arraystring_core/src/fast/equal.rt by rust/erase. The proof is there. A change goes there.
+// Made from crates/arraystring_core/src/blockwise/equal.rt by rust/erase. The proof is there. A change goes there.
 //! Whether two texts are equal, which std tells here.
 
 /// Whether the texts of two strings are equal.
@@ -420,8 +420,8 @@ pub(crate) fn equal(text: &str, other: &str) -> bool {
     text == other
 }
 ";
-    assert_eq!(made_as("arraystring_core/src/fast/equal.rt", text).unwrap(), wanted);
-    let without = made_as("arraystring_core/src/fast/equal.rt", "fn other() {\n    x\n}\n").unwrap_err();
+    assert_eq!(made_as("arraystring_core/src/blockwise/equal.rt", text).unwrap(), wanted);
+    let without = made_as("arraystring_core/src/blockwise/equal.rt", "fn other() {\n    x\n}\n").unwrap_err();
     assert_eq!(without, "the function `equal` with its contract is not there");
 }
 

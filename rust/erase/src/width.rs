@@ -31,7 +31,7 @@ pub const BOUNDED: &[Bounded] = &[
         why: "`u32`s, and together a scalar value, which is below 2^21",
     },
     Bounded {
-        file: "arraystring_core/fast/well_formed.rs",
+        file: "arraystring_core/blockwise/well_formed.rs",
         function: "read_utf8",
         count: 1,
         why: "at most the size of the slice, of which it is a quotient times the divisor",

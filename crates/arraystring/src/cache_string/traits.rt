@@ -165,7 +165,10 @@ impl Ord for CacheString {
     fn cmp(&self, other: &Self) -> Ordering
         ensures order { result ≡ slice_cmp nat_cmp self.now.0.text other.now.0.text }
         ensures of_bytes { result ≡ slice_cmp nat_cmp (bytes self.now.0.text) (bytes other.now.0.text) }
-        ensures says { MatchOrdering result (IsBefore self.now.0.text other.now.0.text) (self.now.0.text ≡ other.now.0.text) (IsBefore other.now.0.text self.now.0.text) }
+        ensures says { MatchOrdering result
+            (IsBefore self.now.0.text other.now.0.text)
+            (self.now.0.text ≡ other.now.0.text)
+            (IsBefore other.now.0.text self.now.0.text) }
     {
         self.0.cmp(&other.0)
     }
@@ -229,7 +232,8 @@ impl fmt::Write for CacheString {
     /// `write!` of several pieces keeps those before the one that is refused.
     fn write_str(&mut self, string: &str) -> fmt::Result
         ensures ok { IsOk result → bytes self.new.0.text ≡ bytes self.old.0.text ++ string.now }
-        ensures made { Makes (addition self.old.0.text (chars string.now) 63) self.old.0.text (from_out_of_bounds result) self.new.0.text }
+        ensures made { Makes (addition self.old.0.text (chars string.now) 63)
+            self.old.0.text (from_out_of_bounds result) self.new.0.text }
     {
         self.0.write_str(string)
     }

@@ -61,7 +61,9 @@ impl<const N: usize> ArrayString<N> {
         requires order { start_index (R.start_bound range) ≤ end_index (R.end_bound range) (size self.old.text) }
         requires start { IsTrue (boundary self.old.text (start_index (R.start_bound range))) }
         requires end { IsTrue (boundary self.old.text (end_index (R.end_bound range) (size self.old.text))) }
-        ensures { let t = self.old.text in let start = start_index (R.start_bound range) in let end = end_index (R.end_bound range) (size t) in
+        ensures { let t = self.old.text in
+            let start = start_index (R.start_bound range) in
+            let end = end_index (R.end_bound range) (size t) in
             self.new.text ≡ front t start ++ (map to_ascii_uppercase (part t start end) ++ back t end) }
     {
         let (start, end) = plain_ends(range, self.len());
@@ -89,7 +91,9 @@ impl<const N: usize> ArrayString<N> {
         requires order { start_index (R.start_bound range) ≤ end_index (R.end_bound range) (size self.old.text) }
         requires start { IsTrue (boundary self.old.text (start_index (R.start_bound range))) }
         requires end { IsTrue (boundary self.old.text (end_index (R.end_bound range) (size self.old.text))) }
-        ensures { let t = self.old.text in let start = start_index (R.start_bound range) in let end = end_index (R.end_bound range) (size t) in
+        ensures { let t = self.old.text in
+            let start = start_index (R.start_bound range) in
+            let end = end_index (R.end_bound range) (size t) in
             self.new.text ≡ front t start ++ (map to_ascii_lowercase (part t start end) ++ back t end) }
     {
         let (start, end) = plain_ends(range, self.len());
@@ -101,7 +105,8 @@ impl<const N: usize> ArrayString<N> {
         requires order { start ≤ end }
         requires start { IsTrue (boundary self.old.text start) }
         requires end { IsTrue (boundary self.old.text end) }
-        ensures { self.new.text ≡ front self.old.text start ++ (map to_ascii_uppercase (part self.old.text start end) ++ back self.old.text end) }
+        ensures { self.new.text ≡ front self.old.text start
+            ++ (map to_ascii_uppercase (part self.old.text start end) ++ back self.old.text end) }
     {
         let offset = self.start as usize;
         uppercase_bytes(&mut self.array, offset + start, offset + end);
@@ -112,7 +117,8 @@ impl<const N: usize> ArrayString<N> {
         requires order { start ≤ end }
         requires start { IsTrue (boundary self.old.text start) }
         requires end { IsTrue (boundary self.old.text end) }
-        ensures { self.new.text ≡ front self.old.text start ++ (map to_ascii_lowercase (part self.old.text start end) ++ back self.old.text end) }
+        ensures { self.new.text ≡ front self.old.text start
+            ++ (map to_ascii_lowercase (part self.old.text start end) ++ back self.old.text end) }
     {
         let offset = self.start as usize;
         lowercase_bytes(&mut self.array, offset + start, offset + end);
@@ -123,7 +129,8 @@ impl<const N: usize> ArrayString<N> {
 fn uppercase_bytes<const N: usize>(array: &mut [u8; N], start: usize, end: usize)
     requires order { start ≤ end }
     requires within { end ≤ N }
-    ensures { array.new ≡ take start array.old ++ (map to_ascii_uppercase (take (end - start) (drop start array.old)) ++ drop end array.old) }
+    ensures { array.new ≡ take start array.old
+        ++ (map to_ascii_uppercase (take (end - start) (drop start array.old)) ++ drop end array.old) }
 {
     let all = &mut array[..];
     all[start..end].make_ascii_uppercase();
@@ -133,7 +140,8 @@ fn uppercase_bytes<const N: usize>(array: &mut [u8; N], start: usize, end: usize
 fn lowercase_bytes<const N: usize>(array: &mut [u8; N], start: usize, end: usize)
     requires order { start ≤ end }
     requires within { end ≤ N }
-    ensures { array.new ≡ take start array.old ++ (map to_ascii_lowercase (take (end - start) (drop start array.old)) ++ drop end array.old) }
+    ensures { array.new ≡ take start array.old
+        ++ (map to_ascii_lowercase (take (end - start) (drop start array.old)) ++ drop end array.old) }
 {
     let all = &mut array[..];
     all[start..end].make_ascii_lowercase();

@@ -39,7 +39,7 @@ impl<const N: usize> ArrayString<N> {
             result.now ≡ bytes (part t (start_index (R.start_bound range)) (end_index (R.end_bound range) (size t))) }
     {
         let (start, end) = plain_ends(range, self.len());
-        self.between(start, end)
+        self.slice_unchecked(start, end)
     }
 
     /// Returns the part of the text in the range, borrowed without a copy. Returns `None` if the
@@ -63,11 +63,11 @@ impl<const N: usize> ArrayString<N> {
         if start > end || !self.is_boundary(start) || !self.is_boundary(end) {
             return None;
         }
-        Some(self.between(start, end))
+        Some(self.slice_unchecked(start, end))
     }
 
-    /// The part between two boundaries.
-    fn between(&self, start: usize, end: usize) -> &str
+    /// The part between two boundaries, which are not tested here.
+    fn slice_unchecked(&self, start: usize, end: usize) -> &str
         requires order { start ≤ end }
         requires start { IsTrue (boundary self.now.text start) }
         requires end { IsTrue (boundary self.now.text end) }

@@ -9,7 +9,7 @@ ghost use Rattle.arraystring_core.specs.Taken.{Takes, Gives, joined, joined_piec
 
 use crate::ArrayString;
 use crate::array_string::fill::try_fill;
-use crate::fast::well_formed::read_utf8;
+use crate::blockwise::well_formed::read_utf8;
 use arraystring_base::error::{Error, OutOfBounds, Utf8};
 use arraystring_base::utils::truncate_str;
 use std::str;
@@ -80,7 +80,8 @@ impl<const N: usize> ArrayString<N> {
         pieces: I,
     ) -> Result<Self, OutOfBounds>
         requires { IsFiniteIterable I.into_iter_gives I.IntoIter.can_next I.IntoIter.remaining pieces }
-        ensures taken { (taken : List (Bor (List ℕ))) × Takes I.into_iter_gives I.IntoIter.next_gives joined_pieces pieces (cap N) taken
+        ensures taken { (taken : List (Bor (List ℕ)))
+            × Takes I.into_iter_gives I.IntoIter.next_gives joined_pieces pieces (cap N) taken
             × IsWholeOrRefused (joined_pieces taken) (cap N) (from_out_of_bounds result) }
         ensures whole { (all : List (List ℕ)) → Gives I.into_iter_gives I.IntoIter.next_gives piece_text pieces all
             → IsWholeOrRefused (joined all) (cap N) (from_out_of_bounds result) }
@@ -106,7 +107,8 @@ impl<const N: usize> ArrayString<N> {
     /// ```
     pub fn from_iterator<'a, I: IntoIterator<Item = &'a str> + Drop>(pieces: I) -> Self
         requires { IsFiniteIterable I.into_iter_gives I.IntoIter.can_next I.IntoIter.remaining pieces }
-        ensures taken { (taken : List (Bor (List ℕ))) × Takes I.into_iter_gives I.IntoIter.next_gives joined_pieces pieces (cap N) taken
+        ensures taken { (taken : List (Bor (List ℕ)))
+            × Takes I.into_iter_gives I.IntoIter.next_gives joined_pieces pieces (cap N) taken
             × (result.text ≡ cut (joined_pieces taken) (cap N)) }
         ensures whole { (all : List (List ℕ)) → Gives I.into_iter_gives I.IntoIter.next_gives piece_text pieces all
             → result.text ≡ cut (joined all) (cap N) }

@@ -47,7 +47,8 @@ impl<const N: usize> ArrayString<N> {
         ensures edit { Makes (insertion self.old.text index (chars string.now) (cap N)) self.old.text result self.new.text }
         ensures refused { OnErr result (steps.new.moved ≡ steps.old.moved) }
         ensures most { steps.new.moved ≤ steps.old.moved + size self.old.text }
-        ensures least { OnOk result (chars string.now ≢ [] → steps.old.moved + min index (size self.old.text - index) ≤ steps.new.moved) }
+        ensures least { OnOk result (chars string.now ≢ []
+            → steps.old.moved + min index (size self.old.text - index) ≤ steps.new.moved) }
         ensures counted { steps.old.moved ≤ steps.new.moved }
         ensures looked { steps.new.looked ≡ steps.old.looked }
     {
@@ -145,7 +146,9 @@ impl<const N: usize> ArrayString<N> {
         // The edit, and then the moves: if the text does not grow, at most the bytes after the range; if its
         // size changes, at least the bytes before the range or those after it, whichever are fewer.
         ensures edit { OfReturnedBounds R.has_bounds R.start_bound R.end_bound range (λ start end.
-            let t = self.old.text in let from = saturated_start start in let to = saturated_end end (size t) in let given = chars with.now in
+            let t = self.old.text in
+            let from = saturated_start start in let to = saturated_end end (size t) in
+            let given = chars with.now in
             Makes (replacement t from to given (cap N)) t result self.new.text
             × (size given ≤ to - from → steps.new.moved ≤ steps.old.moved + (size t - to))
             × OnOk result (to ≢ from + size given → steps.old.moved + min from (size t - to) ≤ steps.new.moved)) }
@@ -183,7 +186,7 @@ impl<const N: usize> ArrayString<N> {
         ensures moved { steps.new.moved ≡ steps.old.moved }
     {
         let (start, ch) = last_char(self.as_str(), steps)?;
-        self.keep(start as u8);
+        self.set_len(start as u8);
         Some(ch)
     }
 
@@ -216,7 +219,8 @@ impl<const N: usize> ArrayString<N> {
         ensures refused { OnErr result (steps.new.moved ≡ steps.old.moved) }
         ensures free { index ≡ 0 → steps.new.moved ≡ steps.old.moved }
         ensures tail_alone { IfOk result (λ ch. steps.new.moved ≤ steps.old.moved + (size self.old.text - (index + width ch))) }
-        ensures least { IfOk result (λ ch. steps.old.moved + min index (size self.old.text - (index + width ch)) ≤ steps.new.moved) }
+        ensures least { IfOk result (λ ch.
+            steps.old.moved + min index (size self.old.text - (index + width ch)) ≤ steps.new.moved) }
         ensures counted { steps.old.moved ≤ steps.new.moved }
         ensures looked { steps.new.looked ≡ steps.old.looked }
     {
@@ -228,7 +232,7 @@ impl<const N: usize> ArrayString<N> {
             return Err(Error::Utf8);
         }
         let (ch, width) = self.char_at(start);
-        self.take_out(start, start + width, steps);
+        self.remove_range(start, start + width, steps);
         Ok(ch)
     }
 
@@ -255,8 +259,11 @@ impl<const N: usize> ArrayString<N> {
         requires moves { steps.old.moved ≤ 2 ^ 63 }
         ensures edit { Makes (trimming is_white_space self.old.text) self.old.text (Ok result) self.new.text }
         ensures moved { steps.new.moved ≡ steps.old.moved }
-        ensures looked { steps.new.looked ≤ steps.old.looked + 4 * (length self.old.text - length (without_trailing is_white_space self.old.text) + 1) }
-        ensures least { steps.old.looked + min (length self.old.text) (length self.old.text - length (without_trailing is_white_space self.old.text) + 1) ≤ steps.new.looked }
+        ensures looked { steps.new.looked
+            ≤ steps.old.looked + 4 * (length self.old.text - length (without_trailing is_white_space self.old.text) + 1) }
+        ensures least { steps.old.looked + min (length self.old.text)
+            (length self.old.text - length (without_trailing is_white_space self.old.text) + 1)
+            ≤ steps.new.looked }
         ensures counted { steps.old.looked ≤ steps.new.looked }
     {
         self.drop_trailing(is_white_space, steps);

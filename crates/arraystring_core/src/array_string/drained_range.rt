@@ -65,7 +65,7 @@ impl<const N: usize> ArrayString<N> {
         let (from, to) = saturating_ends(range, self.len());
         self.check_part(from, to)?;
         *removed = Drain::new(self.array, self.start + from, to - from);
-        self.take_out(from as usize, to as usize, steps);
+        self.remove_range(from as usize, to as usize, steps);
         Ok(*removed)
     }
 

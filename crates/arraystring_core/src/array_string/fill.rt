@@ -28,7 +28,8 @@ pub(super) fn try_fill<const N: usize>(array: &mut [u8; N], given: &[u8]) -> (bo
     ensures len { length array.new ≡ N }
     ensures refused { MatchBool result.0
         ((cap N < length given.now) × (result.1 ≡ 0) × (array.new ≡ array.old))
-        ((length given.now ≤ cap N) × (result.1 ≡ length given.now) × (array.new ≡ given.now ++ drop (length given.now) array.old)) }
+        ((length given.now ≤ cap N) × (result.1 ≡ length given.now)
+        × (array.new ≡ given.now ++ drop (length given.now) array.old)) }
 {
     if N <= 64 {
         return try_fill_small(array, given);
@@ -47,7 +48,8 @@ fn try_fill_small<const N: usize>(array: &mut [u8; N], given: &[u8]) -> (bool, u
     ensures len { length array.new ≡ N }
     ensures refused { MatchBool result.0
         ((cap N < length given.now) × (result.1 ≡ 0) × (array.new ≡ array.old))
-        ((length given.now ≤ cap N) × (result.1 ≡ length given.now) × (array.new ≡ given.now ++ drop (length given.now) array.old)) }
+        ((length given.now ≤ cap N) × (result.1 ≡ length given.now)
+        × (array.new ≡ given.now ++ drop (length given.now) array.old)) }
 {
     if given.len() > N {
         return (true, 0);

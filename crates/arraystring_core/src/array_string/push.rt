@@ -53,7 +53,8 @@ impl<const N: usize> ArrayString<N> {
     /// ```
     #[inline]
     pub fn try_push_str(&mut self, string: &str) -> Result<(), OutOfBounds>
-        ensures { Makes (addition self.old.text (chars string.now) (cap N)) self.old.text (from_out_of_bounds result) self.new.text }
+        ensures { Makes (addition self.old.text (chars string.now) (cap N))
+            self.old.text (from_out_of_bounds result) self.new.text }
     {
         let end = self.end();
         match Self::append_str_behind(&mut self.array, self.start, &mut self.size, end, string) {
@@ -94,7 +95,8 @@ impl<const N: usize> ArrayString<N> {
     /// ```
     pub fn extend_chars<I: IntoIterator<Item = char> + Drop>(&mut self, characters: I)
         requires { IsFiniteIterable I.into_iter_gives I.IntoIter.can_next I.IntoIter.remaining characters }
-        ensures taken { (taken : List ℕ) × Takes I.into_iter_gives I.IntoIter.next_gives (λ cs. cs) characters (cap N - size self.old.text) taken
+        ensures taken { (taken : List ℕ)
+            × Takes I.into_iter_gives I.IntoIter.next_gives (λ cs. cs) characters (cap N - size self.old.text) taken
             × Makes (addition_of_cut self.old.text taken (cap N)) self.old.text (Ok result) self.new.text }
         ensures whole { (all : List ℕ) → Gives I.into_iter_gives I.IntoIter.next_gives (λ c. c) characters all
             → Makes (addition_of_cut self.old.text all (cap N)) self.old.text (Ok result) self.new.text }
@@ -117,7 +119,8 @@ impl<const N: usize> ArrayString<N> {
     /// ```
     pub fn extend_strs<'a, I: IntoIterator<Item = &'a str> + Drop>(&mut self, pieces: I)
         requires { IsFiniteIterable I.into_iter_gives I.IntoIter.can_next I.IntoIter.remaining pieces }
-        ensures taken { (taken : List (Bor (List ℕ))) × Takes I.into_iter_gives I.IntoIter.next_gives joined_pieces pieces (cap N - size self.old.text) taken
+        ensures taken { (taken : List (Bor (List ℕ)))
+            × Takes I.into_iter_gives I.IntoIter.next_gives joined_pieces pieces (cap N - size self.old.text) taken
             × Makes (addition_of_cut self.old.text (joined_pieces taken) (cap N)) self.old.text (Ok result) self.new.text }
         ensures whole { (all : List (List ℕ)) → Gives I.into_iter_gives I.IntoIter.next_gives piece_text pieces all
             → Makes (addition_of_cut self.old.text (joined all) (cap N)) self.old.text (Ok result) self.new.text }

@@ -34,7 +34,7 @@ impl<const N: usize> ArrayString<N> {
         if !self.is_boundary(size as usize) {
             return Err(Utf8);
         }
-        self.keep(size);
+        self.set_len(size);
         Ok(())
     }
 
@@ -109,7 +109,7 @@ impl<const N: usize> ArrayString<N> {
             return Err(Error::Utf8);
         }
         let rest = Self::from_str_unchecked(&self.as_str()[at as usize..]);
-        self.keep(at);
+        self.set_len(at);
         Ok(rest)
     }
 
@@ -125,11 +125,11 @@ impl<const N: usize> ArrayString<N> {
     pub fn clear(&mut self)
         ensures { Makes clearing self.old.text (Ok result) self.new.text }
     {
-        self.keep(0);
+        self.set_len(0);
     }
 
-    /// Takes out the text between two boundaries, without a move if it begins at index 0.
-    pub(super) fn take_out(&mut self, start: usize, end: usize, steps: &mut Steps)
+    /// Removes the text between two boundaries, without a move if it begins at index 0.
+    pub(super) fn remove_range(&mut self, start: usize, end: usize, steps: &mut Steps)
         requires order { start ≤ end }
         requires start { IsTrue (boundary self.old.text start) }
         requires end { IsTrue (boundary self.old.text end) }
@@ -159,8 +159,8 @@ impl<const N: usize> ArrayString<N> {
         self.size = (self.size as usize - end) as u8;
     }
 
-    /// Keeps the part before a boundary.
-    pub(super) fn keep(&mut self, size: u8)
+    /// Shortens the text to the part before a boundary.
+    pub(super) fn set_len(&mut self, size: u8)
         requires { IsTrue (boundary self.old.text size) }
         ensures { self.new.text ≡ front self.old.text size }
     {

@@ -17,9 +17,11 @@ impl<const N: usize> ArrayString<N> {
         requires room { size self.old.text - (end - start) + size (chars given.now) ≤ cap N }
         requires countable { steps.old.moved ≤ 2 ^ 63 }
         ensures text { self.new.text ≡ front self.old.text start ++ (chars given.now ++ back self.old.text end) }
-        ensures tail_alone { size (chars given.now) ≤ end - start → steps.new.moved ≤ steps.old.moved + (size self.old.text - end) }
+        ensures tail_alone { size (chars given.now) ≤ end - start
+            → steps.new.moved ≤ steps.old.moved + (size self.old.text - end) }
         ensures most { steps.new.moved ≤ steps.old.moved + (start + (size self.old.text - end)) }
-        ensures least { end ≢ start + size (chars given.now) → steps.old.moved + min start (size self.old.text - end) ≤ steps.new.moved }
+        ensures least { end ≢ start + size (chars given.now)
+            → steps.old.moved + min start (size self.old.text - end) ≤ steps.new.moved }
         ensures counted { steps.old.moved ≤ steps.new.moved }
         ensures looked { steps.new.looked ≡ steps.old.looked }
     {
@@ -130,7 +132,8 @@ fn open_gap<const N: usize>(
     requires countable { steps.old.moved ≤ 2 ^ 63 }
     ensures len { length array.new ≡ N }
     ensures front { take start (drop text.offset array.new) ≡ take start (drop text.offset array.old) }
-    ensures tail { take (text.size - end) (drop (text.offset + (start + len)) array.new) ≡ take (text.size - end) (drop (text.offset + end) array.old) }
+    ensures tail { take (text.size - end) (drop (text.offset + (start + len)) array.new)
+        ≡ take (text.size - end) (drop (text.offset + end) array.old) }
     ensures most { steps.new.moved ≤ steps.old.moved + (text.size - end) }
     ensures least { end ≢ start + len → steps.old.moved + (text.size - end) ≤ steps.new.moved }
     ensures counted { steps.old.moved ≤ steps.new.moved }
@@ -164,7 +167,8 @@ fn compact_and_open_gap<const N: usize>(
     requires countable { steps.old.moved ≤ 2 ^ 63 }
     ensures len { length array.new ≡ N }
     ensures front { take start array.new ≡ take start (drop text.offset array.old) }
-    ensures tail { take (text.size - end) (drop (start + len) array.new) ≡ take (text.size - end) (drop (text.offset + end) array.old) }
+    ensures tail { take (text.size - end) (drop (start + len) array.new)
+        ≡ take (text.size - end) (drop (text.offset + end) array.old) }
     ensures most { steps.new.moved ≤ steps.old.moved + (start + (text.size - end)) }
     ensures least { end ≢ start + len → steps.old.moved + min start (text.size - end) ≤ steps.new.moved }
     ensures counted { steps.old.moved ≤ steps.new.moved }

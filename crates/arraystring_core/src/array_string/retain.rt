@@ -51,7 +51,9 @@ fn retain_at<const N: usize, F: FnMut(char) -> bool + Drop>(
     ensures len { length array.new ≡ N }
     ensures at_most { kept.new ≤ size }
     ensures text { IsUtf8 (take kept.new (drop offset array.new)) }
-    ensures filtered { IsFiltered F.step f (chars (take size (drop offset array.old))) (chars (take kept.new (drop offset array.new))) }
+    ensures filtered { IsFiltered F.step f
+        (chars (take size (drop offset array.old)))
+        (chars (take kept.new (drop offset array.new))) }
 {
     // From `read` on no byte was written over.
     *kept = 0;

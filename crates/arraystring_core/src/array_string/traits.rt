@@ -9,8 +9,8 @@ ghost use Rattle.std.specs.Hash as fed;
 ghost use Rattle.std.specs.Ordering.{nat_cmp, MatchOrdering};
 
 use crate::ArrayString;
-use crate::fast::equal::equal;
-use crate::fast::order::order;
+use crate::blockwise::equal::equal;
+use crate::blockwise::order::order;
 use arraystring_base::error::OutOfBounds;
 use std::cmp::Ordering;
 use std::fmt;
@@ -187,7 +187,10 @@ impl<const N: usize> Ord for ArrayString<N> {
     fn cmp(&self, other: &Self) -> Ordering
         ensures order { result ≡ slice_cmp nat_cmp self.now.text other.now.text }
         ensures of_bytes { result ≡ slice_cmp nat_cmp (bytes self.now.text) (bytes other.now.text) }
-        ensures says { MatchOrdering result (IsBefore self.now.text other.now.text) (self.now.text ≡ other.now.text) (IsBefore other.now.text self.now.text) }
+        ensures says { MatchOrdering result
+            (IsBefore self.now.text other.now.text)
+            (self.now.text ≡ other.now.text)
+            (IsBefore other.now.text self.now.text) }
     {
         // `other` is read first: in the other order the compiler moves a register.
         let other_text = other.as_str();
@@ -256,7 +259,8 @@ impl<const N: usize> fmt::Write for ArrayString<N> {
     /// `write!` of several pieces keeps those before the one that is refused.
     fn write_str(&mut self, string: &str) -> fmt::Result
         ensures ok { IsOk result → bytes self.new.text ≡ bytes self.old.text ++ string.now }
-        ensures made { Makes (addition self.old.text (chars string.now) (cap N)) self.old.text (from_out_of_bounds result) self.new.text }
+        ensures made { Makes (addition self.old.text (chars string.now) (cap N))
+            self.old.text (from_out_of_bounds result) self.new.text }
     {
         match self.try_push_str(string) {
             Ok(()) => Ok(()),

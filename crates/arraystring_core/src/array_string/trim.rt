@@ -48,10 +48,12 @@ impl<const N: usize> ArrayString<N> {
     pub(super) fn drop_trailing<F: Fn(char) -> bool + Drop>(&mut self, drops: F, steps: &mut Steps)
         requires callable { F.IsAlwaysCallable drops }
         requires looks { steps.old.looked ≤ 2 ^ 63 }
-        ensures text { (passes : ℕ → Bool) → ReturnsAs F.post drops passes → self.new.text ≡ without_trailing passes self.old.text }
+        ensures text { (passes : ℕ → Bool) → ReturnsAs F.post drops passes
+            → self.new.text ≡ without_trailing passes self.old.text }
         ensures moved { steps.new.moved ≡ steps.old.moved }
         ensures looked { steps.new.looked ≤ steps.old.looked + 4 * (length self.old.text - length self.new.text + 1) }
-        ensures least { steps.old.looked + min (length self.old.text) (length self.old.text - length self.new.text + 1) ≤ steps.new.looked }
+        ensures least { steps.old.looked + min (length self.old.text) (length self.old.text - length self.new.text + 1)
+            ≤ steps.new.looked }
         ensures counted { steps.old.looked ≤ steps.new.looked }
     {
         text_fits(self);
@@ -59,7 +61,7 @@ impl<const N: usize> ArrayString<N> {
             if !drops(ch) {
                 break;
             }
-            self.keep(start as u8);
+            self.set_len(start as u8);
         }
     }
 
@@ -79,8 +81,10 @@ impl<const N: usize> ArrayString<N> {
     #[inline(always)]
     fn drop_leading_ascii<F: Fn(char) -> bool>(&mut self, drops: &F) -> bool
         requires callable { F.IsAlwaysCallable drops.now }
-        ensures text { (passes : ℕ → Bool) → ReturnsAs F.post drops.now passes → without_leading passes self.new.text ≡ without_leading passes self.old.text }
-        ensures done { IsTrue result → (passes : ℕ → Bool) → ReturnsAs F.post drops.now passes → without_leading passes self.new.text ≡ self.new.text }
+        ensures text { (passes : ℕ → Bool) → ReturnsAs F.post drops.now passes
+            → without_leading passes self.new.text ≡ without_leading passes self.old.text }
+        ensures done { IsTrue result → (passes : ℕ → Bool) → ReturnsAs F.post drops.now passes
+            → without_leading passes self.new.text ≡ self.new.text }
     {
         let bytes = self.as_bytes();
         let mut run = 0;

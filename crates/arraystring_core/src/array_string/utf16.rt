@@ -117,7 +117,8 @@ impl<const N: usize> ArrayString<N> {
     #[inline(always)]
     fn write_prefix(array: &mut [u8; N], units: &[u16]) -> (u8, Option<Unit16>)
         ensures in_array { IsStored N array.new 0 result.0 }
-        ensures stop { (items : List Unit16) → IsReading units.now items → first_stop items (cap N) ≡ stop_at result.1 (stored array.new 0 result.0).text }
+        ensures stop { (items : List Unit16) → IsReading units.now items
+            → first_stop items (cap N) ≡ stop_at result.1 (stored array.new 0 result.0).text }
     {
         only_reading(units);
         // A run of ASCII first, at once: its units are its bytes.

@@ -8,7 +8,7 @@ ghost use Rattle.std.specs.Hash as fed;
 ghost use Rattle.std.specs.Ordering.{nat_cmp, MatchOrdering};
 
 use crate::Drain;
-use crate::fast::order::order;
+use crate::blockwise::order::order;
 use arraystring_base::utils::{Steps, last_char};
 use std::cmp::Ordering;
 use std::fmt;
@@ -171,7 +171,10 @@ impl<const N: usize> Ord for Drain<N> {
     fn cmp(&self, other: &Self) -> Ordering
         ensures order { result ≡ slice_cmp nat_cmp self.now.left other.now.left }
         ensures of_bytes { result ≡ slice_cmp nat_cmp (bytes self.now.left) (bytes other.now.left) }
-        ensures says { MatchOrdering result (IsBefore self.now.left other.now.left) (self.now.left ≡ other.now.left) (IsBefore other.now.left self.now.left) }
+        ensures says { MatchOrdering result
+            (IsBefore self.now.left other.now.left)
+            (self.now.left ≡ other.now.left)
+            (IsBefore other.now.left self.now.left) }
     {
         order::<N>(self.as_str(), other.as_str())
     }

@@ -38,10 +38,10 @@ fn of_pieces_that_fit(pieces: &[&str]) -> Option<CacheString> {
 
 #[test]
 fn a_text_by_each_constructor(rt: HostRuntime) {
-    made(&rt, "My String");
-    made(&rt, "");
-    made(&rt, "🤔🤔🤔🤔🤔");
-    made(&rt, ZEROS_63);
+    constructors_give_the_text(&rt, "My String");
+    constructors_give_the_text(&rt, "");
+    constructors_give_the_text(&rt, "🤔🤔🤔🤔🤔");
+    constructors_give_the_text(&rt, ZEROS_63);
     let new = CacheString::new();
     agree(&rt, "new", new.0.as_str(), "");
     agree(&rt, "default", CacheString::default(), new);
@@ -49,14 +49,14 @@ fn a_text_by_each_constructor(rt: HostRuntime) {
 }
 
 /// Asserts that each constructor gives the text.
-fn made(rt: &impl Abort, text: &str) {
-    made_or_refused(rt, text);
-    made_or_cut(rt, text);
+fn constructors_give_the_text(rt: &impl Abort, text: &str) {
+    refusing_constructors_give_the_text(rt, text);
+    cutting_constructors_give_the_text(rt, text);
 }
 
 /// Asserts that each constructor that can refuse gives the text, and each that is called if it
 /// fits.
-fn made_or_refused(rt: &impl Abort, text: &str) {
+fn refusing_constructors_give_the_text(rt: &impl Abort, text: &str) {
     let wanted = CacheString(ArrayString::from(text));
     agree(rt, text, wanted.0.as_str(), text);
     agree(rt, text, CacheString::try_from_str(text), Ok(wanted));
@@ -71,7 +71,7 @@ fn made_or_refused(rt: &impl Abort, text: &str) {
 }
 
 /// Asserts that each constructor that cuts gives the text.
-fn made_or_cut(rt: &impl Abort, text: &str) {
+fn cutting_constructors_give_the_text(rt: &impl Abort, text: &str) {
     let made = CacheString::from(ArrayString::from(text));
     agree(rt, text, made.0.as_str(), text);
     let made = CacheString::from_str_truncate(text);

@@ -136,8 +136,12 @@ fn at_the_end<R: Abort + AllocGlobal, const N: usize>(
         "try_push_str" => returned(rt, row, text.try_push_str(given)),
         "write_str" => returned(rt, row, text.write_str(given)),
         "pop" => returned(rt, row, text.pop()),
-        "push_unchecked" => returned(rt, row, put(text, None, character(rt, row, 3))),
-        "push_str_unchecked" => returned(rt, row, put_str(text, None, given)),
+        "push_unchecked" => returned(
+            rt,
+            row,
+            push_or_insert_unchecked(text, None, character(rt, row, 3)),
+        ),
+        "push_str_unchecked" => returned(rt, row, push_or_insert_str_unchecked(text, None, given)),
         "clone" => {
             let copy: Result<_, _> = text.clone();
             returned(rt, row, copy);
@@ -193,7 +197,11 @@ fn compared<R: Abort + AllocGlobal, const N: usize>(
 
 /// Adds `ch` by `push_unchecked`, or puts it before an index by `insert_unchecked`, if the
 /// conditions hold.
-fn put<const N: usize>(text: &mut ArrayString<N>, index: Option<u8>, ch: char) -> Option<()> {
+fn push_or_insert_unchecked<const N: usize>(
+    text: &mut ArrayString<N>,
+    index: Option<u8>,
+    ch: char,
+) -> Option<()> {
     let size = text.len() as usize + ch.len_utf8();
     if size > ArrayString::<N>::capacity() as usize {
         return None;
@@ -211,7 +219,7 @@ fn put<const N: usize>(text: &mut ArrayString<N>, index: Option<u8>, ch: char) -
 
 /// Adds `given` by `push_str_unchecked`, or puts it before an index by `insert_str_unchecked`, if
 /// the conditions hold.
-fn put_str<const N: usize>(
+fn push_or_insert_str_unchecked<const N: usize>(
     text: &mut ArrayString<N>,
     index: Option<u8>,
     given: &str,
@@ -286,8 +294,16 @@ fn at_index<R: Abort + AllocGlobal, const N: usize>(
         "truncate" => returned(rt, row, text.truncate(index)),
         "split_off" => returned(rt, row, text.split_off(index)),
         "is_char_boundary" => returned(rt, row, is_char_boundary(text, index)),
-        "insert_unchecked" => returned(rt, row, put(text, Some(index), character(rt, row, 3))),
-        "insert_str_unchecked" => returned(rt, row, put_str(text, Some(index), given)),
+        "insert_unchecked" => returned(
+            rt,
+            row,
+            push_or_insert_unchecked(text, Some(index), character(rt, row, 3)),
+        ),
+        "insert_str_unchecked" => returned(
+            rt,
+            row,
+            push_or_insert_str_unchecked(text, Some(index), given),
+        ),
         _ => return false,
     }
     true

@@ -6,7 +6,7 @@ use arraystring::ArrayString;
 use arraystring::prelude::*;
 use std::fmt::{Debug, Display};
 use std::process::Abort;
-use test_support::printing::first_printed_apart;
+use test_support::printing::first_debug_difference;
 
 /// Asserts that a value is printed as a text, in each form that could pad or cut it, at each width.
 pub(crate) fn displays<T: Display>(rt: &(impl Abort + AllocGlobal), value: &T, wanted: &str) {
@@ -54,7 +54,7 @@ pub(crate) fn debugs_as<T: Debug, W: Debug>(
     value: &T,
     wanted: &W,
 ) {
-    let apart = first_printed_apart(rt.alloc(), value, wanted);
+    let apart = first_debug_difference(rt.alloc(), value, wanted);
     let apart = apart.expect(rt, "memory for what is printed");
     agree(rt, "each form", apart, None);
 }

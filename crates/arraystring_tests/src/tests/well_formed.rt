@@ -35,7 +35,7 @@ fn check_reading(rt: &impl Abort, table: &str) -> (u32, u32) {
                 } else {
                     turn + 1
                 };
-                let end = put(rt, &mut bytes, at, turn, column(row, 2));
+                let end = write_bytes(rt, &mut bytes, at, turn, column(row, 2));
                 let given = &bytes[..size];
                 if end <= size {
                     agree(
@@ -61,7 +61,7 @@ fn byte(rt: &impl Abort, digits: &str) -> u8 {
 }
 
 /// Puts a byte and those behind it, and returns where they end.
-fn put(rt: &impl Abort, bytes: &mut [u8; 264], at: usize, first: u8, rest: &str) -> usize
+fn write_bytes(rt: &impl Abort, bytes: &mut [u8; 264], at: usize, first: u8, rest: &str) -> usize
     requires { at < 264 }
 {
     bytes[at] = first;

@@ -9,7 +9,8 @@ use core::ops::{Bound, RangeBounds};
 /// <details><summary>Contract</summary>
 ///
 /// ```text
-/// ensures { OfReturnedBounds R.has_bounds R.start_bound R.end_bound range (λ start end. (result.0 ≡ saturated_start start) × (result.1 ≡ saturated_end end len)) }
+/// ensures { OfReturnedBounds R.has_bounds R.start_bound R.end_bound range (λ start end.
+///     (result.0 ≡ saturated_start start) × (result.1 ≡ saturated_end end len)) }
 /// ```
 ///
 /// [How to read a contract](crate::contracts)
@@ -35,7 +36,8 @@ pub(crate) fn saturating_ends<R: RangeBounds<u8>>(range: R, len: u8) -> (u8, u8)
 /// <details><summary>Contract</summary>
 ///
 /// ```text
-/// ensures { OfReturnedBounds R.has_bounds R.start_bound R.end_bound range (λ start end. (result.0 ≡ start_index start) × (result.1 ≡ end_index end len)) }
+/// ensures { OfReturnedBounds R.has_bounds R.start_bound R.end_bound range (λ start end.
+///     (result.0 ≡ start_index start) × (result.1 ≡ end_index end len)) }
 /// ```
 ///
 /// [How to read a contract](crate::contracts)

@@ -241,7 +241,10 @@ impl Ord for CacheString {
     /// ```text
     /// ensures order { result ≡ slice_cmp nat_cmp self.now.0.text other.now.0.text }
     /// ensures of_bytes { result ≡ slice_cmp nat_cmp (bytes self.now.0.text) (bytes other.now.0.text) }
-    /// ensures says { MatchOrdering result (IsBefore self.now.0.text other.now.0.text) (self.now.0.text ≡ other.now.0.text) (IsBefore other.now.0.text self.now.0.text) }
+    /// ensures says { MatchOrdering result
+    ///     (IsBefore self.now.0.text other.now.0.text)
+    ///     (self.now.0.text ≡ other.now.0.text)
+    ///     (IsBefore other.now.0.text self.now.0.text) }
     /// ```
     ///
     /// [How to read a contract](crate::contracts)
@@ -349,7 +352,8 @@ impl fmt::Write for CacheString {
     ///
     /// ```text
     /// ensures ok { IsOk result → bytes self.new.0.text ≡ bytes self.old.0.text ++ string.now }
-    /// ensures made { Makes (addition self.old.0.text (chars string.now) 63) self.old.0.text (from_out_of_bounds result) self.new.0.text }
+    /// ensures made { Makes (addition self.old.0.text (chars string.now) 63)
+    ///     self.old.0.text (from_out_of_bounds result) self.new.0.text }
     /// ```
     ///
     /// [How to read a contract](crate::contracts)

@@ -132,7 +132,7 @@ impl<const N: usize> ArrayString<N> {
         requires start { IsTrue (boundary self.now.text 0) }
     {
         let (start, end) = plain_ends(range, self.len());
-        self.between(start, end)
+        self.slice_unchecked(start, end)
     }
 
     /// The length.

@@ -346,9 +346,9 @@ pub const OTHERS: &[(&str, &str)] = &[
     ("arraystring_core::array_string::borrowed_range::ArrayString::get", "std finds the part, by `str::get`"),
     ("arraystring_core::array_string::ascii::ArrayString::make_ascii_uppercase_in", TESTS_RANGE),
     ("arraystring_core::array_string::ascii::ArrayString::make_ascii_lowercase_in", TESTS_RANGE),
-    ("arraystring_core::fast::equal::equal", STD_COMPARES),
-    ("arraystring_core::fast::order::order", STD_COMPARES),
-    ("arraystring_core::fast::well_formed::read_utf8", "std tests UTF-8, behind a test for ASCII by hand"),
+    ("arraystring_core::blockwise::equal::equal", STD_COMPARES),
+    ("arraystring_core::blockwise::order::order", STD_COMPARES),
+    ("arraystring_core::blockwise::well_formed::read_utf8", "std tests UTF-8, behind a test for ASCII by hand"),
 ];
 
 const COUNT_STOPS: &str = "a count stops at 2^64 - 1";
@@ -368,13 +368,13 @@ pub struct ByStd {
 
 pub const BY_STD: &[ByStd] = &[
     ByStd {
-        path: "arraystring_core::fast::equal::equal",
+        path: "arraystring_core::blockwise::equal::equal",
         module: "Whether two texts are equal, which std tells here.",
         docs: "Whether the texts of two strings are equal.",
         calls: &["ArrayString::eq", "CacheString::eq"],
     },
     ByStd {
-        path: "arraystring_core::fast::order::order",
+        path: "arraystring_core::blockwise::order::order",
         module: "The order of two texts, which std tells here.",
         docs: "How the texts are ordered by their bytes.",
         calls: &[
@@ -387,7 +387,7 @@ pub const BY_STD: &[ByStd] = &[
         ],
     },
     ByStd {
-        path: "arraystring_core::fast::well_formed::read_utf8",
+        path: "arraystring_core::blockwise::well_formed::read_utf8",
         module: "The test of UTF-8, which std makes here.",
         docs: "Returns the text whose UTF-8 is `given`, or `Err(Utf8)` if `given` is not well-formed.",
         calls: &[

@@ -9,9 +9,11 @@ spaces : (n : ℕ) → size (replicate n 0x20) ≡ n
 unfolding width
 spaces n = omega (arith, size-replicate n 0x20)
 
+-- if the text alone does not fit, it does not with spaces behind it
 pub returns-in_err-column : goal.returns-in_err-column
 returns-in_err-column g c = grind (arith, size-append, c.in_err-column.ensures, c.from_residual.ensures)
 
+-- the text, the spaces so far and one more did not fit, and `count` is no less
 pub returns-in_err-try_push : goal.returns-in_err-try_push
 returns-in_err-try_push g c =
     let refused = addition-refused _ _ c.in_err-try_push.ensures in

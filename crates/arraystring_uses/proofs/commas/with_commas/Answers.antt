@@ -7,18 +7,21 @@ use Rattle.arraystring.proofs.LoopLaws.{pieces-all, pieces-more}
 use Rattle.arraystring_uses.specs.Commas.{piece}
 use Rattle.arraystring_uses.proofs.commas.with_commas.Goals as goal
 
+-- the pieces so far and the comma did not fit, and the whole begins with them
 pub returns-in_err-try_push : goal.returns-in_err-try_push
 returns-in_err-try_push g c =
     let all = YieldsList-from_enumerate (YieldsList-from_chars c.args.text.now c.utf8.text cc) cc in
     let more = pieces-more all _ c.loop-index.yielded_by piece c.in-Some.is c.next.ensures.steps in
     grind (arith, more, addition-refused _ _ c.in_err-try_push.ensures, c.from_residual.ensures)
 
+-- nor does the whole fit if the character did not, behind its comma or without one
 pub returns-in_err-try_push-2 : goal.returns-in_err-try_push-2
 returns-in_err-try_push-2 g c =
     let all = YieldsList-from_enumerate (YieldsList-from_chars c.args.text.now c.utf8.text cc) cc in
     let more = pieces-more all _ c.loop-index.yielded_by piece c.in-Some.is c.next.ensures.steps in
     grind (arith, more, size-append, addition-refused _ _ c.in_err-try_push-2.ensures, c.from_residual-in_err-try_push-2.ensures)
 
+-- at the end the pieces so far are all
 pub returns : goal.returns
 returns g c =
     let all = YieldsList-from_enumerate (YieldsList-from_chars c.args.text.now c.utf8.text cc) cc in

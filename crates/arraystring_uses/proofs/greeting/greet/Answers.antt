@@ -16,11 +16,13 @@ message : chars (codes ", welcome back") ≡ codes ", welcome back"
 unfolding chars
 message = refl
 
+-- the byte of `@` did not fit before the name, so the name has no less than 20
 pub returns-in_err-try_insert_str-clause-fits : goal.returns-in_err-try_insert_str-clause-fits
 returns-in_err-try_insert_str-clause-fits c =
     let refused = insertion_at_start-refused _ 20 c.in_err-try_insert_str.ensures in
     grind (arith, refused.0, at_sign, one_byte)
 
+-- the insertion returned this error, and `?` returns it as it is
 pub returns-in_err-try_insert_str-clause-refused : goal.returns-in_err-try_insert_str-clause-refused
 returns-in_err-try_insert_str-clause-refused c =
     let refused = insertion_at_start-refused _ 20 c.in_err-try_insert_str.ensures in

@@ -40,7 +40,8 @@ impl<const N: usize> ArrayString<N> {
     ///
     /// ```text
     /// requires { IsFiniteIterable I.into_iter_gives I.IntoIter.can_next I.IntoIter.remaining characters }
-    /// ensures { (taken : List ℕ) × Takes I.into_iter_gives I.IntoIter.next_gives (λ cs. cs) characters (cap N - size self.old.text) taken
+    /// ensures { (taken : List ℕ)
+    ///     × Takes I.into_iter_gives I.IntoIter.next_gives (λ cs. cs) characters (cap N - size self.old.text) taken
     ///     × MatchResult result (λ _. size taken ≤ cap N - size self.old.text) (λ _. cap N - size self.old.text < size taken)
     ///     × (self.new.text ≡ self.old.text ++ cut taken (cap N - size self.old.text)) }
     /// ```
@@ -161,8 +162,11 @@ impl<const N: usize> ArrayString<N> {
     /// requires end { end ≡ start.old + len.old }
     /// ensures in_array { IsStored N array.new start.new len.new }
     /// ensures end { IfSome result (λ next. next ≡ start.new + len.new) }
-    /// ensures text { let t = (stored array.old start.old len.old).text in let new = (stored array.new start.new len.new).text in
-    ///     MatchOption result ((cap N < size t + size (ch ∷ [])) × (new ≡ t)) (λ _. (size t + size (ch ∷ []) ≤ cap N) × (new ≡ t ++ ch ∷ [])) }
+    /// ensures text { let t = (stored array.old start.old len.old).text in
+    ///     let new = (stored array.new start.new len.new).text in
+    ///     MatchOption result
+    ///     ((cap N < size t + size (ch ∷ [])) × (new ≡ t))
+    ///     (λ _. (size t + size (ch ∷ []) ≤ cap N) × (new ≡ t ++ ch ∷ [])) }
     /// ```
     ///
     /// [How to read a contract](crate::contracts)
@@ -272,7 +276,8 @@ impl<const N: usize> ArrayString<N> {
     /// <details><summary>Contract</summary>
     ///
     /// ```text
-    /// ensures { Makes (addition self.old.text (chars string.now) (cap N)) self.old.text (from_out_of_bounds result) self.new.text }
+    /// ensures { Makes (addition self.old.text (chars string.now) (cap N))
+    ///     self.old.text (from_out_of_bounds result) self.new.text }
     /// ```
     ///
     /// [How to read a contract](crate::contracts)
@@ -312,7 +317,8 @@ impl<const N: usize> ArrayString<N> {
     /// requires end { end ≡ start.old + len.old }
     /// ensures in_array { IsStored N array.new start.new len.new }
     /// ensures end { MatchOption result (end ≡ start.new + len.new) (λ next. next ≡ start.new + len.new) }
-    /// ensures text { let t = (stored array.old start.old len.old).text in let new = (stored array.new start.new len.new).text in
+    /// ensures text { let t = (stored array.old start.old len.old).text in
+    ///     let new = (stored array.new start.new len.new).text in
     ///     MatchOption result ((cap N < size t + size (chars string.now)) × (new ≡ t))
     ///     (λ _. (size t + size (chars string.now) ≤ cap N) × (new ≡ t ++ chars string.now)) }
     /// ```
@@ -350,8 +356,11 @@ impl<const N: usize> ArrayString<N> {
     ///
     /// ```text
     /// requires { IsFiniteIterable I.into_iter_gives I.IntoIter.can_next I.IntoIter.remaining pieces }
-    /// ensures { (taken : List (Bor (List ℕ))) × Takes I.into_iter_gives I.IntoIter.next_gives joined_pieces pieces (cap N - size self.old.text) taken
-    ///     × MatchResult result (λ _. size (joined_pieces taken) ≤ cap N - size self.old.text) (λ _. cap N - size self.old.text < size (joined_pieces taken))
+    /// ensures { (taken : List (Bor (List ℕ)))
+    ///     × Takes I.into_iter_gives I.IntoIter.next_gives joined_pieces pieces (cap N - size self.old.text) taken
+    ///     × MatchResult result
+    ///     (λ _. size (joined_pieces taken) ≤ cap N - size self.old.text)
+    ///     (λ _. cap N - size self.old.text < size (joined_pieces taken))
     ///     × (self.new.text ≡ self.old.text ++ cut (joined_pieces taken) (cap N - size self.old.text)) }
     /// ```
     ///
@@ -380,8 +389,11 @@ impl<const N: usize> ArrayString<N> {
     /// requires ends { IsFiniteIterable I.into_iter_gives I.IntoIter.can_next I.IntoIter.remaining pieces }
     /// ensures in_array { IsStored N array.new start.new len.new }
     /// ensures taken { let t = (stored array.old start.old len.old).text in
-    ///     (taken : List (Bor (List ℕ))) × Takes I.into_iter_gives I.IntoIter.next_gives joined_pieces pieces (cap N - size t) taken
-    ///     × MatchResult result (λ _. size (joined_pieces taken) ≤ cap N - size t) (λ _. cap N - size t < size (joined_pieces taken))
+    ///     (taken : List (Bor (List ℕ)))
+    ///     × Takes I.into_iter_gives I.IntoIter.next_gives joined_pieces pieces (cap N - size t) taken
+    ///     × MatchResult result
+    ///     (λ _. size (joined_pieces taken) ≤ cap N - size t)
+    ///     (λ _. cap N - size t < size (joined_pieces taken))
     ///     × ((stored array.new start.new len.new).text ≡ t ++ cut (joined_pieces taken) (cap N - size t)) }
     /// ```
     ///

@@ -86,7 +86,9 @@ impl<const N: usize> ArrayString<N> {
     /// requires order { start_index (R.start_bound range) ≤ end_index (R.end_bound range) (size self.old.text) }
     /// requires start { IsTrue (boundary self.old.text (start_index (R.start_bound range))) }
     /// requires end { IsTrue (boundary self.old.text (end_index (R.end_bound range) (size self.old.text))) }
-    /// ensures { let t = self.old.text in let start = start_index (R.start_bound range) in let end = end_index (R.end_bound range) (size t) in
+    /// ensures { let t = self.old.text in
+    ///     let start = start_index (R.start_bound range) in
+    ///     let end = end_index (R.end_bound range) (size t) in
     ///     self.new.text ≡ front t start ++ (map to_ascii_uppercase (part t start end) ++ back t end) }
     /// ```
     ///
@@ -129,7 +131,9 @@ impl<const N: usize> ArrayString<N> {
     /// requires order { start_index (R.start_bound range) ≤ end_index (R.end_bound range) (size self.old.text) }
     /// requires start { IsTrue (boundary self.old.text (start_index (R.start_bound range))) }
     /// requires end { IsTrue (boundary self.old.text (end_index (R.end_bound range) (size self.old.text))) }
-    /// ensures { let t = self.old.text in let start = start_index (R.start_bound range) in let end = end_index (R.end_bound range) (size t) in
+    /// ensures { let t = self.old.text in
+    ///     let start = start_index (R.start_bound range) in
+    ///     let end = end_index (R.end_bound range) (size t) in
     ///     self.new.text ≡ front t start ++ (map to_ascii_lowercase (part t start end) ++ back t end) }
     /// ```
     ///
@@ -162,7 +166,8 @@ impl<const N: usize> ArrayString<N> {
     /// requires order { start ≤ end }
     /// requires start { IsTrue (boundary self.old.text start) }
     /// requires end { IsTrue (boundary self.old.text end) }
-    /// ensures { self.new.text ≡ front self.old.text start ++ (map to_ascii_uppercase (part self.old.text start end) ++ back self.old.text end) }
+    /// ensures { self.new.text ≡ front self.old.text start
+    ///     ++ (map to_ascii_uppercase (part self.old.text start end) ++ back self.old.text end) }
     /// ```
     ///
     /// [How to read a contract](crate::contracts)
@@ -190,7 +195,8 @@ impl<const N: usize> ArrayString<N> {
     /// requires order { start ≤ end }
     /// requires start { IsTrue (boundary self.old.text start) }
     /// requires end { IsTrue (boundary self.old.text end) }
-    /// ensures { self.new.text ≡ front self.old.text start ++ (map to_ascii_lowercase (part self.old.text start end) ++ back self.old.text end) }
+    /// ensures { self.new.text ≡ front self.old.text start
+    ///     ++ (map to_ascii_lowercase (part self.old.text start end) ++ back self.old.text end) }
     /// ```
     ///
     /// [How to read a contract](crate::contracts)
@@ -217,7 +223,8 @@ impl<const N: usize> ArrayString<N> {
 /// ```text
 /// requires order { start ≤ end }
 /// requires within { end ≤ N }
-/// ensures { array.new ≡ take start array.old ++ (map to_ascii_uppercase (take (end - start) (drop start array.old)) ++ drop end array.old) }
+/// ensures { array.new ≡ take start array.old
+///     ++ (map to_ascii_uppercase (take (end - start) (drop start array.old)) ++ drop end array.old) }
 /// ```
 ///
 /// [How to read a contract](crate::contracts)
@@ -242,7 +249,8 @@ unsafe fn uppercase_bytes<const N: usize>(array: &mut [u8; N], start: usize, end
 /// ```text
 /// requires order { start ≤ end }
 /// requires within { end ≤ N }
-/// ensures { array.new ≡ take start array.old ++ (map to_ascii_lowercase (take (end - start) (drop start array.old)) ++ drop end array.old) }
+/// ensures { array.new ≡ take start array.old
+///     ++ (map to_ascii_lowercase (take (end - start) (drop start array.old)) ++ drop end array.old) }
 /// ```
 ///
 /// [How to read a contract](crate::contracts)

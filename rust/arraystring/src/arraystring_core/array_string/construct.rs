@@ -5,7 +5,7 @@ use crate::arraystring_base::error::{Error, OutOfBounds, Utf8};
 use crate::arraystring_base::utils::truncate_str;
 use crate::arraystring_core::ArrayString;
 use crate::arraystring_core::array_string::fill::try_fill;
-use crate::arraystring_core::fast::well_formed::read_utf8;
+use crate::arraystring_core::blockwise::well_formed::read_utf8;
 use crate::by_hand::str;
 
 impl<const N: usize> ArrayString<N> {
@@ -106,7 +106,8 @@ impl<const N: usize> ArrayString<N> {
     ///
     /// ```text
     /// requires { IsFiniteIterable I.into_iter_gives I.IntoIter.can_next I.IntoIter.remaining pieces }
-    /// ensures taken { (taken : List (Bor (List ℕ))) × Takes I.into_iter_gives I.IntoIter.next_gives joined_pieces pieces (cap N) taken
+    /// ensures taken { (taken : List (Bor (List ℕ)))
+    ///     × Takes I.into_iter_gives I.IntoIter.next_gives joined_pieces pieces (cap N) taken
     ///     × IsWholeOrRefused (joined_pieces taken) (cap N) (from_out_of_bounds result) }
     /// ensures whole { (all : List (List ℕ)) → Gives I.into_iter_gives I.IntoIter.next_gives piece_text pieces all
     ///     → IsWholeOrRefused (joined all) (cap N) (from_out_of_bounds result) }
@@ -148,7 +149,8 @@ impl<const N: usize> ArrayString<N> {
     ///
     /// ```text
     /// requires { IsFiniteIterable I.into_iter_gives I.IntoIter.can_next I.IntoIter.remaining pieces }
-    /// ensures taken { (taken : List (Bor (List ℕ))) × Takes I.into_iter_gives I.IntoIter.next_gives joined_pieces pieces (cap N) taken
+    /// ensures taken { (taken : List (Bor (List ℕ)))
+    ///     × Takes I.into_iter_gives I.IntoIter.next_gives joined_pieces pieces (cap N) taken
     ///     × (result.text ≡ cut (joined_pieces taken) (cap N)) }
     /// ensures whole { (all : List (List ℕ)) → Gives I.into_iter_gives I.IntoIter.next_gives piece_text pieces all
     ///     → result.text ≡ cut (joined all) (cap N) }

@@ -48,7 +48,8 @@ impl<const N: usize> ArrayString<N> {
     /// ensures edit { Makes (insertion self.old.text index (chars string.now) (cap N)) self.old.text result self.new.text }
     /// ensures refused { OnErr result (steps.new.moved ≡ steps.old.moved) }
     /// ensures most { steps.new.moved ≤ steps.old.moved + size self.old.text }
-    /// ensures least { OnOk result (chars string.now ≢ [] → steps.old.moved + min index (size self.old.text - index) ≤ steps.new.moved) }
+    /// ensures least { OnOk result (chars string.now ≢ []
+    ///     → steps.old.moved + min index (size self.old.text - index) ≤ steps.new.moved) }
     /// ensures counted { steps.old.moved ≤ steps.new.moved }
     /// ensures looked { steps.new.looked ≡ steps.old.looked }
     /// ```
@@ -162,7 +163,9 @@ impl<const N: usize> ArrayString<N> {
     /// // The edit, and then the moves: if the text does not grow, at most the bytes after the range; if its
     /// // size changes, at least the bytes before the range or those after it, whichever are fewer.
     /// ensures edit { OfReturnedBounds R.has_bounds R.start_bound R.end_bound range (λ start end.
-    ///     let t = self.old.text in let from = saturated_start start in let to = saturated_end end (size t) in let given = chars with.now in
+    ///     let t = self.old.text in
+    ///     let from = saturated_start start in let to = saturated_end end (size t) in
+    ///     let given = chars with.now in
     ///     Makes (replacement t from to given (cap N)) t result self.new.text
     ///     × (size given ≤ to - from → steps.new.moved ≤ steps.old.moved + (size t - to))
     ///     × OnOk result (to ≢ from + size given → steps.old.moved + min from (size t - to) ≤ steps.new.moved)) }
@@ -226,7 +229,7 @@ impl<const N: usize> ArrayString<N> {
         let (start, ch) = last_char(self.as_str(), steps)?;
         // SAFETY: `start as u8` is a boundary of `self`: `last_char` returns where the last character begins, which is
         // below 255, whatever was counted.
-        unsafe { self.keep(start as u8) };
+        unsafe { self.set_len(start as u8) };
         Some(ch)
     }
 
@@ -264,7 +267,8 @@ impl<const N: usize> ArrayString<N> {
     /// ensures refused { OnErr result (steps.new.moved ≡ steps.old.moved) }
     /// ensures free { index ≡ 0 → steps.new.moved ≡ steps.old.moved }
     /// ensures tail_alone { IfOk result (λ ch. steps.new.moved ≤ steps.old.moved + (size self.old.text - (index + width ch))) }
-    /// ensures least { IfOk result (λ ch. steps.old.moved + min index (size self.old.text - (index + width ch)) ≤ steps.new.moved) }
+    /// ensures least { IfOk result (λ ch.
+    ///     steps.old.moved + min index (size self.old.text - (index + width ch)) ≤ steps.new.moved) }
     /// ensures counted { steps.old.moved ≤ steps.new.moved }
     /// ensures looked { steps.new.looked ≡ steps.old.looked }
     /// ```
@@ -286,7 +290,7 @@ impl<const N: usize> ArrayString<N> {
         // SAFETY: `start <= start + width`; `start` is a boundary of `self`; `start + width` is a boundary of `self`: a
         // character begins at `start` by the tests above, and `char_at` returned that it takes `width` bytes, whatever
         // was counted.
-        unsafe { self.take_out(start, start + width, steps) };
+        unsafe { self.remove_range(start, start + width, steps) };
         Ok(ch)
     }
 
@@ -319,8 +323,11 @@ impl<const N: usize> ArrayString<N> {
     /// requires moves { steps.old.moved ≤ 2 ^ 63 }
     /// ensures edit { Makes (trimming is_white_space self.old.text) self.old.text (Ok result) self.new.text }
     /// ensures moved { steps.new.moved ≡ steps.old.moved }
-    /// ensures looked { steps.new.looked ≤ steps.old.looked + 4 * (length self.old.text - length (without_trailing is_white_space self.old.text) + 1) }
-    /// ensures least { steps.old.looked + min (length self.old.text) (length self.old.text - length (without_trailing is_white_space self.old.text) + 1) ≤ steps.new.looked }
+    /// ensures looked { steps.new.looked
+    ///     ≤ steps.old.looked + 4 * (length self.old.text - length (without_trailing is_white_space self.old.text) + 1) }
+    /// ensures least { steps.old.looked + min (length self.old.text)
+    ///     (length self.old.text - length (without_trailing is_white_space self.old.text) + 1)
+    ///     ≤ steps.new.looked }
     /// ensures counted { steps.old.looked ≤ steps.new.looked }
     /// ```
     ///

@@ -83,7 +83,7 @@ impl<const N: usize> ArrayString<N> {
         *removed = unsafe { Drain::new(self.array, self.start + from, to - from) };
         // SAFETY: `from <= to`; `from` is a boundary of `self`; `to` is a boundary of `self`: `check_part` returned
         // `Ok`, so this is a part of the text, whatever was counted.
-        unsafe { self.take_out(from as usize, to as usize, steps) };
+        unsafe { self.remove_range(from as usize, to as usize, steps) };
         Ok(*removed)
     }
 

@@ -43,7 +43,8 @@ pub(super) unsafe fn fill<const N: usize>(array: &mut [u8; N], given: &[u8]) {
 /// ensures len { length array.new ≡ N }
 /// ensures refused { MatchBool result.0
 ///     ((cap N < length given.now) × (result.1 ≡ 0) × (array.new ≡ array.old))
-///     ((length given.now ≤ cap N) × (result.1 ≡ length given.now) × (array.new ≡ given.now ++ drop (length given.now) array.old)) }
+///     ((length given.now ≤ cap N) × (result.1 ≡ length given.now)
+///     × (array.new ≡ given.now ++ drop (length given.now) array.old)) }
 /// ```
 ///
 /// [How to read a contract](crate::contracts)
@@ -78,7 +79,8 @@ pub(super) fn try_fill<const N: usize>(array: &mut [u8; N], given: &[u8]) -> (bo
 /// ensures len { length array.new ≡ N }
 /// ensures refused { MatchBool result.0
 ///     ((cap N < length given.now) × (result.1 ≡ 0) × (array.new ≡ array.old))
-///     ((length given.now ≤ cap N) × (result.1 ≡ length given.now) × (array.new ≡ given.now ++ drop (length given.now) array.old)) }
+///     ((length given.now ≤ cap N) × (result.1 ≡ length given.now)
+///     × (array.new ≡ given.now ++ drop (length given.now) array.old)) }
 /// ```
 ///
 /// [How to read a contract](crate::contracts)

@@ -45,7 +45,7 @@ impl<const N: usize> ArrayString<N> {
             return Err(Utf8);
         }
         // SAFETY: `size` is a boundary of `self`: by the test above.
-        unsafe { self.keep(size) };
+        unsafe { self.set_len(size) };
         Ok(())
     }
 
@@ -155,7 +155,7 @@ impl<const N: usize> ArrayString<N> {
         // SAFETY: this is within: `at` is a boundary, by the test above.
         let rest = unsafe { Self::from_str_unchecked(get_unchecked!(self.as_str(), at as usize..)) };
         // SAFETY: `at` is a boundary of `self`: by the test above.
-        unsafe { self.keep(at) };
+        unsafe { self.set_len(at) };
         Ok(rest)
     }
 
@@ -183,10 +183,10 @@ impl<const N: usize> ArrayString<N> {
     #[inline]
     pub fn clear(&mut self) {
         // SAFETY: `0` is a boundary of `self`: each text begins there.
-        unsafe { self.keep(0) };
+        unsafe { self.set_len(0) };
     }
 
-    /// Takes out the text between two boundaries, without a move if it begins at index 0.
+    /// Removes the text between two boundaries, without a move if it begins at index 0.
     ///
     /// # Safety
     ///
@@ -214,7 +214,7 @@ impl<const N: usize> ArrayString<N> {
     /// </details>
     #[inline]
     #[expect(clippy::cast_possible_truncation, reason = "the line before the write says why it fits")]
-    pub(super) unsafe fn take_out(&mut self, start: usize, end: usize, steps: &mut Steps) {
+    pub(super) unsafe fn remove_range(&mut self, start: usize, end: usize, steps: &mut Steps) {
         if start == 0 {
             // SAFETY: `end` is a boundary of `self`: by this function's `# Safety`, whatever was counted.
             return unsafe { self.drop_front(end) };
@@ -255,7 +255,7 @@ impl<const N: usize> ArrayString<N> {
         self.size = (self.size as usize - end) as u8;
     }
 
-    /// Keeps the part before a boundary.
+    /// Shortens the text to the part before a boundary.
     ///
     /// # Safety
     ///
@@ -272,7 +272,7 @@ impl<const N: usize> ArrayString<N> {
     ///
     /// </details>
     #[inline]
-    pub(super) unsafe fn keep(&mut self, size: u8) {
+    pub(super) unsafe fn set_len(&mut self, size: u8) {
         // FIELDS: it is at most `self.size` by this function's `# Safety`, so the text begins where it did, and ends at
         // a boundary, within the capacity.
         self.size = size;

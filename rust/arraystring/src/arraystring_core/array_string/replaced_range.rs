@@ -36,7 +36,8 @@ impl<const N: usize> ArrayString<N> {
     ///
     /// ```text
     /// ensures { OfReturnedBounds R.has_bounds R.start_bound R.end_bound range (λ start end. let t = self.old.text in
-    ///     Makes (replacement t (saturated_start start) (saturated_end end (size t)) (chars with.now) (cap N)) t result self.new.text) }
+    ///     Makes (replacement t (saturated_start start) (saturated_end end (size t)) (chars with.now) (cap N))
+    ///     t result self.new.text) }
     /// ```
     ///
     /// [How to read a contract](crate::contracts)
@@ -56,9 +57,11 @@ impl<const N: usize> ArrayString<N> {
     /// requires { steps.old.moved ≤ 2 ^ 63 }
     /// ensures edit { Makes (replacement self.old.text start end (chars with.now) (cap N)) self.old.text result self.new.text }
     /// ensures refused { OnErr result (steps.new.moved ≡ steps.old.moved) }
-    /// ensures tail_alone { size (chars with.now) ≤ end - start → steps.new.moved ≤ steps.old.moved + (size self.old.text - end) }
+    /// ensures tail_alone { size (chars with.now) ≤ end - start
+    ///     → steps.new.moved ≤ steps.old.moved + (size self.old.text - end) }
     /// ensures most { steps.new.moved ≤ steps.old.moved + size self.old.text }
-    /// ensures least { OnOk result (end ≢ start + size (chars with.now) → steps.old.moved + min start (size self.old.text - end) ≤ steps.new.moved) }
+    /// ensures least { OnOk result (end ≢ start + size (chars with.now)
+    ///     → steps.old.moved + min start (size self.old.text - end) ≤ steps.new.moved) }
     /// ensures counted { steps.old.moved ≤ steps.new.moved }
     /// ensures looked { steps.new.looked ≡ steps.old.looked }
     /// ```

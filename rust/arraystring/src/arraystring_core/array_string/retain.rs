@@ -65,7 +65,9 @@ impl<const N: usize> ArrayString<N> {
 /// ensures len { length array.new ≡ N }
 /// ensures at_most { kept.new ≤ size }
 /// ensures text { IsUtf8 (take kept.new (drop offset array.new)) }
-/// ensures filtered { IsFiltered F.step f (chars (take size (drop offset array.old))) (chars (take kept.new (drop offset array.new))) }
+/// ensures filtered { IsFiltered F.step f
+///     (chars (take size (drop offset array.old)))
+///     (chars (take kept.new (drop offset array.new))) }
 /// ```
 ///
 /// [How to read a contract](crate::contracts)

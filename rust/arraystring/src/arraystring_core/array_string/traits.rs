@@ -3,8 +3,8 @@
 
 use crate::arraystring_base::error::OutOfBounds;
 use crate::arraystring_core::ArrayString;
-use crate::arraystring_core::fast::equal::equal;
-use crate::arraystring_core::fast::order::order;
+use crate::arraystring_core::blockwise::equal::equal;
+use crate::arraystring_core::blockwise::order::order;
 use core::cmp::Ordering;
 use core::fmt;
 use core::hash::{Hash, Hasher};
@@ -263,7 +263,10 @@ impl<const N: usize> Ord for ArrayString<N> {
     /// ```text
     /// ensures order { result ≡ slice_cmp nat_cmp self.now.text other.now.text }
     /// ensures of_bytes { result ≡ slice_cmp nat_cmp (bytes self.now.text) (bytes other.now.text) }
-    /// ensures says { MatchOrdering result (IsBefore self.now.text other.now.text) (self.now.text ≡ other.now.text) (IsBefore other.now.text self.now.text) }
+    /// ensures says { MatchOrdering result
+    ///     (IsBefore self.now.text other.now.text)
+    ///     (self.now.text ≡ other.now.text)
+    ///     (IsBefore other.now.text self.now.text) }
     /// ```
     ///
     /// [How to read a contract](crate::contracts)
@@ -375,7 +378,8 @@ impl<const N: usize> fmt::Write for ArrayString<N> {
     ///
     /// ```text
     /// ensures ok { IsOk result → bytes self.new.text ≡ bytes self.old.text ++ string.now }
-    /// ensures made { Makes (addition self.old.text (chars string.now) (cap N)) self.old.text (from_out_of_bounds result) self.new.text }
+    /// ensures made { Makes (addition self.old.text (chars string.now) (cap N))
+    ///     self.old.text (from_out_of_bounds result) self.new.text }
     /// ```
     ///
     /// [How to read a contract](crate::contracts)

@@ -69,10 +69,12 @@ impl<const N: usize> ArrayString<N> {
     /// ```text
     /// requires callable { F.IsAlwaysCallable drops }
     /// requires looks { steps.old.looked ≤ 2 ^ 63 }
-    /// ensures text { (passes : ℕ → Bool) → ReturnsAs F.post drops passes → self.new.text ≡ without_trailing passes self.old.text }
+    /// ensures text { (passes : ℕ → Bool) → ReturnsAs F.post drops passes
+    ///     → self.new.text ≡ without_trailing passes self.old.text }
     /// ensures moved { steps.new.moved ≡ steps.old.moved }
     /// ensures looked { steps.new.looked ≤ steps.old.looked + 4 * (length self.old.text - length self.new.text + 1) }
-    /// ensures least { steps.old.looked + min (length self.old.text) (length self.old.text - length self.new.text + 1) ≤ steps.new.looked }
+    /// ensures least { steps.old.looked + min (length self.old.text) (length self.old.text - length self.new.text + 1)
+    ///     ≤ steps.new.looked }
     /// ensures counted { steps.old.looked ≤ steps.new.looked }
     /// ```
     ///
@@ -88,7 +90,7 @@ impl<const N: usize> ArrayString<N> {
             }
             // SAFETY: `start as u8` is a boundary of `self`: `last_char` returns where the last character begins, which
             // is below 255, whatever the closure answers and whatever was counted.
-            unsafe { self.keep(start as u8) };
+            unsafe { self.set_len(start as u8) };
         }
     }
 
@@ -119,8 +121,10 @@ impl<const N: usize> ArrayString<N> {
     ///
     /// ```text
     /// requires callable { F.IsAlwaysCallable drops.now }
-    /// ensures text { (passes : ℕ → Bool) → ReturnsAs F.post drops.now passes → without_leading passes self.new.text ≡ without_leading passes self.old.text }
-    /// ensures done { IsTrue result → (passes : ℕ → Bool) → ReturnsAs F.post drops.now passes → without_leading passes self.new.text ≡ self.new.text }
+    /// ensures text { (passes : ℕ → Bool) → ReturnsAs F.post drops.now passes
+    ///     → without_leading passes self.new.text ≡ without_leading passes self.old.text }
+    /// ensures done { IsTrue result → (passes : ℕ → Bool) → ReturnsAs F.post drops.now passes
+    ///     → without_leading passes self.new.text ≡ self.new.text }
     /// ```
     ///
     /// [How to read a contract](crate::contracts)

@@ -148,7 +148,8 @@ impl<const N: usize> ArrayString<N> {
     ///
     /// ```text
     /// ensures in_array { IsStored N array.new 0 result.0 }
-    /// ensures stop { (items : List Unit16) → IsReading units.now items → first_stop items (cap N) ≡ stop_at result.1 (stored array.new 0 result.0).text }
+    /// ensures stop { (items : List Unit16) → IsReading units.now items
+    ///     → first_stop items (cap N) ≡ stop_at result.1 (stored array.new 0 result.0).text }
     /// ```
     ///
     /// [How to read a contract](crate::contracts)

@@ -3,7 +3,7 @@
 
 use crate::arraystring_base::utils::{Steps, last_char};
 use crate::arraystring_core::Drain;
-use crate::arraystring_core::fast::order::order;
+use crate::arraystring_core::blockwise::order::order;
 use core::cmp::Ordering;
 use core::fmt;
 use core::hash::{Hash, Hasher};
@@ -244,7 +244,10 @@ impl<const N: usize> Ord for Drain<N> {
     /// ```text
     /// ensures order { result ≡ slice_cmp nat_cmp self.now.left other.now.left }
     /// ensures of_bytes { result ≡ slice_cmp nat_cmp (bytes self.now.left) (bytes other.now.left) }
-    /// ensures says { MatchOrdering result (IsBefore self.now.left other.now.left) (self.now.left ≡ other.now.left) (IsBefore other.now.left self.now.left) }
+    /// ensures says { MatchOrdering result
+    ///     (IsBefore self.now.left other.now.left)
+    ///     (self.now.left ≡ other.now.left)
+    ///     (IsBefore other.now.left self.now.left) }
     /// ```
     ///
     /// [How to read a contract](crate::contracts)

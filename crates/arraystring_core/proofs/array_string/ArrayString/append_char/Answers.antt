@@ -20,5 +20,5 @@ returns g c =
     let none = c.in_default.ensures.text in
     let same : c.args.end - c.args.start.now ≡ c.args.len.now = omega arith in
     let done = rw (none.1, same, c.told-array) at c.in_ok-size.ensures in
-    let lies = char-appended_at_front c.requires.in_array refl c.args.ch (search rules) refl done.0 (rw done.1 at done.2) in
-    rw done.1 (record { in_array = lies.in_array; end = omega arith; text = (omega (arith, stored-size c.requires.in_array, done.0), lies.shown) })
+    let placed = char-appended_at_front c.requires.in_array refl c.args.ch (search rules) refl done.0 (rw done.1 at done.2) in
+    rw done.1 (record { in_array = placed.in_array; end = omega arith; text = (omega (arith, stored-size c.requires.in_array, done.0), placed.shown) })

@@ -10,5 +10,5 @@ returns g c =
     let room : c.args.start + c.args.len.now + width c.args.ch ≤ cap g.row.N = omega (arith, c.if-not-has_room.ensures.0 refl) in
     let same : c.args.len.now + c.encode.result ≡ c.args.end + c.encode.result - c.args.start = omega arith in
     let written = rw c.requires.end at c.encode.ensures.bytes in
-    let lies = rw same at (char-appended c.requires.in_array refl c.args.ch (search rules) c.encode.ensures.width room written) in
-    record { in_array = lies.in_array; end = omega arith; text = (omega arith, lies.shown) }
+    let placed = rw same at (char-appended c.requires.in_array refl c.args.ch (search rules) c.encode.ensures.width room written) in
+    record { in_array = placed.in_array; end = omega arith; text = (omega arith, placed.shown) }

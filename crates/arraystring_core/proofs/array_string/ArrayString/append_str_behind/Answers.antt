@@ -14,5 +14,5 @@ returns g c =
     let room : c.args.start + c.args.len.now + length c.args.string.now ≤ cap g.row.N = omega arith in
     let same : c.args.len.now + length c.args.string.now ≡ c.args.end + length c.args.string.now - c.args.start = omega arith in
     let written = rw (c.requires.end, c.as_bytes.ensures.value) at c.write_over.ensures in
-    let lies = rw same at (appended c.requires.in_array refl c.utf8.string room written) in
-    record { in_array = lies.in_array; end = omega arith; text = (omega (arith, wide, stored-size c.requires.in_array), lies.shown) }
+    let placed = rw same at (appended c.requires.in_array refl c.utf8.string room written) in
+    record { in_array = placed.in_array; end = omega arith; text = (omega (arith, wide, stored-size c.requires.in_array), placed.shown) }

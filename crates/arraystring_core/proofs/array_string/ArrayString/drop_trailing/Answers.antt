@@ -32,12 +32,12 @@ pub overflow_cast-start : goal.overflow_cast-start
 overflow_cast-start g c =
     omega (arith, last-size (chars-bytes c.as_str.utf8 c.as_str.ensures.bytes) c.in-Some.ensures.some, c.as_str.ensures.fits)
 
-pub keep-requires : goal.keep-requires
-keep-requires g c = (search rules, last-boundary (chars-bytes c.as_str.utf8 c.as_str.ensures.bytes) c.in-Some.ensures.some)
+pub set_len-requires : goal.set_len-requires
+set_len-requires g c = (search rules, last-boundary (chars-bytes c.as_str.utf8 c.as_str.ensures.bytes) c.in-Some.ensures.some)
 
 pub loop-start-smaller : goal.loop-start-smaller
 loop-start-smaller g c =
-    let sizes = left-size (chars-bytes c.as_str.utf8 c.as_str.ensures.bytes) c.in-Some.ensures.some c.keep.ensures in
+    let sizes = left-size (chars-bytes c.as_str.utf8 c.as_str.ensures.bytes) c.in-Some.ensures.some c.set_len.ensures in
     omega (arith, width-bounds c.in-Some.ch)
 
 pub loop-start-preserved : goal.loop-start-preserved
@@ -47,11 +47,11 @@ loop-start-preserved g c =
     let inv = c.loop-start.invariant in
     let ensured = c.last_char.ensures in
     let same = chars-bytes c.as_str.utf8 c.as_str.ensures.bytes in
-    let sizes = left-size same found c.keep.ensures in
-    let lengths = left-length same found c.keep.ensures in
+    let sizes = left-size same found c.set_len.ensures in
+    let lengths = left-length same found c.set_len.ensures in
     record {
       same = λ passes tells.
-          left-passes same found c.keep.ensures passes (sym (tells.at ch c.drops.result c.drops.ensures) ∙ c.if-not-drops.false)
+          left-passes same found c.set_len.ensures passes (sym (tells.at ch c.drops.result c.drops.ensures) ∙ c.if-not-drops.false)
           ∙ inv.same passes tells;
       looked = omega (arith, width-bounds ch);
       few = omega arith;

@@ -46,13 +46,13 @@ loop-piece-preserved g c =
     let before = (goal.at.loop-piece-preserved g c).After-as_bytes in
     let x = c.in-Some.piece in
     let written = rw c.as_bytes.ensures.value at c.write_over.ensures in
-    let lies = appended inv.in_array refl (piece g before) (room g before) (written-from-zero c.loop-piece.array _ x.now c.loop-piece.end written) in
+    let placed = appended inv.in_array refl (piece g before) (room g before) (written-from-zero c.loop-piece.array _ x.now c.loop-piece.end written) in
     let on = c.in-Some.ensures.goes.on inv.ends in
     record {
       can = on.0;
       ends = on.1;
-      in_array = lies.in_array;
-      text = next-text of_pieces c.loop-piece.yielded inv.text x lies.shown;
+      in_array = placed.in_array;
+      text = next-text of_pieces c.loop-piece.yielded inv.text x placed.shown;
     }
 
 pub returns-clause-whole : goal.returns-clause-whole

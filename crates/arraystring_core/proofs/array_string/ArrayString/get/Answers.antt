@@ -12,7 +12,7 @@ returns g c =
     let ends = c.plain_ends-start in
     let at = sym c.is_boundary.ensures ∙ c.if-not-is_boundary.false in
     let to = sym c.is_boundary-else-not-is_boundary.ensures ∙ c.if-not-is_boundary-2.false in
-    let borrowed = chars-bytes c.between.utf8 c.between.ensures in
+    let borrowed = chars-bytes c.slice_unchecked.utf8 c.slice_unchecked.ensures in
     let of = ends.ensures in
     let named = end_index of.end in
     let end : named (size t) ≡ ends.result.1 = ap named (sym c.len.ensures.value) ∙ sym {b = named c.len.result} of.holds.1 in

@@ -15,8 +15,8 @@ pub overflow_cast-start : goal.overflow_cast-start
 overflow_cast-start g c =
     omega (arith, last-size (chars-bytes c.as_str.utf8 c.as_str.ensures.bytes) c.in_ok-start.ensures.some)
 
-pub keep-requires : goal.keep-requires
-keep-requires g c = (search rules, last-boundary (chars-bytes c.as_str.utf8 c.as_str.ensures.bytes) c.in_ok-start.ensures.some)
+pub set_len-requires : goal.set_len-requires
+set_len-requires g c = (search rules, last-boundary (chars-bytes c.as_str.utf8 c.as_str.ensures.bytes) c.in_ok-start.ensures.some)
 
 pub returns-clause-edit : goal.returns-clause-edit
 returns-clause-edit g c =
@@ -25,4 +25,4 @@ returns-clause-edit g c =
     let found = c.in_ok-start.ensures.some in
     let parts = last-parts borrowed found in
     makes (popping text) text _ _ refl (sym (ap last_of parts ∙ last_of-push found.0 _))
-    (last-front borrowed found c.keep.ensures ∙ sym (ap all_but_last parts ∙ all_but_last-push found.0 _))
+    (last-front borrowed found c.set_len.ensures ∙ sym (ap all_but_last parts ∙ all_but_last-push found.0 _))

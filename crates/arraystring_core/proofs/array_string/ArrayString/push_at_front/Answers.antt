@@ -1,7 +1,7 @@
 use Rattle.std.proofs.Common.{◌+◌, ◌++◌, ◌∷◌, [], refl, ap, arith, rules}
 use Rattle.arraystring_base.specs.Text.{width}
 use Rattle.arraystring_core.proofs.StoredLaws.{opened-size}
-use Rattle.arraystring_core.proofs.SpanLemmas.{Lies}
+use Rattle.arraystring_core.proofs.SpanLemmas.{StoredAt}
 use Rattle.arraystring_core.proofs.AppendLemmas.{char-appended_at_front}
 use Rattle.arraystring_core.proofs.CauseLemmas.{makes-addition, refuses-addition}
 use Rattle.arraystring_core.proofs.array_string.ArrayString.push_at_front.Given as given
@@ -18,7 +18,7 @@ returns-in_default g c =
 
 -- what is then in the array
 written : (g : given.Over) (c : goal.After-self-3-1 g)
-    → Lies g.row.N c.append_char_at_front-appended.new.array 0 (c.self.inside.size + width c.args.ch) (c.args.self.now.text ++ c.args.ch ∷ [])
+    → StoredAt g.row.N c.append_char_at_front-appended.new.array 0 (c.self.inside.size + width c.args.ch) (c.args.self.now.text ++ c.args.ch ∷ [])
 written g c =
     let done = rw c.self.told at c.in-Some.ensures in
     char-appended_at_front c.self.invariant c.self.view_is c.args.ch (search rules) refl done.0 (rw done.1 at done.2)

@@ -1,7 +1,7 @@
 use Rattle.std.proofs.Common.{◌+◌, ◌++◌, chars, length, ap, arith}
 use Rattle.arraystring_base.proofs.TextLaws.{size-borrowed}
 use Rattle.arraystring_core.proofs.StoredLaws.{opened-size}
-use Rattle.arraystring_core.proofs.SpanLemmas.{Lies, appended_at_front}
+use Rattle.arraystring_core.proofs.SpanLemmas.{StoredAt, appended_at_front}
 use Rattle.arraystring_core.proofs.CauseLemmas.{makes-addition, refuses-addition}
 use Rattle.arraystring_core.proofs.array_string.ArrayString.push_str_at_front.Given as given
 use Rattle.arraystring_core.proofs.array_string.ArrayString.push_str_at_front.Goals as goal
@@ -17,7 +17,7 @@ returns-in_default g c =
 
 -- what is then in the array
 written : (g : given.Over) (c : goal.After-self-3-1 g)
-    → Lies g.row.N c.append_at_front-appended.new.array 0 (c.self.inside.size + length c.args.string.now) (c.args.self.now.text ++ chars c.args.string.now)
+    → StoredAt g.row.N c.append_at_front-appended.new.array 0 (c.self.inside.size + length c.args.string.now) (c.args.self.now.text ++ chars c.args.string.now)
 written g c =
     let done = rw (c.self.told, c.as_bytes.ensures.value) at c.in-Some.ensures in
     appended_at_front c.self.invariant c.self.view_is c.utf8.string done.0 (rw done.1 at done.2)

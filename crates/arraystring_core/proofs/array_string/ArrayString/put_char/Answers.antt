@@ -2,7 +2,7 @@ use Rattle.std.proofs.Common.{◌+◌, ◌-◌, ◌≤◌, ◌++◌, ◌∷◌, 
 use Rattle.arraystring_base.specs.Text.{size, cap, front, back}
 use Rattle.arraystring_base.proofs.TextLaws.{width-is, width-bounds}
 use Rattle.arraystring_core.proofs.StoredLaws.{opened-within}
-use Rattle.arraystring_core.proofs.SpanLemmas.{Lies}
+use Rattle.arraystring_core.proofs.SpanLemmas.{StoredAt}
 use Rattle.arraystring_core.proofs.AppendLemmas.{char-utf8, char-in_front, char-spelled, char-inserted}
 use Rattle.arraystring_core.proofs.array_string.ArrayString.put_char.Given as given
 use Rattle.arraystring_core.proofs.array_string.ArrayString.put_char.Goals as goal
@@ -54,7 +54,7 @@ encode-requires-2 g c =
 
 -- what is then in the array
 written : (g : given.Over) (c : goal.After-encode-2 g)
-    → Lies g.row.N c.encode-2.new.array c.self.inside.start (c.args.at + (c.len_utf8-len.result + (c.new-text.result.size - c.args.at)))
+    → StoredAt g.row.N c.encode-2.new.array c.self.inside.start (c.args.at + (c.len_utf8-len.result + (c.new-text.result.size - c.args.at)))
     (front c.args.self.now.text c.args.at ++ (c.args.ch ∷ back c.args.self.now.text c.args.at))
 written g c =
     let gap = c.open_gap in let text = c.new-text.ensures in

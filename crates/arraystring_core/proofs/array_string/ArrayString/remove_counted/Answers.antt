@@ -8,8 +8,8 @@ use Rattle.arraystring_core.proofs.array_string.ArrayString.remove_counted.Goals
 pub overflow_add-start : goal.overflow_add-start
 overflow_add-start g c = omega (arith, width-bounds c.char_at-ch.result.0)
 
-pub take_out-requires : goal.take_out-requires
-take_out-requires g c =
+pub remove_range-requires : goal.remove_range-requires
+remove_range-requires g c =
     let at = sym c.is_boundary.ensures ∙ c.if-not-is_boundary.false in
     let wide : width c.char_at-ch.result.0 ≡ c.char_at-ch.result.1 = sym c.char_at-ch.ensures.width in
     let next = rw wide at c.char_at-ch.ensures.next in
@@ -22,11 +22,11 @@ returns-clause-edit g c =
     let outside = inside-not t c.args.index (sym c.is_boundary.ensures ∙ c.if-not-is_boundary.false) in
     let rest = ap (λ w. back t (c.args.index + w)) c.char_at-ch.ensures.width ∙ c.char_at-ch.ensures.rest in
     makes _ _ _ _ (rw (lt-leb _ _ before, outside)) c.char_at-ch.ensures.first
-    (c.take_out.ensures.text ∙ ap (λ l. front t c.args.index ++ l) rest)
+    (c.remove_range.ensures.text ∙ ap (λ l. front t c.args.index ++ l) rest)
 
 pub returns-clause-tail_alone : goal.returns-clause-tail_alone
-returns-clause-tail_alone g c = rw (← c.char_at-ch.ensures.width) c.take_out.ensures.tail_alone
+returns-clause-tail_alone g c = rw (← c.char_at-ch.ensures.width) c.remove_range.ensures.tail_alone
 
 pub returns-clause-least : goal.returns-clause-least
 returns-clause-least g c =
-    rw (← c.char_at-ch.ensures.width) (c.take_out.ensures.least (λ e. omega (arith, width-bounds c.char_at-ch.result.0)))
+    rw (← c.char_at-ch.ensures.width) (c.remove_range.ensures.least (λ e. omega (arith, width-bounds c.char_at-ch.result.0)))

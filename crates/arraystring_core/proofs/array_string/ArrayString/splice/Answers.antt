@@ -2,7 +2,7 @@ use Rattle.std.proofs.Common.{◌+◌, ◌-◌, ◌++◌, chars, length, refl, a
 use Rattle.arraystring_base.specs.Text.{front, back}
 use Rattle.arraystring_base.proofs.TextLaws.{size-borrowed}
 use Rattle.arraystring_core.proofs.StoredLaws.{opened-size, opened-within}
-use Rattle.arraystring_core.proofs.SpanLemmas.{Lies, spliced, filled}
+use Rattle.arraystring_core.proofs.SpanLemmas.{StoredAt, spliced, filled}
 use Rattle.arraystring_core.proofs.array_string.ArrayString.splice.Given as given
 use Rattle.arraystring_core.proofs.array_string.ArrayString.splice.Goals as goal
 
@@ -28,7 +28,7 @@ returns-then-text-start-clause-tail_alone g c small =
 
 -- what is then in the array
 written : (g : given.Over) (c : goal.After-write_over g)
-    → Lies g.row.N c.write_over.new.array c.self.inside.start (c.args.start + (length c.args.given.now + (c.new-text.result.size - c.args.end)))
+    → StoredAt g.row.N c.write_over.new.array c.self.inside.start (c.args.start + (length c.args.given.now + (c.new-text.result.size - c.args.end)))
     (front c.args.self.now.text c.args.start ++ (chars c.args.given.now ++ back c.args.self.now.text c.args.end))
 written g c =
     let gap = c.open_gap in let text = c.new-text.ensures in

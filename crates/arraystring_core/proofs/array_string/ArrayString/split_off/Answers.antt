@@ -31,4 +31,4 @@ returns g c =
     let spelled = c.range_from.ensures.value ∙ ap (drop c.args.at) c.as_str.ensures.bytes ∙ bytes-back t c.args.at at in
     let rest = chars-bytes c.range_from.utf8 spelled in
     makes _ _ _ _ (rw (le-ltb _ _ reached, inside-not t c.args.at at))
-    (c.from_str_unchecked-rest.ensures ∙ rest) c.keep.ensures
+    (c.from_str_unchecked-rest.ensures ∙ rest) c.set_len.ensures

@@ -12,6 +12,6 @@ returns-then-not-has_room g c =
 pub returns : goal.returns
 returns g c =
     let zero : 0 + c.args.end ≡ c.args.end = omega arith in
-    let lies = char-appended c.requires refl c.args.ch (search rules) c.encode.ensures.width {after = c.encode.new.array}
+    let placed = char-appended c.requires refl c.args.ch (search rules) c.encode.ensures.width {after = c.encode.new.array}
     (omega (arith, c.if-not-has_room.ensures.0 refl)) (rw zero c.encode.ensures.bytes) in
-    (lies.in_array, lies.shown)
+    (placed.in_array, placed.shown)

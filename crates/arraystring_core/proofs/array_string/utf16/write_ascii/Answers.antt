@@ -1,6 +1,6 @@
 use Rattle.std.proofs.Common.{◌≡◌, ◌<◌, inl, inr, subst, arith, slice_index_or}
 use Rattle.std.proofs.lemmas.Bool.{cases_lt}
-use Rattle.arraystring_core.proofs.UnitLemmas.{run-longer, run-lies}
+use Rattle.arraystring_core.proofs.UnitLemmas.{run-longer, run-stored}
 use Rattle.arraystring_core.proofs.array_string.utf16.write_ascii.Goals as goal
 
 pub loop-run-preserved : goal.loop-run-preserved
@@ -21,11 +21,11 @@ loop-run-preserved g c =
 pub returns-else-units-run-lt128 : goal.returns-else-units-run-lt128
 returns-else-units-run-lt128 g c =
     let inv = c.loop-run.invariant in
-    let lies = run-lies c.args.array.now c.args.units.now c.loop-run.run c.told-array (omega arith) (omega arith) inv.ascii inv.bytes in
-    record { within = omega arith; ascii = inv.ascii; in_array = lies.in_array; text = lies.shown }
+    let placed = run-stored c.args.array.now c.args.units.now c.loop-run.run c.told-array (omega arith) (omega arith) inv.ascii inv.bytes in
+    record { within = omega arith; ascii = inv.ascii; in_array = placed.in_array; text = placed.shown }
 
 pub returns-after-loop-run : goal.returns-after-loop-run
 returns-after-loop-run g c =
     let inv = c.loop-run.invariant in
-    let lies = run-lies c.args.array.now c.args.units.now c.loop-run.run c.told-array (omega arith) (omega arith) inv.ascii inv.bytes in
-    record { within = omega arith; ascii = inv.ascii; in_array = lies.in_array; text = lies.shown }
+    let placed = run-stored c.args.array.now c.args.units.now c.loop-run.run c.told-array (omega arith) (omega arith) inv.ascii inv.bytes in
+    record { within = omega arith; ascii = inv.ascii; in_array = placed.in_array; text = placed.shown }
