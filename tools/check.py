@@ -73,7 +73,7 @@ def tests(arguments, root):
 # The parts, each with the words of its call, and how much it has to say at least that it looked at. A search that finds less than
 # there is fails at nothing else. So these are near what there is: what grows by more than a tenth is written here again.
 PARTS = [
-    (tests, [], {"{} tests of the tools": 239}),
+    (tests, [], {"{} tests of the tools": 241}),
     (trusted.main, [], {"run: {} definitions": 65, "all public contracts: {} definitions": 200}),
     (words.main, [], {"{} rows of docs/definitions.md": 22}),
     (promises.main, [], {"{} promises": 189}),

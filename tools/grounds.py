@@ -1,6 +1,6 @@
 """What a function of src/ stands on: the grounds of a control of it, and of the reasons why its `unsafe` calls are right.
 
-The grounds of a function are its text without comments, and what is read with it:
+The grounds of a function are its text without comments and however it is laid out, and what is read with it:
 - its stored proofs;
 - the contracts of all functions that it names, and the types, traits and constants that it or one of these names. A type comes with
   the impls of its traits but for their bodies, since an operator or a loop calls them without their name;
@@ -23,6 +23,7 @@ from modules import IMPORT, NAME, Modules, imports, module_of
 from repository import crates, read
 
 WORD = re.compile(r"\w+")
+TOKEN = re.compile(r"""(?s)"(?:[^"\\]|\\.)*"|'(?:[^'\\]|\\.)'|\w+|[^\w\s]""")
 USE = re.compile(r"(?ms)^(?:pub(?:\(\w+\))? )?use ([^;]*);")
 # (the item that a line at the left edge begins, and an impl, whose head may have several lines)
 KINDS = "struct|enum|union|trait|type|const|static"
@@ -37,6 +38,11 @@ def is_comment(line):
 def code_of(lines):
     """Some lines without those of comments, as one text."""
     return "\n".join(line for line in lines if line.strip() and not is_comment(line))
+
+
+def tokens_of(text):
+    """The words, literals and signs of a part of a source file: how it is laid out is no ground."""
+    return " ".join(TOKEN.findall(text))
 
 
 def leaves(tree, before=""):
@@ -154,7 +160,7 @@ class Scope:
         for owner, path in re.findall(r"\b(\w+)::((?:proofs|specs)::[\w:]+)", text):
             module, _, name = f"Rattle.{file.crate if owner == 'crate' else owner}.{path}".replace("::", ".").rpartition(".")
             items.add(self.tree.resolved(self.tree.modules.get(module, {}), name))
-        return {text, *file.imported(words)}, self.units_of(words) | {("item", it) for it in items - {None}}
+        return {tokens_of(text), *file.imported(words)}, self.units_of(words) | {("item", it) for it in items - {None}}
 
     def of_module(self, text, names, items):
         """A part of a module with what it imports, and what it names: items, and types of src/ as Rattle declares them."""

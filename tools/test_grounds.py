@@ -334,6 +334,18 @@ uncited n = refl
             ("", (f"{NUMBERS}/src/tests.rt", "fn tried() {\n    twice(1);\n}\n")),
         )
 
+    def test_how_a_source_is_laid_out_makes_nothing_stale(self):
+        self.assert_stale(
+            ("", (LIB, r"requires \{ fits value.now \}", "requires {\n        fits value.now\n    }")),
+            ("", (LIB, r"^    value.get\(\) \+ value", "    value\n        .get()\n        + value")),
+            ("twice", (LIB, r"^    value.get\(\) \+", "    value.get() ++")),
+        )
+
+    def test_a_literal_counts_with_its_spaces(self):
+        self.assertEqual(grounds.tokens_of("a  +\n  b"), grounds.tokens_of("a + b"))
+        for one, other in (('"a  b"', '"a b"'), ('"\\"  "', '"\\" "'), ("'\"' + \"  \"", "'\"' + \" \""), ("ab", "a b")):
+            self.assertNotEqual(grounds.tokens_of(one), grounds.tokens_of(other), one)
+
     def test_a_type_comes_with_its_comments_where_they_are_asked_for(self):
         self.assert_stale(
             (self.OF_SMALL, (SMALL, "^/// At most 9.", "/// Below 10.")),
