@@ -72,7 +72,8 @@ mod tests;
     let modules = "mod integration;\nmod kept;\npub mod laws;\n";
     let made = made_as("arraystring_core/src/lib.rt", modules).unwrap();
     assert!(made.ends_with("hange goes there.\nmod kept;\n"), "{made}");
-    let range = "impl ArrayString {\n    /// The part.\n    fn slice_unchecked(at: usize) -> usize {\n        at\n    }\n}\n";
+    let range =
+        "impl ArrayString {\n    /// The part.\n    fn slice_unchecked(at: usize) -> usize {\n        at\n    }\n}\n";
     let made = made_as("arraystring_core/src/array_string/borrowed_range.rt", range).unwrap();
     assert!(made.ends_with("hange goes there.\nimpl ArrayString {\n}\n"), "{made}");
     assert!(made_as("arraystring_core/src/array_string/other.rt", range).unwrap().contains("fn slice_unchecked("));
@@ -105,7 +106,9 @@ fn a_body_is_another_one_and_a_call_is_constant() {
     let get = "    pub fn get<R: RangeBounds<u8>>(&self, range: R) -> Option<&str> {\n        \
                let (start, end) = plain_ends(range, self.len());\n        self.as_str().get(start..end)\n    }\n";
     has("arraystring_core/src/array_string/borrowed_range.rt", RANGE, &[get]);
-    assert!(!made_as("arraystring_core/src/array_string/borrowed_range.rt", RANGE).unwrap().contains("slice_unchecked"));
+    assert!(
+        !made_as("arraystring_core/src/array_string/borrowed_range.rt", RANGE).unwrap().contains("slice_unchecked")
+    );
 }
 
 #[test]
