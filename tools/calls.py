@@ -7,10 +7,10 @@ counted calls, laws, the words of commands, and crates. A page names what is in 
 or `_unchecked` is named by `.._counted` or `.._unchecked`, too. A trait with arguments is named whole, such as `From<&str>`. Of what
 is lacking it says where it would stand: a file and a line, and that line as a neighbour of it stands there.
 
-The tests of both builds and the program without panics make most calls from one list, which is made of their signatures.
+The tables of both builds and the program without panics make most calls from one list, which is made of their signatures.
 
 tools/run calls             compares
-tools/run calls --write     first makes that list, crates/arraystring_tests/src/tests/listed.rt
+tools/run calls --write     first makes that list (call_lists.py)
 tools/run calls --added     prints the proved calls of the string that arraystring 0.3.0 lacks, but for the counted ones
 """
 import importlib.util
@@ -18,6 +18,7 @@ import re
 import textwrap
 from collections import namedtuple
 
+import call_lists
 import neighbours
 from page_parts import inline_code, section
 from repository import crates, read, sources
@@ -87,22 +88,8 @@ NOT_IN_TABLES = """
     from_iterator from_iterator_unchecked try_from_utf8 from_utf8 from_utf8_unchecked try_from_utf16 from_utf16 from_utf16_lossy
     as_str is_empty retain as_mut_str const_try_from_str is_full remaining_capacity try_from_format try_write
 """
-# What is made of the signatures: lists of the calls of the string, each with what it is given by the type of each parameter, or by its
-# name, too, where a type parameter is its type. A call with a parameter that has no entry here is made by hand where it is made.
-LIST = "crates/arraystring_tests/src/tests/listed.rt"
-GIVEN = {
-    "char": "ch", "&str": "text", "u8": "index", "&mut Steps": "steps", "range: R": "range", "characters: I": "chars",
-    "pieces: I": "pieces",
-}
-HEAD = """\
-// Made by `tools/run calls --write` of the signatures of the string's calls: the calls that tables and
-// rust/no_panic make, each with what it is given. A caller hands in a macro that makes them.
-
-"""
 # Calls by hand whose tests are in rust/arraystring/tests/by_hand and constants.rs.
 NOT_IN_EVERY_STATE = "as_mut_str const_try_from_str try_from_format"
-# What is said where the Rust crate is not made of the sources as they are.
-OLD = "    run `rust/erase/run --unproved` first, and do what it stops at: what is below is compared with older files"
 # Calls of std that lists of calls name, too.
 OF_STD = ["split_at_mut"]
 # The calls that arraystring 0.3.0 has, too. docs/differences.md names all others.
@@ -114,41 +101,11 @@ OF_THE_CRATE = """
 """
 
 
-def given(shape):
-    """What a call of this shape is given; None where it has no `self`, or a parameter of which nothing says what it is given."""
-    receiver, *parameters = [it.strip() for it in shape.partition(")")[0].strip("( ").split(",")]
-    found = [GIVEN.get(it.partition(": ")[2], GIVEN.get(it)) for it in parameters if it]
-    return found if receiver.endswith("self") and None not in found else None
-
-
 def listed_calls(root):
-    """The lists of calls by name, each with its calls and what these are given."""
+    """The lists of calls, but for those that can panic, and `len`, which returns a number that has a column of its own."""
     text = string_blocks(text_of(root, "crates/arraystring_core/src/**/*.rt"))
-    shapes = neighbours.shapes_of(text)
-    # (those that can panic are in no program without panics, and `len` returns a number, which has a column of its own)
-    by_hand = {*NOT_IN_TABLES.split(), *panicking(root), "len"}
-    found = {"whole_calls": {}, "index_calls": {}, "counted_calls": {}, "range_calls": {}}
-    for name in (it for it in shapes if it in string_calls(text) - by_hand and not it.endswith("_unchecked")):
-        words = given(shapes[name])
-        kind = next((it for it in ("range", "steps", "index") if it in words), "whole") if words is not None else None
-        if kind:
-            found["counted_calls" if kind == "steps" else f"{kind}_calls"][name] = words
-    return found
-
-
-def made_list(root):
-    """The text of the file of lists."""
-    lines = []
-    for kind, calls in listed_calls(root).items():
-        made = "".join(f"            {name}({' '.join(words)})\n" for name, words in calls.items())
-        head = f"macro_rules! {kind} {{\n    ($make:ident $with:tt) => {{\n        $make! {{\n            $with\n"
-        lines.append(f"{head}{made}        }}\n    }};\n}}\n\npub(crate) use {kind};\n")
-    return HEAD + "\n".join(lines)
-
-
-def listed_in(root, text):
-    """The names of the calls that a text makes from the lists."""
-    return {name for kind, calls in listed_calls(root).items() if f"{kind}!(" in text for name in calls}
+    safe = {it for it in string_calls(text) if not it.endswith("_unchecked")}
+    return call_lists.lists_of(text, safe - {*NOT_IN_TABLES.split(), *panicking(root), "len"})
 
 
 def panicking(root):
@@ -204,10 +161,11 @@ def call_places(root):
         return of_files(root, "rust/arraystring/src", but, "rust/arraystring/src/**/*.rs")
 
     yield "Rust calls", rust_calls(calls), of_files(root, rust_page, named(calls, listed), rust_page)
+    lists = listed_calls(root)
     # (the program links only if none of the calls in it can panic)
     program, bench = "rust/no_panic/src/main.rs", "rust/bench/calls.py"
     text = source(root / program)
-    made, linked = listed_in(root, text).union(re.findall(r"\b(\w+)\(", text)), safe - panicking(root)
+    made, linked = call_lists.made_in(lists, text).union(re.findall(r"\b(\w+)\(", text)), safe - panicking(root)
     yield "calls without panics", rust_calls(linked), of_files(root, program, linked & made, program)
     yield "calls of programs", rust_calls(safe), of_files(root, bench, bench_calls(root / bench), bench)
     every_state = [*root.glob("rust/arraystring/tests/every_state/*.rs")]
@@ -222,16 +180,13 @@ def call_places(root):
 
     proved, rust = "crates/arraystring_tests/src/tests/calls.rt", "rust/arraystring/tests/tables/calls.rs"
     text = source(root / proved)
-    arms = listed_in(root, text).union(ARM.findall(text.partition("match call {")[2]))
+    arms = call_lists.made_in(lists, text).union(ARM.findall(text.partition("match call {")[2]))
     text = source(root / rust)
     played = " ".join(re.findall(r'(?m)^const \w+: &str =\s*"([^"]*)";', text))
-    played = of_files(root, rust, listed_in(root, text).union(re.findall(r"\w+", played)), rust)
+    played = of_files(root, rust, call_lists.made_in(lists, text).union(re.findall(r"\w+", played)), rust)
     yield "calls of tables", of_files(root, proved, arms, proved), played
     tabled = calls - {*NOT_IN_TABLES.split()}
     yield "calls in tables", rust_calls(tabled), of_files(root, proved, tabled & arms, proved)
-    due = {name for calls in listed_calls(root).values() for name in calls}
-    written = set(re.findall(r"(?m)^ +(\w+)\(", read(root / LIST)))
-    yield "calls of lists", in_source._replace(names=due), of_files(root, LIST, written, LIST)
 
 
 def places(root):
@@ -293,22 +248,16 @@ def faults_of_pages(root):
         yield from (f"{page} names {it}, which is no call" for it in sorted(names - known))
 
 
-def faults_of_list(root):
-    """That the lists of calls are not as the signatures say."""
-    if read(root / LIST) != made_list(root):
-        yield f"{LIST} is not as the signatures of the calls are: `tools/run calls --write` writes it"
-
-
 def faults_of_made(root):
-    """The files of the Rust crate that have not the calls of their source, so that what is compared with them is of older sources:
-    as where rust/erase/run stopped, which then writes nothing."""
+    """The files of the Rust crate that have other calls than their source: where rust/erase/run stops, it writes nothing, and what
+    is compared with the Rust crate is compared with older sources."""
     for file in sorted(root.glob("rust/arraystring/src/**/*.rs")):
         origin = re.search(r"(?m)^// Made from (\S+) by ", read(file))
-        if origin and (root / origin[1]).is_file():
-            made, due = calls_of(read(file)), calls_of(read(root / origin[1]))
-            told = [f"lacks {', '.join(sorted(due - made))}"] * bool(due - made) + \
-                [f"has {', '.join(sorted(made - due))}"] * bool(made - due)
-            yield from [f"{file.relative_to(root)} is older than {origin[1]}: it {' and '.join(told)}"] * bool(told)
+        there, due = (calls_of(read(it)) for it in (file, root / origin[1] if origin else file))
+        for told, names in (("lacks", due - there), ("has", there - due)):
+            if names:
+                yield f"{file.relative_to(root)} is older than {origin[1]}: it {told} {', '.join(sorted(names))}"
+                yield "    run `rust/erase/run --unproved`, and do what it stops at: till then, older calls are compared below"
 
 
 def faults_of_moves(root):
@@ -322,17 +271,18 @@ def faults_of_moves(root):
 
 
 def main(arguments, root):
+    lists = listed_calls(root)
+    if arguments == ["--write"]:
+        (root / call_lists.FILE).write_text(call_lists.made(lists), encoding="utf-8")
     if arguments == ["--added"]:
         print(textwrap.fill(" ".join(sorted(added(root))), 100))
         return False
-    if arguments == ["--write"]:
-        (root / LIST).write_text(made_list(root), encoding="utf-8")
-    old = list(faults_of_made(root))
     twice = list(places(root))
     files = ["rust/arraystring/src/**/*.rs", *(f"crates/{it}/src/**/*.rt" for it in STRING_CRATES)]
     shapes = neighbours.shapes_of("\n".join(string_blocks(text_of(root, it)) for it in files))
     faults = [fault for it in twice for fault in faults_of(root, shapes, *it)]
-    faults = [*old, *[OLD] * bool(old), *faults_of_list(root), *faults, *faults_of_pages(root), *faults_of_moves(root)]
+    faults += [*faults_of_pages(root), *faults_of_moves(root)]
+    faults = [*faults_of_made(root), *call_lists.faults(root, lists), *faults]
     counts = [f"{len(here.names)} {what}" for what, here, _ in twice]
     print("\n".join(faults) or f"{sum(len(here.names) for _, here, _ in twice)} names stand in two places: {', '.join(counts)}")
     return bool(faults)
