@@ -1,5 +1,7 @@
 """The lists of calls that the tables of both builds and rust/no_panic make: macros in a file that Rattle and Rust read, which
 `tools/run calls --write` makes of the signatures of the string's calls."""
+from itertools import zip_longest
+
 import neighbours
 from repository import read
 
@@ -32,9 +34,9 @@ pub(crate) use {kind};
 
 def given(shape):
     """What a call of this shape is given; None where it has no `self`, or a parameter that has no entry."""
-    receiver, *parameters = [it.strip() for it in shape.partition(")")[0].strip("( ").split(",")]
-    found = [GIVEN.get(it.partition(": ")[2], GIVEN.get(it)) for it in parameters if it]
-    return found if receiver.endswith("self") and None not in found else None
+    receiver, *parameters = [it.strip() for it in shape[1:].partition(")")[0].split(",")]
+    found = [next((word for kind, word in GIVEN.items() if f": {it}".endswith(f": {kind}")), None) for it in parameters if it]
+    return found if receiver in ("self", "&self", "&mut self") and None not in found else None
 
 
 def lists_of(text, names):
@@ -63,7 +65,7 @@ def faults(root, lists):
     """That the file is not as it would be made, with the first line that differs."""
     due, found = made(lists).split("\n"), read(root / FILE).split("\n")
     if due != found:
-        at = next((at for at, lines in enumerate(zip(due, found)) if lines[0] != lines[1]), min(len(due), len(found)))
-        wanted = due[at].strip() if at < len(due) else "no more lines"
-        yield f"{FILE}:{at + 1}: not as the signatures of the calls say, which is: {wanted}"
+        line, wanted = next((at, due) for at, (due, found) in enumerate(zip_longest(due, found), 1) if due != found)
+        wanted = "no more lines" if wanted is None else wanted.strip()
+        yield f"{FILE}:{line}: not as the signatures of the calls say, which is: {wanted}"
         yield "    `tools/run calls --write` writes it"
