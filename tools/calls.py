@@ -7,7 +7,10 @@ counted calls, laws, the words of commands, and crates. A page names what is in 
 or `_unchecked` is named by `.._counted` or `.._unchecked`, too. A trait with arguments is named whole, such as `From<&str>`. Of what
 is lacking it says where it would stand: a file and a line, and that line as a neighbour of it stands there.
 
+The tables of both builds and the program without panics make most calls from one list, which is made of their signatures.
+
 tools/run calls             compares
+tools/run calls --write     first makes that list (call_lists.py)
 tools/run calls --added     prints the proved calls of the string that arraystring 0.3.0 lacks, but for the counted ones
 """
 import importlib.util
@@ -15,6 +18,7 @@ import re
 import textwrap
 from collections import namedtuple
 
+import call_lists
 import neighbours
 from page_parts import inline_code, section
 from repository import crates, read, sources
@@ -97,6 +101,18 @@ OF_THE_CRATE = """
 """
 
 
+def listed_calls(root):
+    """The lists of calls, but for those that can panic, and `len`, which returns a number that has a column of its own."""
+    text = string_blocks(text_of(root, "crates/arraystring_core/src/**/*.rt"))
+    safe = {it for it in string_calls(text) if not it.endswith("_unchecked")}
+    return call_lists.lists_of(text, safe - {*NOT_IN_TABLES.split(), *panicking(root), "len"})
+
+
+def panicking(root):
+    """The calls of the string that panic as those of `str` do."""
+    return set(re.findall(r'"ArrayString::(\w+)": LIKE_STR', read(root / "rust/bench/calls.py")))
+
+
 def bench_calls(file):
     """The calls of the string for which rust/bench/calls.py has a program."""
     spec = importlib.util.spec_from_file_location("bench_calls", file)
@@ -145,11 +161,12 @@ def call_places(root):
         return of_files(root, "rust/arraystring/src", but, "rust/arraystring/src/**/*.rs")
 
     yield "Rust calls", rust_calls(calls), of_files(root, rust_page, named(calls, listed), rust_page)
+    lists = listed_calls(root)
     # (the program links only if none of the calls in it can panic)
     program, bench = "rust/no_panic/src/main.rs", "rust/bench/calls.py"
-    panicking = set(re.findall(r'"ArrayString::(\w+)": LIKE_STR', read(root / bench)))
-    made = set(re.findall(r"\b(\w+)\(", source(root / program)))
-    yield "calls without panics", rust_calls(safe - panicking), of_files(root, program, (safe - panicking) & made, program)
+    text = source(root / program)
+    made, linked = call_lists.made_in(lists, text).union(re.findall(r"\b(\w+)\(", text)), safe - panicking(root)
+    yield "calls without panics", rust_calls(linked), of_files(root, program, linked & made, program)
     yield "calls of programs", rust_calls(safe), of_files(root, bench, bench_calls(root / bench), bench)
     every_state = [*root.glob("rust/arraystring/tests/every_state/*.rs")]
     tested = calls - {*NOT_IN_EVERY_STATE.split()}
@@ -162,9 +179,11 @@ def call_places(root):
     yield "calls that arraystring 0.3.0 lacks", rust_calls(lacking), of_files(root, differences, named(lacking, code), differences)
 
     proved, rust = "crates/arraystring_tests/src/tests/calls.rt", "rust/arraystring/tests/tables/calls.rs"
-    arms = set(ARM.findall(source(root / proved).partition("match call {")[2]))
-    played = " ".join(re.findall(r'(?m)^const \w+: &str =\s*"([^"]*)";', source(root / rust)))
-    played = of_files(root, rust, set(re.findall(r"\w+", played)), rust)
+    text = source(root / proved)
+    arms = call_lists.made_in(lists, text).union(ARM.findall(text.partition("match call {")[2]))
+    text = source(root / rust)
+    played = " ".join(re.findall(r'(?m)^const \w+: &str =\s*"([^"]*)";', text))
+    played = of_files(root, rust, call_lists.made_in(lists, text).union(re.findall(r"\w+", played)), rust)
     yield "calls of tables", of_files(root, proved, arms, proved), played
     tabled = calls - {*NOT_IN_TABLES.split()}
     yield "calls in tables", rust_calls(tabled), of_files(root, proved, tabled & arms, proved)
@@ -229,6 +248,18 @@ def faults_of_pages(root):
         yield from (f"{page} names {it}, which is no call" for it in sorted(names - known))
 
 
+def faults_of_made(root):
+    """The files of the Rust crate that have other calls than their source: where rust/erase/run stops, it writes nothing, and what
+    is compared with the Rust crate is compared with older sources."""
+    for file in sorted(root.glob("rust/arraystring/src/**/*.rs")):
+        origin = re.search(r"(?m)^// Made from (\S+) by ", read(file))
+        there, due = (calls_of(read(it)) for it in (file, root / origin[1] if origin else file))
+        for told, names in (("lacks", due - there), ("has", there - due)):
+            if names:
+                yield f"{file.relative_to(root)} is older than {origin[1]}: it {told} {', '.join(sorted(names))}"
+                yield "    run `rust/erase/run --unproved`, and do what it stops at: till then, older calls are compared below"
+
+
 def faults_of_moves(root):
     """The files outside of tests that name `move_run` and are not in its crate, which has to name it, so that a new name does
     not pass unseen."""
@@ -240,6 +271,9 @@ def faults_of_moves(root):
 
 
 def main(arguments, root):
+    lists = listed_calls(root)
+    if arguments == ["--write"]:
+        (root / call_lists.FILE).write_text(call_lists.made(lists), encoding="utf-8")
     if arguments == ["--added"]:
         print(textwrap.fill(" ".join(sorted(added(root))), 100))
         return False
@@ -248,6 +282,7 @@ def main(arguments, root):
     shapes = neighbours.shapes_of("\n".join(string_blocks(text_of(root, it)) for it in files))
     faults = [fault for it in twice for fault in faults_of(root, shapes, *it)]
     faults += [*faults_of_pages(root), *faults_of_moves(root)]
+    faults = [*faults_of_made(root), *call_lists.faults(root, lists), *faults]
     counts = [f"{len(here.names)} {what}" for what, here, _ in twice]
     print("\n".join(faults) or f"{sum(len(here.names) for _, here, _ in twice)} names stand in two places: {', '.join(counts)}")
     return bool(faults)

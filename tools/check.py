@@ -14,8 +14,8 @@ The last line says how many seconds each part took.
 
 tools/run check             writes nothing
 tools/run check --write     first lays out each crate by `rt fmt`, makes the Rust crate by rust/erase/run where cargo is there,
-                            and writes lines, counts and rows into the pages by `quotes --write`, `words --write` and
-                            `promises --write`
+                            and writes the lists of calls, and lines, counts and rows into the pages, by `calls --write`,
+                            `quotes --write`, `words --write` and `promises --write`
 tools/run check --record    before all that tries the controls without a fresh line, by `controls`, and proves the sources of the
                             Rust crate, by `proved`; it takes minutes where much has changed
 """
@@ -103,7 +103,7 @@ def is_written(root):
     commands = [(["rt", "fmt"], root / "crates" / it) for it in repository.crates(root)]
     commands += [(["rust/erase/run"], root)] if shutil.which("cargo") else []
     statuses = [status_of(*it) for it in commands]
-    for page in (quotes, words, promises):
+    for page in (calls, quotes, words, promises):
         page.main(["--write"], root)
     return not any(statuses)
 

@@ -1,4 +1,5 @@
 """What stands in two places, and where the move without a count may be named."""
+import call_lists
 import calls
 from planted import TreeTest
 
@@ -100,11 +101,14 @@ def expressions():
 ON_RUST, BODIES = "rust/arraystring/README.md", "the table of bodies in README.md"
 BELOW = "the list below the drawing in README.md"
 
+LISTS = {"range_calls": {}, "counted_calls": {"pop_counted": ["steps"]}, "index_calls": {}, "whole_calls": {"pop": []}}
+
 
 class Calls(TreeTest):
     FILES = {
         "README.md": README,
         "crates.txt": "arraystring_base:\narraystring:\narraystring_tests:\narraystring_uses:\n",
+        call_lists.FILE: call_lists.made(LISTS),
         LINES: 'match word {\n"pop" => {}\n"push" => {}\n',
         SCRIPTS: "|`pop`, `push C`|says `no char`|\n",
         "crates/arraystring/src/lib.rt": "pub fn capacity() {}\n",
@@ -253,3 +257,43 @@ class Calls(TreeTest):
             ("", ("crates/arraystring_uses/src/push.rt", "fn push() {\n    move_running()\n}\n")),
             ("arraystring_base has no move_run", (BASE, "move_run", "move_all")),
         )
+
+    def test_the_lists_make_calls_where_they_are_named(self):
+        """In the program and in both tables, which then need not name the calls that are in the lists."""
+        makes = "whole_calls!(make);\ncounted_calls!(make);\n"
+        played = [(PLAYERS[0], r'^ *"pop" =>.*\n', ""), (PLAYERS[0], r'"pop_counted" \| ', ""), (PLAYERS[1], "pop pop_counted ", "")]
+        for path, *changes in ((PROGRAM, (PROGRAM, "")), (PLAYERS[0], *played[:2]), (PLAYERS[1], *played[2:])):
+            with self.subTest(path), self.changed(*changes):
+                lacking = [f"{path} lacks {it}, which" for it in ("pop", "pop_counted")]
+                self.assertEqual([it in self.told(calls)[1] for it in lacking], [True, True])
+                with self.changed((path, r"\Z", makes)):
+                    self.assertFalse(self.told(calls)[0])
+                with self.changed((path, r"\Z", f"// {makes}")):
+                    self.assertEqual([it in self.told(calls)[1] for it in lacking], [True, False])
+
+    def test_the_lists_are_written_where_they_are_not_as_the_signatures(self):
+        for change, made in ((("pop_counted\\(&mut self, ", "pop_counted(&mut self, at: u8, "), "pop_counted(index steps)"),
+                             (("fn hidden", "pub fn as_str"), None),
+                             (("fn hidden", "pub fn len"), None),
+                             (("fn hidden", "pub fn slice"), None),
+                             (("fn hidden", "pub fn hidden_unchecked"), None)):
+            with self.subTest(change), self.changed((CORE, *change), (call_lists.FILE, call_lists.made(LISTS))):
+                self.assertEqual(f"which is: {made}\n" in self.told(calls)[1], bool(made))
+                self.assertEqual(self.told(calls)[1].startswith(f"{call_lists.FILE}:"), bool(made))
+                self.assertNotIn(call_lists.FILE, self.told(calls, "--write")[1])
+                self.assertNotIn(call_lists.FILE, self.told(calls)[1])
+
+    def test_made_files_that_are_older_than_their_sources_are_told_first(self):
+        source, made = "crates/arraystring_core/src/add.rt", "rust/arraystring/src/arraystring_core/add.rs"
+        text = "impl<const N: usize> Other<N> {\n    pub fn add() {}\n    pub fn more() {}\n    fn own() {}\n}\n"
+        head = f"// NOT PROVED: it is another.\n// Made from {source} by rust/erase.\n"
+        older = f"{made} is older than {source}: it "
+        last = "    run `rust/erase/run --unproved`, and do what it stops at: till then, older calls are compared below\n"
+        for change, told in ((f"{head}{text}", ""),
+                             (text.replace("more", "other"), ""),
+                             (f"{head}{text.replace('own', 'else')}", ""),
+                             (f"{head}{text.replace('pub fn add', 'fn add').replace('pub fn more', 'fn more')}", "lacks add, more"),
+                             (f"{head}{text.replace('fn own', 'pub fn own')}", "has own")):
+            with self.subTest(told), self.changed((source, text), (made, change)):
+                failed, said = self.told(calls)
+                self.assertEqual((failed, said.partition(last)[0]), (True, f"{older}{told}\n") if told else (False, said))

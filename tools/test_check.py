@@ -84,14 +84,14 @@ class Check(TreeTest):
 
         self.parts()
         self.put(check.subprocess, "run", run)
-        for module in (check.quotes, check.words, check.promises):
+        for module in (check.calls, check.quotes, check.words, check.promises):
             self.put(module, "main", page(module.__name__))
         failed, said = self.told(check, "--write")
         return failed, commands, said
 
     def test_what_can_be_written_is_written_and_what_cannot_is_a_fault(self):
         formed = [("rt fmt", "crates/numbers"), ("rt fmt", "crates/letters")]
-        pages = [(f"{it} --write", ".") for it in ("quotes", "words", "promises")]
+        pages = [(f"{it} --write", ".") for it in ("calls", "quotes", "words", "promises")]
         self.put(check.shutil, "which", lambda name: name)
         for failing in ("", "rt fmt", "rust/erase/run", "missing"):
             failed, commands, said = self.written(failing)

@@ -342,7 +342,24 @@ esac"""
         failed, _, calls = self.called(words=["--unproved"])
         self.assertEqual((failed, [it for it in calls if "erase/run" in it]), (False, ["erase/run --check --unproved"]))
         for words in (["--unprove"], ["--unproved", "--unproved"], [""]):
-            self.assertEqual(self.called(words=words), (True, "rust/check: the argument is --unproved, or none\n", []))
+            self.assertEqual(self.called(words=words), (True, "rust/check: the argument is --unproved or --record, or none\n", []))
+
+    def test_how_many_tests_have_run_is_recorded_by_a_flag_alone(self):
+        counted = (self.root / "rust/tests.txt").read_text(encoding="utf-8")
+        with self.changed(("rust/tests.txt", r"^erase: src \d", "erase: src 5")):
+            changed = (self.root / "rust/tests.txt").read_text(encoding="utf-8")
+            self.assert_refused("rust/check --record writes it, if these are meant")
+            for name in ("serde", "arrayvec"):
+                self.has_packages(but=name)
+                failed, said, _ = self.called(words=["--record"])
+                self.assertEqual((failed, "stays as it is (<), since tests were skipped" in said), (True, True), said)
+            self.assertEqual((self.root / "rust/tests.txt").read_text(encoding="utf-8"), changed)
+            self.has_packages()
+            failed, said, calls = self.called(words=["--record"])
+            self.assertIn("rust/check: rust/tests.txt has how many tests have run (>)\n", said)
+            self.assertEqual((failed, [it for it in calls if "erase/run" in it]), (False, ["erase/run --check"]))
+            self.assertEqual((self.root / "rust/tests.txt").read_text(encoding="utf-8"), counted)
+            self.assertNotIn("rust/tests.txt", self.called(words=["--record"])[1])
 
     def test_another_license_changelog_or_reference_is_refused(self):
         for page in ("arraystring/CHANGELOG.md", "arraystring/LICENSE", "arraystring_serde/LICENSE"):

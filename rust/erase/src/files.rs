@@ -156,10 +156,28 @@ fn is_by_hand(path: &str) -> bool {
     BY_HAND.iter().any(|(file, _)| path == *file)
 }
 
-/// Writes the files, and takes out those that are no longer made.
-pub fn write(made: &Made, target: &Path) -> Result<(), String> {
+/// How many files were written, and how many were taken out.
+#[derive(Default)]
+pub struct Written {
+    pub new: usize,
+    pub gone: usize,
+}
+
+impl Written {
+    /// What is said of it, where so many files are made.
+    pub fn told(&self, made: usize) -> String {
+        let Written { new, gone } = self;
+        let gone = if *gone > 0 { format!(", and {gone} taken out") } else { String::new() };
+        format!("{new} of {made} files written to rust/arraystring/src, {} stay as they were{gone}", made - new)
+    }
+}
+
+/// Writes the files that are not as they are made, and takes out those that are no longer made.
+pub fn write(made: &Made, target: &Path) -> Result<Written, String> {
+    let mut written = Written::default();
     for path in sources(target)?.iter().filter(|path| !is_by_hand(path) && !made.contains_key(*path)) {
         fs::remove_file(target.join(path)).map_err(|error| format!("{path}: {error}"))?;
+        written.gone += 1;
     }
     for (path, text) in made {
         let path = target.join(path);
@@ -169,8 +187,9 @@ pub fn write(made: &Made, target: &Path) -> Result<(), String> {
         let folder = path.parent().unwrap_or(target);
         fs::create_dir_all(folder).map_err(|error| format!("{}: {error}", folder.display()))?;
         fs::write(&path, text).map_err(|error| format!("{}: {error}", path.display()))?;
+        written.new += 1;
     }
-    Ok(())
+    Ok(written)
 }
 
 /// Formats the files by rustfmt, as its settings in a folder say. Returns whether it is there to do so.

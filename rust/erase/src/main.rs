@@ -71,13 +71,15 @@ fn run(root: &std::path::Path, is_check: bool, is_unproved_allowed: bool) -> Res
     let is_formatted = files::format(&mut made, &root.join("rust"))?;
     let target = root.join("rust/arraystring/src");
     let explained = words::explained(&made, &files::read(&target.join(words::PAGE))?)?;
-    if is_check {
+    let done = if is_check {
         files::compare(&made, &target, is_formatted)?;
         trust_page::compare(root)?;
+        format!("{} files are as in rust/arraystring/src", made.len())
     } else {
-        files::write(&made, &target)?;
+        let written = files::write(&made, &target)?;
         trust_page::write(root)?;
-    }
+        written.told(made.len())
+    };
     for (what, count) in &tally.counts {
         println!("{count:5} {what}");
     }
@@ -98,6 +100,6 @@ fn run(root: &std::path::Path, is_check: bool, is_unproved_allowed: bool) -> Res
         println!("rustfmt is not there: no file was formatted, and files are compared without their layout");
     }
     println!("{proved}");
-    println!("{} files {} rust/arraystring/src", made.len(), if is_check { "are as in" } else { "written to" });
+    println!("{done}");
     Ok(())
 }

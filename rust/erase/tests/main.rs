@@ -124,12 +124,15 @@ fn a_stale_file_is_told_and_made_anew() {
 
     let (status, printed, faults) = tree.told(&make);
     assert_eq!((status, faults), (Some(0), none.clone()));
-    assert!(printed.ends_with(" files written to rust/arraystring/src"), "{printed}");
+    let made = texts(&tree.0.join(WRITTEN)).iter().filter(|text| text.contains("// Made from crates/")).count();
+    assert_eq!(printed, format!("1 of {made} files written to {WRITTEN}, {} stay as they were", made - 1));
     assert_eq!(fs::read_to_string(&file).unwrap(), fresh);
 
     fs::write(tree.0.join(WRITTEN).join("left.rs"), "").unwrap();
     let why = "erase: rust/arraystring/src/left.rs has no source and is not written by hand";
     assert_eq!(tree.told(&check), (Some(1), none, why.to_string()));
+    let told = format!("0 of {made} files written to {WRITTEN}, {made} stay as they were, and 1 taken out");
+    assert_eq!(tree.told(&make).1, told);
 }
 
 #[test]
@@ -171,7 +174,8 @@ fn unproved_sources_stop_it_or_are_told_in_each_file() {
     assert!(printed.contains("\nNOT PROVED, as the first line of each file says: "), "{printed}");
     let (made, by_hand): (Vec<_>, Vec<_>) =
         texts(&written).into_iter().partition(|text| text.contains("\n// Made from crates/"));
-    assert!(printed.ends_with(&format!("\n{} files written to {WRITTEN}\n", made.len())), "{printed}");
+    let told = format!("\n{0} of {0} files written to {WRITTEN}, 0 stay as they were\n", made.len());
+    assert!(printed.ends_with(&told), "{printed}");
     assert!(made.iter().all(|text| text.starts_with("// NOT PROVED: ")));
     assert!(by_hand.iter().all(|text| !text.contains("NOT PROVED")));
     assert_eq!(tree.told(&["--check", "--unproved"]).0, Some(0));

@@ -6,6 +6,8 @@
 //! Left out are the calls that panic as those of `str` do (the index, `slice`, the case calls on a range, `utils::look`),
 //! `Debug`, which is printed by `core`'s own code, and what the features `alloc` and `std` add. What a caller's closure or iterator
 //! does is its own.
+//!
+//! `listed` has most of the calls. By hand are those that it has not, and more ranges.
 #![no_std]
 #![no_main]
 
@@ -23,6 +25,12 @@ use arraystring::utils::{
     Steps, is_boundary, is_char_boundary, is_inside_boundary, truncate_str, truncate_str_counted,
 };
 use arraystring::{ArrayString, CacheString, Error, arraystring};
+
+/// The lists of calls, which `tools/run calls --write` makes.
+mod listed {
+    include!("../../../crates/arraystring_tests/src/tests/listed.rt");
+}
+use listed::{counted_calls, index_calls, range_calls, whole_calls};
 
 #[link(name = "c")]
 unsafe extern "C" {}
@@ -59,9 +67,9 @@ type Text<const N: usize> = ArrayString<N>;
 fn shown<const N: usize>(string: &Text<N>, other: &Text<N>, at: u8, end: u8) -> bool {
     let mut sum = Sum(0);
     string.hash(&mut sum);
-    let text = string.as_str().len() + string.as_bytes().len() + string.len() as usize + sum.finish() as usize;
+    let text = string.as_str().len() + string.len() as usize + sum.finish() as usize;
     let order = string.cmp(other) == Ordering::Less || string < other || string.partial_cmp(other).is_none();
-    let is_part = string.get(at..end).is_some() || string.get(at..=end).is_some() || string.get(..).is_none();
+    let is_part = string.get(at..=end).is_some() || string.get(..).is_none();
     let is_text = *string == *other.as_str() || **string == **other || AsRef::<[u8]>::as_ref(string).is_empty();
     let beside = *string < *other.as_str() || *string < other.as_str() || other.as_str() == *string || string.is_full();
     is_text
@@ -103,20 +111,75 @@ fn made<const N: usize>(text: &str, bytes: &[u8], units: &[u16]) -> usize {
     strings.iter().flatten().map(|string| black_box(string).as_str().len()).sum()
 }
 
+/// What a call is given.
+struct Given<'a> {
+    text: &'a str,
+    ch: char,
+    at: u8,
+    end: u8,
+}
+
+/// What a call of a list is given.
+macro_rules! given {
+    (ch, $given:ident $steps:ident) => {
+        $given.ch
+    };
+    (text, $given:ident $steps:ident) => {
+        $given.text
+    };
+    (chars, $given:ident $steps:ident) => {
+        $given.text.chars()
+    };
+    (pieces, $given:ident $steps:ident) => {
+        [$given.text, $given.text]
+    };
+    (index, $given:ident $steps:ident) => {
+        $given.at
+    };
+    (range, $given:ident $steps:ident) => {
+        $given.at..$given.end
+    };
+    (steps, $given:ident $steps:ident) => {
+        $steps
+    };
+}
+
+/// Makes each call of a list, on a string that the compiler knows nothing of. What a call returns is used: it would else be left
+/// out of the program.
+macro_rules! make {
+    (($string:ident $values:ident $steps:ident) $($name:ident($($given:ident)*))*) => {
+        $(let _ = black_box(black_box(&mut *$string).$name($(given!($given, $values $steps)),*));)*
+    };
+}
+
+#[inline(never)]
+fn whole<const N: usize>(string: &mut Text<N>, given: &Given) {
+    whole_calls!(make (string given steps));
+}
+
+#[inline(never)]
+fn at_index<const N: usize>(string: &mut Text<N>, given: &Given) {
+    index_calls!(make (string given steps));
+}
+
+#[inline(never)]
+fn counted<const N: usize>(string: &mut Text<N>, given: &Given, steps: &mut Steps) {
+    counted_calls!(make (string given steps));
+}
+
+#[inline(never)]
+fn in_range<const N: usize>(string: &mut Text<N>, given: &Given, steps: &mut Steps) {
+    range_calls!(make (string given steps));
+}
+
 #[inline(never)]
 fn added<const N: usize>(string: &mut Text<N>, text: &str, ch: char) -> bool {
-    string.push_str(text);
-    string.extend_chars(text.chars());
-    string.extend_strs([text, text]);
     string.extend(text.chars());
     string.extend([text]);
     string.extend(&[ch, ch]);
     *string = core::ops::Add::add(*string, text);
     *string += text;
-    string.try_push(ch).is_ok()
-        || string.try_push_str(text).is_ok()
-        || string.write_str(text).is_ok()
-        || string.try_write(format_args!("{text}-{ch}")).map_err(Error::from).is_ok()
+    string.write_str(text).is_ok() || string.try_write(format_args!("{text}-{ch}")).map_err(Error::from).is_ok()
 }
 
 #[inline(never)]
@@ -128,30 +191,8 @@ fn written<const N: usize>(string: &mut Text<N>) {
 }
 
 #[inline(never)]
-fn inserted<const N: usize>(string: &mut Text<N>, at: u8, text: &str, ch: char, steps: &mut Steps) -> bool {
-    string.try_insert(at, ch).is_ok()
-        || string.try_insert_str(at, text).is_ok()
-        || string.insert_str(at, text).is_ok()
-        || string.try_insert_str_counted(at, text, steps).is_ok()
-}
-
-#[inline(never)]
 fn replaced<const N: usize>(string: &mut Text<N>, at: u8, end: u8, text: &str, steps: &mut Steps) -> bool {
-    string.replace_range(at..end, text).is_ok() || string.replace_range_counted(at..=end, text, steps).is_ok()
-}
-
-#[inline(never)]
-fn removed<const N: usize>(string: &mut Text<N>, at: u8, steps: &mut Steps) -> u32 {
-    let chars =
-        [string.pop(), string.pop_counted(steps), string.remove(at).ok(), string.remove_counted(at, steps).ok()];
-    string.trim();
-    string.trim_counted(steps);
-    string.trim_spaces();
-    let rest = string.split_off(at).map_or(0, |rest| u32::from(black_box(rest).len()));
-    if string.truncate(at).is_err() {
-        string.clear();
-    }
-    chars.into_iter().flatten().map(u32::from).fold(rest, u32::wrapping_add)
+    string.replace_range_counted(at..=end, text, steps).is_ok()
 }
 
 #[inline(never)]
@@ -176,12 +217,6 @@ fn drained<const N: usize>(string: &mut Text<N>, at: u8, end: u8, steps: &mut St
         sum = sum.wrapping_add(copy.as_str().len() as u32);
     }
     sum
-}
-
-#[inline(never)]
-fn cased<const N: usize>(string: &mut Text<N>) {
-    string.make_ascii_uppercase();
-    string.make_ascii_lowercase();
 }
 
 /// Where texts are printed.
@@ -259,15 +294,17 @@ fn all_at<const N: usize>(text: &str, bytes: &[u8], units: &[u16], at: u8, end: 
     let (mut string, other) = (black_box(Text::<N>::new()), black_box(Text::<N>::new()));
     let mut told = made::<N>(text, bytes, units);
     told += usize::from(added(&mut string, text, ch));
-    told += usize::from(inserted(&mut string, at, text, ch, &mut steps));
+    let given = Given { text, ch, at, end };
+    whole(&mut string, &given);
+    at_index(&mut string, &given);
+    counted(&mut string, &given, &mut steps);
+    in_range(&mut string, &given, &mut steps);
     told += usize::from(replaced(&mut string, at, end, text, &mut steps));
     told += drained(&mut string, at, end, &mut steps) as usize;
     retained(&mut string, ch);
-    cased(&mut string);
     written(&mut string);
     told += usize::from(shown(&string, &other, at, end));
-    told += printed(&string, &black_box(CacheString::new()), black_box(Error::Utf8));
-    told + removed(&mut string, at, &mut steps) as usize
+    told + printed(&string, &black_box(CacheString::new()), black_box(Error::Utf8))
 }
 
 /// The call that can panic.

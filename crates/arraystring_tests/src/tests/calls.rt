@@ -17,6 +17,7 @@
 //! `exhausted` is an inclusive range that was iterated to its end. `slice` has no row with `..=`.
 ghost use Rattle.std.specs.Prelude.{◌≤◌};
 
+use super::listed::{counted_calls, index_calls, range_calls, whole_calls};
 use super::table::{agree, character, hash_of, number, returned, string};
 use arraystring::utils::{Steps, is_char_boundary};
 use arraystring::{ArrayString, MaxString};
@@ -79,8 +80,8 @@ pub(crate) fn check_row<R: Abort + AllocGlobal, const N: usize>(
     let after = column(row, 5);
     for call in column(row, 1).split(' ') {
         *text = before;
-        let was_made = quiet(rt, text, call, row)
-            || at_the_end(rt, text, call, row)
+        let was_made = whole(rt, text, call, row)
+            || by_hand(rt, text, call, row)
             || compared(rt, text, call, row)
             || counted(rt, text, call, row)
             || at_index(rt, text, call, row)
@@ -93,38 +94,48 @@ pub(crate) fn check_row<R: Abort + AllocGlobal, const N: usize>(
     }
 }
 
-/// The calls that return nothing, and the numbers of a string. Like each function below, it makes
+/// What a call of a list is given.
+macro_rules! given {
+    (ch, $rt:ident $row:ident $steps:ident $range:ident) => { character($rt, $row, 3) };
+    (text, $rt:ident $row:ident $steps:ident $range:ident) => { column($row, 3) };
+    (chars, $rt:ident $row:ident $steps:ident $range:ident) => { column($row, 3).chars() };
+    (pieces, $rt:ident $row:ident $steps:ident $range:ident) => { column($row, 3).split(',') };
+    (index, $rt:ident $row:ident $steps:ident $range:ident) => { number($rt, $row, 2) };
+    (range, $rt:ident $row:ident $steps:ident $range:ident) => { $range };
+    (steps, $rt:ident $row:ident $steps:ident $range:ident) => { &mut $steps };
+}
+
+/// Makes the call of a row that is in a list, and asserts what it returns. If there is none, the
+/// function returns `false`.
+macro_rules! make {
+    (
+        ($rt:ident $row:ident $steps:ident $range:ident $string:ident.$call:ident)
+        $($name:ident($($given:ident)*))*
+    ) => {
+        match $call {
+            $(stringify!($name) => {
+                let result = $string.$name($(given!($given, $rt $row $steps $range)),*);
+                returned($rt, $row, result);
+            })*
+            _ => return false,
+        }
+    };
+}
+
+/// The calls of a list that are given no index and no counter. Like each function below, it makes
 /// the call of a row, asserts what it returns, and returns whether it has such a call.
-fn quiet<R: Abort + AllocGlobal, const N: usize>(
+fn whole<R: Abort + AllocGlobal, const N: usize>(
     rt: &R,
     text: &mut ArrayString<N>,
     call: &str,
     row: &str,
 ) -> bool {
-    let given = column(row, 3);
-    match call {
-        "push_str" => text.push_str(given),
-        "extend_chars" => text.extend_chars(given.chars()),
-        "extend_strs" => text.extend_strs(given.split(',')),
-        "trim" => text.trim(),
-        "trim_spaces" => text.trim_spaces(),
-        "clear" => text.clear(),
-        "retain_without" => {
-            let _ = retained(text, "", given);
-        }
-        "make_ascii_uppercase" => text.make_ascii_uppercase(),
-        "make_ascii_lowercase" => text.make_ascii_lowercase(),
-        "add" => *text = *text + given,
-        "len" => agree(rt, row, text.len(), number(rt, row, 6)),
-        "capacity" => agree(rt, row, ArrayString::<N>::capacity(), number(rt, row, 6)),
-        _ => return false,
-    }
-    returned(rt, row, ());
+    whole_calls!(make (rt row steps range text.call));
     true
 }
 
-/// The calls at the end of the text, and those on all of it.
-fn at_the_end<R: Abort + AllocGlobal, const N: usize>(
+/// The numbers of a string, and what is no call of a list.
+fn by_hand<R: Abort + AllocGlobal, const N: usize>(
     rt: &R,
     text: &mut ArrayString<N>,
     call: &str,
@@ -132,10 +143,19 @@ fn at_the_end<R: Abort + AllocGlobal, const N: usize>(
 ) -> bool {
     let given = column(row, 3);
     match call {
-        "try_push" => returned(rt, row, text.try_push(character(rt, row, 3))),
-        "try_push_str" => returned(rt, row, text.try_push_str(given)),
+        "add" => {
+            *text = *text + given;
+            returned(rt, row, ());
+        }
+        "len" => {
+            agree(rt, row, text.len(), number(rt, row, 6));
+            returned(rt, row, ());
+        }
+        "capacity" => {
+            agree(rt, row, ArrayString::<N>::capacity(), number(rt, row, 6));
+            returned(rt, row, ());
+        }
         "write_str" => returned(rt, row, text.write_str(given)),
-        "pop" => returned(rt, row, text.pop()),
         "push_unchecked" => returned(
             rt,
             row,
@@ -146,8 +166,11 @@ fn at_the_end<R: Abort + AllocGlobal, const N: usize>(
             let copy: Result<_, _> = text.clone();
             returned(rt, row, copy);
         }
-        "as_bytes" => returned(rt, row, text.as_bytes()),
         "retain_in_turn" => returned(rt, row, retained(text, given, "")),
+        "retain_without" => {
+            let _ = retained(text, "", given);
+            returned(rt, row, ());
+        }
         _ => return false,
     }
     true
@@ -246,30 +269,15 @@ fn counted<R: Abort + AllocGlobal, const N: usize>(
     call: &str,
     row: &str,
 ) -> bool {
-    let given = column(row, 3);
-    if !call.ends_with("_counted") {
-        return false;
-    }
     let mut steps = Steps::new();
-    let mut moved = number(rt, row, 6) as u64;
-    match call {
-        "pop_counted" => {
-            returned(rt, row, text.pop_counted(&mut steps));
-            agree(rt, row, steps.looked(), moved);
-            moved = 0;
-        }
-        "trim_counted" => returned(rt, row, text.trim_counted(&mut steps)),
-        "remove_counted" => {
-            let result = text.remove_counted(number(rt, row, 2), &mut steps);
-            returned(rt, row, result);
-        }
-        "try_insert_str_counted" => {
-            let result = text.try_insert_str_counted(number(rt, row, 2), given, &mut steps);
-            returned(rt, row, result);
-        }
-        _ => return false,
+    counted_calls!(make (rt row steps range text.call));
+    let count = number(rt, row, 6) as u64;
+    if call == "pop_counted" {
+        agree(rt, row, steps.looked(), count);
+        agree(rt, row, steps.moved(), 0);
+    } else {
+        agree(rt, row, steps.moved(), count);
     }
-    agree(rt, row, steps.moved(), moved);
     true
 }
 
@@ -287,12 +295,6 @@ fn at_index<R: Abort + AllocGlobal, const N: usize>(
     };
     let given = column(row, 3);
     match call {
-        "try_insert" => returned(rt, row, text.try_insert(index, character(rt, row, 3))),
-        "insert_str" => returned(rt, row, text.insert_str(index, given)),
-        "try_insert_str" => returned(rt, row, text.try_insert_str(index, given)),
-        "remove" => returned(rt, row, text.remove(index)),
-        "truncate" => returned(rt, row, text.truncate(index)),
-        "split_off" => returned(rt, row, text.split_off(index)),
         "is_char_boundary" => returned(rt, row, is_char_boundary(text, index)),
         "insert_unchecked" => returned(
             rt,
@@ -304,7 +306,7 @@ fn at_index<R: Abort + AllocGlobal, const N: usize>(
             row,
             push_or_insert_str_unchecked(text, Some(index), given),
         ),
-        _ => return false,
+        _ => index_calls!(make (rt row steps range text.call)),
     }
     true
 }
@@ -414,18 +416,7 @@ fn of_range<R: Abort + AllocGlobal, B: RangeBounds<u8> + Drop, const N: usize>(
     requires { N ≤ 300 }
 {
     let mut steps = Steps::new();
-    let given = column(row, 3);
-    match call {
-        "get" => returned(rt, row, text.get(range)),
-        "drain" => returned(rt, row, text.drain(range)),
-        "replace_range" => returned(rt, row, text.replace_range(range, given)),
-        "drain_counted" => returned(rt, row, text.drain_counted(range, &mut steps)),
-        "replace_range_counted" => {
-            let result = text.replace_range_counted(range, given, &mut steps);
-            returned(rt, row, result);
-        }
-        _ => return false,
-    }
+    range_calls!(make (rt row steps range text.call));
     if call.ends_with("_counted") {
         agree(rt, row, steps.moved(), number(rt, row, 6) as u64);
     }

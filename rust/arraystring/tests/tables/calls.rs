@@ -7,8 +7,10 @@
 //! conditions hold, and else gives `None`. The number is what `len` and `capacity` return, how many bytes `pop_counted` looked
 //! at, and how many bytes any other call that counts moved. A range is written as in Rust, or as two bounds in brackets.
 
+use std::collections::BTreeSet;
 use std::fmt::Write;
 use std::ops::{Bound, RangeBounds};
+use std::sync::Mutex;
 
 use arraystring::utils::{Steps, is_char_boundary};
 use arraystring::{ArrayString, MaxString};
@@ -16,21 +18,40 @@ use arraystring::{ArrayString, MaxString};
 use crate::at_capacity;
 use crate::rows::{column, hash_of, parsed, returned, rows};
 
-const QUIET: &str = "push_str extend_chars extend_strs trim trim_spaces clear retain_without make_ascii_uppercase \
-                     make_ascii_lowercase add len capacity";
-const AT_THE_END: &str =
-    "try_push try_push_str write_str pop push_unchecked push_str_unchecked clone as_bytes retain_in_turn cmp hash";
-const COUNTED: &str = "pop_counted trim_counted remove_counted try_insert_str_counted";
-const AT_INDEX: &str = "try_insert insert_str try_insert_str remove truncate split_off is_char_boundary insert_unchecked \
-                        insert_str_unchecked";
-const IN_RANGE: &str = "slice make_ascii_uppercase_in make_ascii_lowercase_in get drain replace_range drain_counted \
-                        replace_range_counted";
+/// The lists of calls that the tests of the proved crate make, too.
+mod listed {
+    include!("../../../../crates/arraystring_tests/src/tests/listed.rt");
+}
+use listed::{counted_calls, index_calls, range_calls, whole_calls};
+
+/// The calls of no list.
+const BY_HAND: &str = "add len capacity write_str push_unchecked push_str_unchecked clone cmp hash retain_in_turn retain_without \
+                       is_char_boundary insert_unchecked insert_str_unchecked slice make_ascii_uppercase_in \
+                       make_ascii_lowercase_in";
+
+/// The calls that rows have made.
+static MADE: Mutex<BTreeSet<String>> = Mutex::new(BTreeSet::new());
+
+/// The names of the calls of a list.
+macro_rules! names {
+    (() $($name:ident($($given:ident)*))*) => { [$(stringify!($name)),*].as_slice() };
+}
+
+/// The names of the calls of the tables.
+fn names() -> impl Iterator<Item = &'static str> {
+    let listed = [whole_calls!(names()), index_calls!(names()), counted_calls!(names()), range_calls!(names())];
+    listed.into_iter().flatten().copied().chain(BY_HAND.split_whitespace())
+}
 
 /// Whether this is the name of a call of the tables.
 pub fn is_call(name: &str) -> bool {
-    [QUIET, AT_THE_END, COUNTED, AT_INDEX, IN_RANGE]
-        .iter()
-        .any(|names| names.split_whitespace().any(|known| known == name))
+    names().any(|known| known == name)
+}
+
+/// The calls of the tables that no row has made.
+pub fn not_made() -> Vec<&'static str> {
+    let made = MADE.lock().expect("no panic");
+    names().filter(|name| !made.contains(*name)).collect()
 }
 
 /// Makes the calls of blocks. The line over a block is `# 8 | what it shows`, where 8 is the capacity.
@@ -92,46 +113,66 @@ fn hold_from<const N: usize>(table: &str, string: impl Fn(&str) -> ArrayString<N
 
 /// Makes a call, and asserts what it returns.
 fn make<const N: usize>(text: &mut ArrayString<N>, call: &str, row: &str) {
-    let is_of = |names: &str| names.split_whitespace().any(|name| name == call);
-    if is_of(QUIET) {
-        quiet(text, call, row);
-    } else if is_of(AT_THE_END) {
-        at_the_end(text, call, row);
-    } else if is_of(COUNTED) {
-        counted(text, call, row);
-    } else if is_of(AT_INDEX) {
-        at_index(text, call, row);
-    } else {
-        in_range(text, call, row);
-    }
+    let is_made = whole(text, call, row)
+        || by_hand(text, call, row)
+        || compared(text, call, row)
+        || counted(text, call, row)
+        || at_index(text, call, row)
+        || in_range(text, call, row);
+    assert!(is_made, "no call of the tables: {call} in {row}");
+    MADE.lock().expect("no panic").insert(call.to_string());
 }
 
-fn quiet<const N: usize>(text: &mut ArrayString<N>, call: &str, row: &str) {
-    let given = column(row, 3);
-    match call {
-        "push_str" => text.push_str(given),
-        "extend_chars" => text.extend_chars(given.chars()),
-        "extend_strs" => text.extend_strs(given.split(',')),
-        "trim" => text.trim(),
-        "trim_spaces" => text.trim_spaces(),
-        "clear" => text.clear(),
-        "retain_without" => drop(retained(text, "", given)),
-        "make_ascii_uppercase" => text.make_ascii_uppercase(),
-        "make_ascii_lowercase" => text.make_ascii_lowercase(),
-        "add" => *text = std::ops::Add::add(*text, given),
-        "len" => assert_eq!(text.len(), parsed(row, 6), "{row}"),
-        _ => assert_eq!(ArrayString::<N>::capacity(), parsed(row, 6), "{row}"),
-    }
-    returned(row, ());
+/// What a call of a list is given.
+macro_rules! given {
+    (ch, $row:ident $steps:ident $range:ident) => {
+        parsed($row, 3)
+    };
+    (text, $row:ident $steps:ident $range:ident) => {
+        column($row, 3)
+    };
+    (chars, $row:ident $steps:ident $range:ident) => {
+        column($row, 3).chars()
+    };
+    (pieces, $row:ident $steps:ident $range:ident) => {
+        column($row, 3).split(',')
+    };
+    (index, $row:ident $steps:ident $range:ident) => {
+        parsed($row, 2)
+    };
+    (range, $row:ident $steps:ident $range:ident) => {
+        $range
+    };
+    (steps, $row:ident $steps:ident $range:ident) => {
+        &mut $steps
+    };
 }
 
-fn at_the_end<const N: usize>(text: &mut ArrayString<N>, call: &str, row: &str) {
+/// Makes the call of a row that is in a list, and asserts what it returns. If there is none, the function returns `false`.
+macro_rules! make {
+    (($row:ident $steps:ident $range:ident $string:ident.$call:ident) $($name:ident($($given:ident)*))*) => {
+        match $call {
+            $(stringify!($name) => returned($row, $string.$name($(given!($given, $row $steps $range)),*)),)*
+            _ => return false,
+        }
+    };
+}
+
+/// The calls of a list that are given no index and no counter. Like each function below, it makes the call of a row, asserts what
+/// it returns, and returns whether it has such a call.
+fn whole<const N: usize>(text: &mut ArrayString<N>, call: &str, row: &str) -> bool {
+    whole_calls!(make (row steps range text.call));
+    true
+}
+
+/// The numbers of a string, and what is no call of a list.
+fn by_hand<const N: usize>(text: &mut ArrayString<N>, call: &str, row: &str) -> bool {
     let given = column(row, 3);
     match call {
-        "try_push" => returned(row, text.try_push(parsed(row, 3))),
-        "try_push_str" => returned(row, text.try_push_str(given)),
+        "add" => returned(row, *text = std::ops::Add::add(*text, given)),
+        "len" => returned(row, assert_eq!(text.len(), parsed(row, 6), "{row}")),
+        "capacity" => returned(row, assert_eq!(ArrayString::<N>::capacity(), parsed(row, 6), "{row}")),
         "write_str" => returned(row, text.write_str(given)),
-        "pop" => returned(row, text.pop()),
         // SAFETY: it fits.
         "push_unchecked" => {
             returned(row, where_it_fits(text, None, given, |text| unsafe { text.push_unchecked(parsed(row, 3)) }))
@@ -142,21 +183,33 @@ fn at_the_end<const N: usize>(text: &mut ArrayString<N>, call: &str, row: &str) 
         }
         #[allow(clippy::clone_on_copy)]
         "clone" => returned(row, Some(text.clone())),
-        "as_bytes" => returned(row, text.as_bytes()),
         "retain_in_turn" => returned(row, retained(text, given, "")),
+        "retain_without" => {
+            let _ = retained(text, "", given);
+            returned(row, ());
+        }
+        _ => return false,
+    }
+    true
+}
+
+/// The calls that compare the string with that which is given.
+fn compared<const N: usize>(text: &ArrayString<N>, call: &str, row: &str) -> bool {
+    let other = &ArrayString::<N>::from(column(row, 3));
+    match call {
         "cmp" => {
-            let other = &ArrayString::<N>::from(given);
             let order = Ord::cmp(text, other);
             assert_eq!(PartialOrd::partial_cmp(text, other), Some(order), "{row}");
             assert_eq!((*text == *other, *text != *other), (order.is_eq(), order.is_ne()), "{row}");
             returned(row, order);
         }
-        _ => {
-            let other = ArrayString::<N>::from(given);
-            assert_eq!((hash_of(text), hash_of(text)), (hash_of(&other), hash_of(other.as_str())), "{row}");
+        "hash" => {
+            assert_eq!((hash_of(text), hash_of(text)), (hash_of(other), hash_of(other.as_str())), "{row}");
             returned(row, ());
         }
+        _ => return false,
     }
+    true
 }
 
 /// Keeps the characters at whose turn no `-` is given and that are not among the dropped ones, and returns all that were asked
@@ -182,27 +235,24 @@ fn where_it_fits<const N: usize>(
     (fits && is_place).then(|| call(text))
 }
 
-fn counted<const N: usize>(text: &mut ArrayString<N>, call: &str, row: &str) {
+/// The calls that count, but those on a range.
+fn counted<const N: usize>(text: &mut ArrayString<N>, call: &str, row: &str) -> bool {
     let mut steps = Steps::new();
-    match call {
-        "pop_counted" => returned(row, text.pop_counted(&mut steps)),
-        "trim_counted" => returned(row, text.trim_counted(&mut steps)),
-        "remove_counted" => returned(row, text.remove_counted(parsed(row, 2), &mut steps)),
-        _ => returned(row, text.try_insert_str_counted(parsed(row, 2), column(row, 3), &mut steps)),
+    counted_calls!(make (row steps range text.call));
+    let count: u64 = parsed(row, 6);
+    if call == "pop_counted" {
+        assert_eq!((steps.looked(), steps.moved()), (count, 0), "{row}");
+    } else {
+        assert_eq!(steps.moved(), count, "{row}");
     }
-    let told = if call == "pop_counted" { (steps.looked(), 0) } else { (steps.moved(), steps.moved()) };
-    assert_eq!((told.0, steps.moved()), (parsed(row, 6), told.1), "{row}");
+    true
 }
 
-fn at_index<const N: usize>(text: &mut ArrayString<N>, call: &str, row: &str) {
-    let (index, given) = (parsed(row, 2), column(row, 3));
+/// The calls at an index.
+fn at_index<const N: usize>(text: &mut ArrayString<N>, call: &str, row: &str) -> bool {
+    let Ok(index) = column(row, 2).parse() else { return false };
+    let given = column(row, 3);
     match call {
-        "try_insert" => returned(row, text.try_insert(index, parsed(row, 3))),
-        "insert_str" => returned(row, text.insert_str(index, given)),
-        "try_insert_str" => returned(row, text.try_insert_str(index, given)),
-        "remove" => returned(row, text.remove(index)),
-        "truncate" => returned(row, text.truncate(index)),
-        "split_off" => returned(row, text.split_off(index)),
         "is_char_boundary" => returned(row, is_char_boundary(text, index)),
         // SAFETY: it fits, and the index is a boundary.
         "insert_unchecked" => returned(
@@ -210,11 +260,13 @@ fn at_index<const N: usize>(text: &mut ArrayString<N>, call: &str, row: &str) {
             where_it_fits(text, Some(index), given, |text| unsafe { text.insert_unchecked(index, parsed(row, 3)) }),
         ),
         // SAFETY: it fits, and the index is a boundary.
-        _ => returned(
+        "insert_str_unchecked" => returned(
             row,
             where_it_fits(text, Some(index), given, |text| unsafe { text.insert_str_unchecked(index, given) }),
         ),
+        _ => index_calls!(make (row steps range text.call)),
     }
+    true
 }
 
 /// Two bounds of a type of its own.
@@ -231,7 +283,8 @@ impl RangeBounds<u8> for Untold {
     }
 }
 
-fn in_range<const N: usize>(text: &mut ArrayString<N>, call: &str, row: &str) {
+/// The calls on a range.
+fn in_range<const N: usize>(text: &mut ArrayString<N>, call: &str, row: &str) -> bool {
     let written = column(row, 2);
     if written == "exhausted" {
         let mut range = 1..=3u8;
@@ -254,24 +307,25 @@ fn in_range<const N: usize>(text: &mut ArrayString<N>, call: &str, row: &str) {
 }
 
 /// Makes a call on a range; those that panic where there is no such part, only where `get` finds one.
-fn of_range<const N: usize>(text: &mut ArrayString<N>, call: &str, row: &str, range: impl RangeBounds<u8> + Clone) {
-    let (given, mut steps) = (column(row, 3), Steps::new());
+fn of_range<const N: usize>(
+    text: &mut ArrayString<N>,
+    call: &str,
+    row: &str,
+    range: impl RangeBounds<u8> + Clone,
+) -> bool {
+    let mut steps = Steps::new();
     let is_part = text.get(range.clone()).is_some();
     match call {
         "slice" | "make_ascii_uppercase_in" | "make_ascii_lowercase_in" if !is_part => returned(row, None::<()>),
         "slice" => returned(row, text.slice(range)),
         "make_ascii_uppercase_in" => returned(row, text.make_ascii_uppercase_in(range)),
         "make_ascii_lowercase_in" => returned(row, text.make_ascii_lowercase_in(range)),
-        "get" => returned(row, text.get(range)),
-        "drain" => returned(row, text.drain(range)),
-        "replace_range" => returned(row, text.replace_range(range, given)),
-        "drain_counted" => returned(row, text.drain_counted(range, &mut steps)),
-        "replace_range_counted" => returned(row, text.replace_range_counted(range, given, &mut steps)),
-        _ => panic!("no call of the tables: {call} in {row}"),
+        _ => range_calls!(make (row steps range text.call)),
     }
     if call.ends_with("_counted") {
         assert_eq!(steps.moved(), parsed(row, 6), "{row}");
     }
+    true
 }
 
 /// A place in a range, or any where none is written.

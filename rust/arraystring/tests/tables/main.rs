@@ -84,4 +84,6 @@ fn each_table_holds_here_too() {
         let count = played.get(shape).copied().unwrap_or_default();
         assert!(count >= *least, "{count} rows of {shape} were played, where at least {least} are due: {played:?}");
     }
+    let missing = calls::not_made();
+    assert!(missing.is_empty(), "no row of a table in crates/arraystring_tests/src/tests makes {missing:?}");
 }
