@@ -18,7 +18,7 @@ pub fn first_tight_position()
 /// An input of lines that are each followed by a line feed has these lines. So has an input whose last line is
 /// not empty and lacks its line feed. Each input has one of these two forms.
 pub fn lines_of_input()
-    ensures all_terminated { (all : List (List ℕ)) → AreOneLine all → lines (joined_lines all) ≡ all }
+    ensures all_ended { (all : List (List ℕ)) → AreOneLine all → lines (joined_lines all) ≡ all }
     ensures last_open { (all : List (List ℕ)) (last : List ℕ) → AreOneLine all → IsOneLine last → 0 < length last
         → lines (joined_lines all ++ last) ≡ all ++ last ∷ [] }
     ensures no_ends { (input : List ℕ) → AreOneLine (lines input) }

@@ -68,7 +68,7 @@ joined (b ∷ bs) =
 
 pub returns : goal.returns
 returns c = record {
-  all_terminated = lines-joined_lines;
+  all_ended = lines-joined_lines;
   last_open = lines-open;
   no_ends = lines-one_line;
   input = joined;
