@@ -230,16 +230,21 @@ impl Lexer<'_> {
                     self.pass(1);
                     return Ok(Kind::Text);
                 }
-                '\\' if self.rest().len() > 1 => self.pass_escape(),
+                '\\' => self.pass_escape(),
                 _ => return fault(line, "a text without its end"),
             }
         }
     }
 
+    /// Passes the next character, if there is one.
+    fn pass_character(&mut self) {
+        self.pass(self.rest().chars().next().map_or(0, char::len_utf8));
+    }
+
     /// Passes a `\` and the character behind it.
     fn pass_escape(&mut self) {
         self.pass(1);
-        self.pass(self.peek().len_utf8());
+        self.pass_character();
     }
 
     /// Passes a character or a lifetime.
@@ -251,7 +256,7 @@ impl Lexer<'_> {
             self.pass_while(|ch| ch != '\'' && ch != '\n');
         } else {
             let first = self.peek();
-            self.pass(first.len_utf8().min(self.rest().len()));
+            self.pass_character();
             if self.peek() != '\'' && is_letter(first) {
                 self.pass_while(is_inside_word);
                 return Ok(Kind::Lifetime);
@@ -1114,8 +1119,8 @@ fn filled(pattern: &[Token], bound: &Bound) -> Vec<Token> {
 
 /// Puts tokens in the place of others, at the line of those.
 fn put(tokens: &mut Vec<Token>, range: std::ops::Range<usize>, mut with: Vec<Token>) {
-    let (line, at) = tokens.get(range.start).map_or((0, (0, 0)), |token| (token.line, token.at));
-    with.iter_mut().for_each(|token| (token.line, token.at) = (line, at));
+    let line = tokens[range.start].line;
+    with.iter_mut().for_each(|token| token.line = line);
     tokens.splice(range, with);
 }
 
@@ -1201,7 +1206,7 @@ fn called(tokens: &[Token]) -> Option<&str> {
 /// Whether tokens are one macro of an access, as the list of rewrites has it, and nothing else.
 fn is_access(tokens: &[Token]) -> bool {
     let [name, sign, ..] = tokens else { return false };
-    let is_of_list = |made: &str| made.trim_start_matches('*').split_once('!').is_some_and(|(of, _)| name.is(of));
+    let is_of_list = |made: &str| made.split_once('!').is_some_and(|(of, _)| name.is(of));
     sign.is("!")
         && REWRITES.iter().any(|rewrite| is_of_list(rewrite.made))
         && behind_group(tokens, 2) == Some(tokens.len())

@@ -960,6 +960,7 @@ fn what_is_no_program_is_refused_at_its_line() {
         ("fn f() {\n    g('ab') }\n", "2: a character without its end"),
         ("fn f() {\n    g('1) }\n", "2: a character without its end"),
         ("fn f() {\n    g('", "2: a character without its end"),
+        ("fn f() {\n    g('\\", "2: a character without its end"),
         ("fn f() {\n    g('\\x41)\n'; }\n", "2: a character without its end"),
         ("fn f() {}\n/* /*\n */\n", "2: a comment without its end"),
         ("fn f() {\n    g(rb\"\") }\n", "2: a word with a quote or a `#` behind it"),
@@ -1175,6 +1176,7 @@ fn a_call_and_a_path_of_fields_are_known() {
         ("a.b.f(c)", Some("f")),
         ("A::<B>::f(c)", Some("f")),
         ("f::<A, B>(c)", Some("f")),
+        ("f::<A>(b > c)", Some("f")),
         ("f::<A(c)", None),
         ("a + f(b)", None),
         ("<A>(b)", None),
@@ -1262,6 +1264,17 @@ fn a_rewrite_is_undone_where_what_is_around_allows_it() {
 }
 
 #[test]
+fn what_a_rewrite_makes_stands_in_its_line() {
+    let made = |lines: usize| format!("fn f() {{{}g(*get_unchecked!(a, 1)) }}\n", "\n".repeat(lines));
+    for lines in 0..=9 {
+        // (the made file begins with a line that names its source)
+        let line = lines + 2;
+        let words = format!("::f`: `{{ g ( a [ 1 ] ) }}` (line {line}) for `{{ g ( a ) }}` (line 1)");
+        differs("fn f() { g(a) }\n", &made(lines), &words);
+    }
+}
+
+#[test]
 fn a_pattern_matches_what_it_says() {
     for (text, of, from, wanted) in [
         ("f($a)", "f(b + c)", 0, Some(6)),
@@ -1282,6 +1295,7 @@ fn a_pattern_matches_what_it_says() {
         ("f($fields)", "f(b.c())", 0, None),
         ("f($fields)", "f(b.c)", 0, Some(6)),
         ("for $item in $all {", "for a in b.c() { d }", 0, Some(9)),
+        ("for $item in $all {", "for a in { b } { d }", 0, Some(7)),
         ("f", "g", 0, None),
         ("f g", "f", 0, None),
     ] {
@@ -1306,6 +1320,7 @@ fn a_comma_is_free_where_it_makes_no_tuple() {
         ("f<A, B<C>,>(d: (E,),)", true, "f<A, B<C> >(d: (E,))"),
         ("A<B>,>", true, "A<B> >"),
         ("a < b,>", false, "a < b,>"),
+        ("a < b > (c,)", false, "a < b > (c,)"),
     ] {
         assert_eq!(shown(&without_commas(rust_tokens(text), is_head)), shown(&rust_tokens(wanted)), "{text}");
     }

@@ -287,6 +287,17 @@ fn the_size_hint_of_a_walk_bounds_what_is_left() {
 }
 
 #[test]
+fn the_size_hint_of_a_walk_is_met_at_each_length() {
+    // A pair is two units of one item, and a letter is one: of so many units pairs are the fewest items, and letters the most.
+    let (pairs, letters) = ([0xD83E, 0xDD14].repeat(150), [0x61; 300]);
+    for len in 0..=300 {
+        let (of_pairs, of_letters) = (Units::new(&pairs[..len]), Units::new(&letters[..len]));
+        assert_eq!(of_pairs.size_hint(), of_letters.size_hint());
+        assert_eq!(of_pairs.size_hint(), (of_pairs.clone().count(), Some(of_letters.count())), "{len}");
+    }
+}
+
+#[test]
 fn the_size_hint_of_a_drain_bounds_what_is_left() {
     let of_width = ["m", "é", "€", "🤔"];
     for len in 0..=60 {
