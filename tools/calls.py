@@ -249,15 +249,13 @@ def faults_of_pages(root):
 
 
 def faults_of_made(root):
-    """The files of the Rust crate that have other calls than their source: where rust/erase/run stops, it writes nothing, and what
-    is compared with the Rust crate is compared with older sources."""
+    """The files of the Rust crate that have other calls than their source: where rust/erase/run stops, it writes nothing."""
     for file in sorted(root.glob("rust/arraystring/src/**/*.rs")):
         origin = re.search(r"(?m)^// Made from (\S+) by ", read(file))
         there, due = (calls_of(read(it)) for it in (file, root / origin[1] if origin else file))
         for told, names in (("lacks", due - there), ("has", there - due)):
             if names:
                 yield f"{file.relative_to(root)} is older than {origin[1]}: it {told} {', '.join(sorted(names))}"
-                yield "    run `rust/erase/run --unproved`, and do what it stops at: till then, older calls are compared below"
 
 
 def faults_of_moves(root):
@@ -274,6 +272,10 @@ def main(arguments, root):
     lists = listed_calls(root)
     if arguments == ["--write"]:
         (root / call_lists.FILE).write_text(call_lists.made(lists), encoding="utf-8")
+    older = list(faults_of_made(root))
+    if older:
+        print(*older, "so nothing is compared: run `rust/erase/run --unproved`, and do what it stops at", sep="\n")
+        return True
     if arguments == ["--added"]:
         print(textwrap.fill(" ".join(sorted(added(root))), 100))
         return False
@@ -282,7 +284,7 @@ def main(arguments, root):
     shapes = neighbours.shapes_of("\n".join(string_blocks(text_of(root, it)) for it in files))
     faults = [fault for it in twice for fault in faults_of(root, shapes, *it)]
     faults += [*faults_of_pages(root), *faults_of_moves(root)]
-    faults = [*faults_of_made(root), *call_lists.faults(root, lists), *faults]
+    faults = [*call_lists.faults(root, lists), *faults]
     counts = [f"{len(here.names)} {what}" for what, here, _ in twice]
     print("\n".join(faults) or f"{sum(len(here.names) for _, here, _ in twice)} names stand in two places: {', '.join(counts)}")
     return bool(faults)

@@ -283,12 +283,12 @@ class Calls(TreeTest):
                 self.assertNotIn(call_lists.FILE, self.told(calls, "--write")[1])
                 self.assertNotIn(call_lists.FILE, self.told(calls)[1])
 
-    def test_made_files_that_are_older_than_their_sources_are_told_first(self):
+    def test_nothing_is_compared_with_made_files_that_are_older_than_their_sources(self):
         source, made = "crates/arraystring_core/src/add.rt", "rust/arraystring/src/arraystring_core/add.rs"
         text = "impl<const N: usize> Other<N> {\n    pub fn add() {}\n    pub fn more() {}\n    fn own() {}\n}\n"
         head = f"// NOT PROVED: it is another.\n// Made from {source} by rust/erase.\n"
         older = f"{made} is older than {source}: it "
-        last = "    run `rust/erase/run --unproved`, and do what it stops at: till then, older calls are compared below\n"
+        last = "so nothing is compared: run `rust/erase/run --unproved`, and do what it stops at\n"
         for change, told in ((f"{head}{text}", ""),
                              (text.replace("more", "other"), ""),
                              (f"{head}{text.replace('own', 'else')}", ""),
@@ -296,4 +296,6 @@ class Calls(TreeTest):
                              (f"{head}{text.replace('fn own', 'pub fn own')}", "has own")):
             with self.subTest(told), self.changed((source, text), (made, change)):
                 failed, said = self.told(calls)
-                self.assertEqual((failed, said.partition(last)[0]), (True, f"{older}{told}\n") if told else (False, said))
+                self.assertEqual(failed, bool(told))
+                if told:
+                    self.assertEqual(said, f"{older}{told}\n{last}")

@@ -113,13 +113,14 @@ fn hold_from<const N: usize>(table: &str, string: impl Fn(&str) -> ArrayString<N
 
 /// Makes a call, and asserts what it returns.
 fn make<const N: usize>(text: &mut ArrayString<N>, call: &str, row: &str) {
+    assert!(is_call(call), "no call of the tables: {call} in {row}");
     let is_made = whole(text, call, row)
         || by_hand(text, call, row)
         || compared(text, call, row)
         || counted(text, call, row)
         || at_index(text, call, row)
         || in_range(text, call, row);
-    assert!(is_made, "no call of the tables: {call} in {row}");
+    assert!(is_made, "nothing makes {call} in {row}");
     MADE.lock().expect("no panic").insert(call.to_string());
 }
 
