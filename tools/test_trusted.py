@@ -1,10 +1,8 @@
 """Which definitions a contract reaches, what specs/ may hold, and what the page has to have."""
 import re
 
-import modules
 import trusted
 from planted import TreeTest
-from repository import read
 
 WORDS = """\
 use Rattle.std.specs.Prelude.{◌≡◌, length}
@@ -177,50 +175,3 @@ class Trusted(TreeTest):
             ("", (trusted.PAGE, r"^\|`IsShort t`\|short\|\n\|`limit`\|three\|", "|`IsShort t`, `limit`|both|")),
             (in_the_place("IsShort", "rest_of"), (LIST, "(pub mod Words\n)(pub mod Rows\n)", r"\2\1")),
         )
-
-
-class Modules(TreeTest):
-    """What the names in a module stand for."""
-
-    FILES = {
-        "crates.txt": "base:\nuser: base\n",
-        FILE: WORDS + "\ndata Kind : Type 0 where\n  plain : Kind\n  (wide : ℕ) : Kind\n",
-        "crates/user/specs/Lib.antt": "pub use Rattle.base.specs.Words\n",
-    }
-
-    def named(self, term, text):
-        """The names of the items that a term stands for beside these imports."""
-        tree = modules.Modules(self.root)
-        return sorted(it.name for it in tree.named(term, modules.imports(text)))
-
-    def test_a_name_stands_for_what_is_imported_by_it(self):
-        for text, term, wanted in (
-            ("use Rattle.base.specs.Words.{limit}\n", "limit + limits + words.limit", ["limit"]),
-            ("use Rattle.base.specs.Words.{limit as most, IsShort}\n", "most limit", ["limit"]),
-            ("use Rattle.base.specs.Words.{limit as most, IsShort}\n", "limit", []),
-            ("ghost use Rattle.base.specs.Words as words;\n", "words.limit Words.IsShort", ["limit"]),
-            ("use Rattle.base.specs.Words\n", "Words.limit words.IsShort", ["limit"]),
-            ("pub use Rattle.base.specs.Words.{plain}\n", "plain", ["Kind"]),
-            ("unfoldable pub use Rattle.base.specs.Words.{plain}\n", "plain", ["Kind"]),
-            ("use Rattle.user.specs.Words.{\n  limit,\n  IsShort as Brief\n}\n", "Brief t", ["IsShort"]),
-            ("use Rattle.other.specs.Words.{limit}\n", "limit", []),
-        ):
-            with self.subTest(text, term=term):
-                self.assertEqual(self.named(term, text), wanted)
-
-    def test_labels_of_clauses_and_records_and_fields_are_no_words(self):
-        text = "use Rattle.base.specs.Words.{limit, IsShort}\n"
-        for term in ("ensures limit { IsShort t }", "requires limit { IsShort t }", "record { limit = IsShort t }",
-                     "record { other = IsShort t; limit = 0 }", "let limit = IsShort t in t", "IsShort t.limit",
-                     "record {\n  limit = IsShort t\n}"):
-            with self.subTest(term):
-                self.assertEqual(self.named(term, text), ["IsShort"])
-        self.assertEqual(self.named("record { other = limit }", text), ["limit"])
-
-    def test_an_item_has_its_lines_and_the_comment_above_it(self):
-        items, _ = modules.parsed((self.root / FILE).relative_to(self.root), read(self.root / FILE))
-        told = [("IsShort", "a text is short", 2), ("limit", "how long a short text is at most", 2), ("Kind", "", 3)]
-        self.assertEqual([(it.name, it.comment, len(it.lines)) for it in items], told)
-        self.assertTrue(all(it.is_definition for it in items))
-        passed = "unfoldable pub use Rattle.base.specs.Words.{limit}\n"
-        self.assertEqual([it.name for it in modules.parsed((self.root / FILE).relative_to(self.root), passed)[0]], [])
