@@ -38,6 +38,7 @@ LISTED = "rust/equivalent.txt"
 WORKERS = 2
 # For how many seconds of a processor each file of tests may go on, and for how many of the clock.
 LEAST, LONGEST = 10, 600
+TOO_LONG = (-signal.SIGXCPU, -signal.SIGKILL)
 FORK = multiprocessing.get_context("fork")
 
 COMPARISONS = {
@@ -46,7 +47,7 @@ COMPARISONS = {
 }
 SUMS = {ast.Add: "-", ast.Sub: "+", ast.Mult: "+", ast.BitOr: "&", ast.BitAnd: "|", ast.FloorDiv: "*", ast.Mod: "*"}
 PAIRS = [("any", "all"), ("min", "max"), ("startswith", "endswith"), ("removeprefix", "removesuffix"), ("partition", "rpartition"),
-         ("find", "rfind"), ("match", "search"), ("continue", "break"), ("append", "remove"), ("rglob", "glob")]
+         ("find", "rfind"), ("match", "search"), ("append", "remove"), ("rglob", "glob")]
 OPPOSITES = {**dict(PAIRS), **{other: one for one, other in PAIRS}}
 
 
@@ -56,7 +57,7 @@ class Places(ast.NodeVisitor):
     def __init__(self, text):
         self.text = text.encode()
         lines = self.text.splitlines(keepends=True)
-        self.starts = [sum(map(len, lines[:it])) for it in range(len(lines) + 1)]
+        self.starts = [sum(map(len, lines[:it])) for it in range(len(lines))]
         self.around, self.found = [], []
         self.visit(ast.parse(text))
 
@@ -76,11 +77,11 @@ class Places(ast.NodeVisitor):
             self.put(*self.span(node), text)
 
     def between(self, one, other, word, texts):
-        """Changes the sign that stands between two parts."""
+        """Changes the sign that stands between two parts, as it stands there first: what comes behind it may be a comment."""
         start, end = self.span(one)[1], self.span(other)[0]
-        at = self.text.find(word.encode(), start, end)
-        for text in texts if at >= 0 else []:
-            self.put(at, at + len(word), text)
+        front, sign, _ = self.text[start:end].partition(word.encode())
+        for text in texts if sign else []:
+            self.put(start + len(front), start + len(front) + len(sign), text)
 
     def generic_visit(self, node):
         for field in ("body", "orelse", "finalbody"):
@@ -105,6 +106,12 @@ class Places(ast.NodeVisitor):
     def visit_Expr(self, node):
         if not isinstance(node.value, ast.Constant):
             self.generic_visit(node)
+
+    def visit_Continue(self, node):
+        self.put_at(node, "break")
+
+    def visit_Break(self, node):
+        self.put_at(node, "continue")
 
     def visit_Return(self, node):
         if node.value is not None:
@@ -234,10 +241,10 @@ def run_tests(folder, name, seconds):
         del sys.modules[it]
     sys.path.insert(0, str(folder))
     nowhere = os.open(os.devnull, os.O_RDWR)
-    for it in range(3):
+    for it in (0, 1, 2):
         os.dup2(nowhere, it)
-    sys.stdout = sys.stderr = open(os.devnull, "w")
-    resource.setrlimit(resource.RLIMIT_CPU, (seconds, seconds))
+    # (a limit that nobody may raise would fail the tests of this tool, which set limits of their own)
+    resource.setrlimit(resource.RLIMIT_CPU, (seconds, resource.RLIM_INFINITY))
     unittest.main(name, argv=["", "-f"])
 
 
@@ -266,7 +273,7 @@ def seen_by(tree, file, text, tests, usual):
         status, _ = ran(tree, it, LEAST + int(10 * usual[it]))
         (tree / file).write_bytes(kept)
         if status:
-            return it if status > 0 else f"{it} (it ran too long)"
+            return f"{it} (it ran too long)" if status in TOO_LONG else it
     return None
 
 
@@ -290,14 +297,12 @@ def tried(root, asked, end):
         for number in range(WORKERS):
             tree = copies.enter_context(copied(root, "out", "target"))
             # (which is read where a file is as it was, however short a time ago that was)
-            compileall.compile_dir(tree / "tools", quiet=1, invalidation_mode=py_compile.PycInvalidationMode.CHECKED_HASH)
-            worker = FORK.Process(target=work, args=(tree, asked[number::WORKERS], tests, end, waiting))
-            worker.start()
-            copies.callback(worker.join)
+            compileall.compile_dir(tree / "tools", quiet=True, invalidation_mode=py_compile.PycInvalidationMode.CHECKED_HASH)
+            FORK.Process(target=work, args=(tree, asked[number::WORKERS], tests, end, waiting)).start()
         for _ in range(WORKERS):
             for name, by in iter(waiting.get, None):
                 fates[name] = by
-                print(f"{name}: {by or 'not seen'}", file=sys.stderr, flush=True)
+                print(f"{name}: {by or 'not seen'}", file=sys.stderr)
     return fates
 
 
