@@ -126,8 +126,9 @@ class Fates(TreeTest):
     def test_the_tests_that_reach_a_tool_are_asked_the_nearest_first(self):
         for file, text in (
             ("sums", ""), ("deep", "import sums as other\n"), ("deeper", "def f():\n    from deep import g\n"), ("test_sums", ""),
-            ("test_a", "import deeper\n"), ("test_z", "import unittest, sums\n"), ("test_run", ""), ("test_none", "import unittest\n"),
-            ("test_zero", "import deep\nimport sums\n"), ("none_test", "import sums\n"), ("more/test_more", "import sums\n"),
+            ("test_a", "import deeper\n"), ("test_z", "import unittest, sums\n"), ("test_run", ""),
+            ("test_none", "import unittest\n"), ("test_zero", "import deep\nimport sums\n"), ("none_test", "import sums\n"),
+            ("more/test_more", "import sums\n"),
         ):
             self.write(f"tools/{file}.py", text)
         self.write("tools/test_sums_of_sums.py", "import sums\n")
