@@ -3,6 +3,7 @@ import re
 
 import trusted
 from planted import TreeTest
+from repository import ROOT, crates
 
 WORDS = """\
 use Rattle.std.specs.Prelude.{◌≡◌, length}
@@ -52,10 +53,11 @@ pub fn length_of(line: &Line) -> u8
 }
 """
 PAGE = "|Definition|What|\n|---|---|\n|`IsShort t`|short|\n|`limit`|three|\n|`rest_of t`|all but one|\n"
-LAWS = "use Rattle.base.specs.Words.{IsShort}\n\npub empty-short : IsShort []\nempty-short = omega arith\n"
+LAWS = "use Rattle.base.specs.Words.{IsShort}\nuse Rattle.base.proofs.Order.{total}\n\npub empty-short : IsShort []\nempty-short = omega arith\n"
 LIST, FILE, END = "crates/base/specs/Lib.antt", "crates/base/specs/Words.antt", r"\Z"
 RUN, USER = "crates/base/src/lib.rt", "crates/user/src/lib.rt"
 IN_ORDER = ["IsShort", "limit", "rest_of"]
+LIBRARIES = list(trusted.LIBRARIES)
 
 
 class Trusted(TreeTest):
@@ -79,8 +81,9 @@ class Trusted(TreeTest):
         return re.findall(r"(?m)^crates/\S+antt:\d+: (\S+): ", said)
 
     def test_a_contract_reaches_what_its_words_are_made_of(self):
-        failed, said = self.told(trusted)
-        self.assertEqual((failed, said.splitlines()[0]), (False, "run: 3 definitions, 6 lines"))
+        self.write("crates/base/proofs/Bounds.antt", "-- no part of specs/\nabbrev pub most : 3 ≡ 3 → ℕ\nmost e = 3\n")
+        counts = "".join(f"{it}: 3 definitions, 6 lines\n" for it in ("run", "all public contracts", "all of specs/"))
+        self.assertEqual(self.told(trusted), (False, counts))
         self.assertEqual(self.reached(of_run=True), IN_ORDER)
         listed = self.told(trusted, "--list")[1]
         self.assertIn(f"{FILE}:4: IsShort: a text is short\n{FILE}:9: limit: how long a short text is at most\n", listed)
@@ -112,8 +115,27 @@ class Trusted(TreeTest):
             self.assertEqual(self.reached(), [])
         with self.changed((RUN, LINE.replace("fn length_of", "fn run"))):
             self.assertEqual(self.reached(of_run=True), ["IsShort", "limit"])
-        with self.changed((RUN, LINE.replace("fn length_of(line: &Line)", "fn run(line: &Other)"))):
-            self.assertEqual(self.reached(of_run=True), [])
+        for source in (LINE.replace("fn length_of(line: &Line)", "fn run(line: &Other)"),
+                       LINE + "\npub fn run(line: &Other) -> u8\n    ensures { result ≡ 1 }\n{\n    1\n}\n"):
+            with self.changed((RUN, source)):
+                self.assertEqual(self.reached(of_run=True), [])
+
+    def test_a_function_of_a_trait_is_as_public_as_its_type(self):
+        shown = "\nimpl Shown for Line {\n    fn shown(&self) -> u8\n        ensures { result ≡ limit }\n    {\n        1\n    }\n}\n"
+        line = "ghost use Rattle.base.specs.Words.{limit};\n\npub struct Line {\n}\n" + shown
+        for source, wanted in ((line, ["limit"]), (line.replace("pub struct", "struct"), [])):
+            with self.changed((RUN, source)):
+                self.assertEqual(self.reached(), wanted)
+
+    def test_a_proof_that_a_contract_names_is_not_followed(self):
+        proof = "use Rattle.base.specs.Words.{limit}\n\n-- none\npub none : limit ≡ 3\nnone = refl\n"
+        self.write("crates/base/specs/GhostProofs.antt", proof)
+        with self.changed((RUN, SOURCE.replace("Rows.{rest_of}", "GhostProofs.{none}").replace("rest_of", "none"))):
+            self.assertEqual(self.reached(), [])
+
+    def test_libraries_are_the_crates_that_are_no_programs_no_tests_and_no_callers(self):
+        found = [it for it in crates(ROOT) if (ROOT / "crates" / it / "src/lib.rt").exists() and not re.search("test|_uses$", it)]
+        self.assertEqual(LIBRARIES, found)
 
     def test_labels_parameters_fields_and_strings_are_no_words(self):
         source = SOURCE.replace("use Rattle", "use Rattle.base.specs.Words.{limit, IsShort};\nghost use Rattle", 1)
@@ -161,6 +183,8 @@ class Trusted(TreeTest):
         tactics = ("rw", "simp", "search", "assumption", "ground", "cc", "omega", "grind", "hlevel")
         self.assert_finds(trusted, *((f"{FILE}:9: limit calls a tactic: {it}\n", (FILE, "^limit = 3", f"limit = {it} rules"))
                                      for it in tactics))
+        clauses = (FILE, "^limit = 3", "limit zero = omega\nlimit n = 3")
+        self.assert_finds(trusted, (f"{FILE}:9: limit calls a tactic: omega\n", clauses))
         several = (FILE, "^limit = 3", "limit = first_of (omega arith, cc)")
         self.assert_finds(trusted, ("limit calls a tactic: cc, omega", several))
         self.assert_finds(trusted, *(("", (FILE, "^limit = 3", f"limit = {it}")) for it in ("omega2", '"omega"', "3 -- omega")))
@@ -175,3 +199,6 @@ class Trusted(TreeTest):
             ("", (trusted.PAGE, r"^\|`IsShort t`\|short\|\n\|`limit`\|three\|", "|`IsShort t`, `limit`|both|")),
             (in_the_place("IsShort", "rest_of"), (LIST, "(pub mod Words\n)(pub mod Rows\n)", r"\2\1")),
         )
+        with self.changed((trusted.PAGE, r"^(\|`IsShort.*\n)(\|`limit.*\n)", r"\2\1"), (FILE, "^-- a text is short\n", "")):
+            said = self.told(trusted)[1].splitlines()[3:]
+        self.assertEqual(said, [f"{FILE}:3: IsShort has no comment", in_the_place("limit", "IsShort").strip()])
