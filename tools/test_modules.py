@@ -72,8 +72,8 @@ abbrev pub ◌≤◌ : Order
 FOUND = {
     "sum": (9, "a sum of two numbers", "pd", 2, 0), "claimed": (13, "", "", 2, 0), "less": (16, "", "pl", 2, 0),
     "limit": (20, "three", "pd", 2, 0), "Kind": (23, "", "dD", 3, 0), "Row": (27, "", "pd", 2, 0), "rules": (30, "", "pl", 4, 0),
-    "sum-same": (35, "", "pl", 5, 0), "below": (43, "inside", "pl", 2, 1), "deeper": (47, "", "pl", 4, 2), "last": (52, "", "", 2, 1),
-    "reuse": (55, "", "", 2, 0), "◌≤◌": (58, "", "pd", 2, 0),
+    "sum-same": (35, "", "pl", 5, 0), "below": (43, "inside", "pl", 2, 1), "deeper": (47, "", "pl", 4, 2),
+    "last": (52, "", "", 2, 1), "reuse": (55, "", "", 2, 0), "◌≤◌": (58, "", "pd", 2, 0),
 }
 
 

@@ -207,7 +207,7 @@ class Promises(TreeTest):
         )
 
     def test_each_line_that_is_stale_is_told_on_its_own(self):
-        with self.changed((FILE, "Makes a line", "Makes one"), (FILE, "A line of text|Prints it", "Prints"), (LAW, "So does", "So")):
+        with self.changed((FILE, "Makes a line", "Makes one"), (FILE, "Prints it", "Prints"), (LAW, "So does", "So")):
             said = self.told(promises)[1].splitlines()
         self.assertEqual([it.partition("|`")[2].partition("`")[0] for it in said], ["laws::other", "Display", "made"])
 

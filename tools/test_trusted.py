@@ -53,7 +53,8 @@ pub fn length_of(line: &Line) -> u8
 }
 """
 PAGE = "|Definition|What|\n|---|---|\n|`IsShort t`|short|\n|`limit`|three|\n|`rest_of t`|all but one|\n"
-LAWS = "use Rattle.base.specs.Words.{IsShort}\nuse Rattle.base.proofs.Order.{total}\n\npub empty-short : IsShort []\nempty-short = omega arith\n"
+LAWS = "use Rattle.base.specs.Words.{IsShort}\nuse Rattle.base.proofs.Order.{total}\n\n" \
+    "pub empty-short : IsShort []\nempty-short = omega arith\n"
 LIST, FILE, END = "crates/base/specs/Lib.antt", "crates/base/specs/Words.antt", r"\Z"
 RUN, USER = "crates/base/src/lib.rt", "crates/user/src/lib.rt"
 IN_ORDER = ["IsShort", "limit", "rest_of"]
@@ -121,8 +122,8 @@ class Trusted(TreeTest):
                 self.assertEqual(self.reached(of_run=True), [])
 
     def test_a_function_of_a_trait_is_as_public_as_its_type(self):
-        shown = "\nimpl Shown for Line {\n    fn shown(&self) -> u8\n        ensures { result ≡ limit }\n    {\n        1\n    }\n}\n"
-        line = "ghost use Rattle.base.specs.Words.{limit};\n\npub struct Line {\n}\n" + shown
+        line = "ghost use Rattle.base.specs.Words.{limit};\n\npub struct Line {\n}\n\nimpl Shown for Line {\n" \
+            "    fn shown(&self) -> u8\n        ensures { result ≡ limit }\n    {\n        1\n    }\n}\n"
         for source, wanted in ((line, ["limit"]), (line.replace("pub struct", "struct"), [])):
             with self.changed((RUN, source)):
                 self.assertEqual(self.reached(), wanted)
