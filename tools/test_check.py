@@ -135,6 +135,8 @@ class Tests(TreeTest):
             if not file.name.startswith("test_"):
                 self.write(f"tools/{file.name}", file.read_text(encoding="utf-8"))
         self.write("tools/test_sums.py", CLASS + TEST.format("a", 2) + "\n" + TEST.format("b", 2))
+        # (what is no tool has its tests elsewhere)
+        self.write("bench/test_times.py", CLASS + TEST.format("a", 2))
 
     def ran(self):
         """Whether they fail, and what is said on standard output."""
