@@ -222,8 +222,10 @@ def imported_by(file):
 
 
 def tests_of(root, file):
-    """The files of tests that may see a change of a tool, in the order in which they are asked: those named as the tool, those that
-    import it, those that import what imports it, and those of tools/run, which runs them as programs."""
+    """The files of tests that may see a change of a tool, in the order in which they are asked: those named as the tool, those
+    that import it, those that import what imports it, and those of tools/run, which runs them as programs. The benches have one."""
+    if "bench" in Path(file).parts:
+        return ["test_bench"]
     tool, folder = Path(file).stem, root / "tools"
     files = {it.stem: it for it in folder.glob("*.py")}
     reached = lambda name: closed([name], lambda it: imported_by(files[it]) & files.keys())

@@ -134,6 +134,8 @@ class Fates(TreeTest):
         self.write("tools/test_sums_of_sums.py", "import sums\n")
         wanted = ["test_sums_of_sums", "test_z", "test_zero", "test_a", "test_run"]
         self.assertEqual(mutants.tests_of(self.root, SUMS), wanted)
+        for file in ("bench/sums.py", "rust/bench/sums.py"):
+            self.assertEqual(mutants.tests_of(self.root, file), ["test_bench"])
         self.write("tools/test_run.py", "import sums\n")
         self.assertEqual(mutants.tests_of(self.root, SUMS), ["test_sums_of_sums", "test_z", "test_zero", "test_run", "test_a"])
 
