@@ -1,13 +1,16 @@
 """What bench/run and rust/bench/run make of counts: tables, drawings and the parts of their pages. Nothing is built or counted."""
 import io
+import os
 import re
 import sys
+import tempfile
 import unittest
 from contextlib import redirect_stdout
 from importlib.machinery import SourceFileLoader
 from importlib.util import module_from_spec, spec_from_loader
+from pathlib import Path
 
-from planted import TreeTest
+from planted import Flushed, TreeTest
 from repository import ROOT, read
 
 # (behind the tools, which have modules of the same names)
@@ -127,6 +130,29 @@ class Pages(TreeTest):
             self.put(sys, "stdout", io.StringIO())
             self.assertEqual(pages.tell_differences(page, "run", same, drawn), differs)
 
+    def test_what_a_part_says_is_told_and_printed_at_once_if_it_is_wanted(self):
+        parts = {"first": lambda: print("\none"), "second": lambda: print("two")}
+        for prints, said in ((True, "\none\n\ntwo\n\n"), (False, "")):
+            with redirect_stdout(Flushed()) as seen:
+                self.assertEqual(pages.told_by(parts, prints), {"first": "one\n", "second": "two\n"})
+            self.assertEqual((seen.seen, seen.getvalue()), (said, said))
+
+    def test_what_is_told_to_do_has_a_folder_of_its_own_by_default(self):
+        folder, users = Path(tempfile.gettempdir()), f"a-bench-{os.getuid()}"
+        for words, wanted in (([], (False, False, None, None, folder / users)),
+                              (["--check", "here"], (True, False, None, None, Path("here"))),
+                              (["--curves", "cmp,=="], (False, False, ["cmp", "=="], None, folder / users)),
+                              (["--curves", "all"], (False, False, [], None, folder / users)),
+                              (["--write", "--only", "b,a"], (False, True, None, ["b", "a"], folder / users))):
+            self.put(sys, "argv", ["run", *words])
+            given = pages.arguments("Says.", "a-bench", ["a", "b"])
+            self.assertEqual((given.check, given.write, given.curves, given.only, given.folder), wanted)
+        self.put(sys, "argv", ["run", "--help"])
+        with redirect_stdout(io.StringIO()) as said:
+            self.assertRaises(SystemExit, pages.arguments, "It says\n  two lines.", "a-bench", [])
+        for part in ("[--check | --write | --curves NAMES]", "[--only PARTS]", "\nIt says\n  two lines.\n"):
+            self.assertIn(part, said.getvalue())
+
     def test_a_part_that_is_not_on_the_page_is_refused(self):
         for words, fault in ((["--only", "codes,code"], "the page has no part code"), (["--check", "--only", "codes"], "of all parts"),
                              (["--check", "--write"], "not allowed")):
@@ -208,12 +234,33 @@ calls=5 9
         self.assertEqual(told, [["**8.0**", "9.0", "4.0"], ["2.0", "–", "–"], ["–"] * 3])
 
     def test_a_time_is_the_median_of_the_processes_at_the_best_place(self):
-        times = {"near": iter([5, 1, 9]), "far": iter([4, 8, 3])}
+        """Of fifteen processes, each of a thousand rounds."""
+        times = {"near": iter([5, 1, 9] * 5), "far": iter([4, 8, 3] * 5)}
+        asked = []
+
+        def written(program, *words):
+            asked.append((program, *words))
+            time = next(times[program])
+            return f"`pop`\t{time}\t-\n`len`\t-\t{time + 10}\t{time + 20}\n"
+
         self.put(timing, "CAPACITIES", [23])
-        self.put(timing, "PROCESSES", 3)
-        self.put(timing, "written", lambda program, *words: f"`pop`\t{next(times[program])}\t-\n")
+        self.put(timing, "written", written)
         drives = [counting.Drive(program, self.root, {}) for program in times]
-        self.assertEqual(timing.clock(drives, "in_turn", SIDES), {"`pop`": {(23, "crate"): 4.0}})
+        wanted = {"`pop`": {(23, "crate"): 4.0}, "`len`": {(23, "String"): 14.0, (23, "arrayvec"): 24.0}}
+        self.assertEqual(timing.clock(drives, "in_turn", SIDES), wanted)
+        self.assertEqual(asked, [(it, "23", "ascii", "in_turn", "1000") for it in times] * 15)
+        self.assertEqual([next(it, "no more") for it in times.values()], ["no more"] * 2)
+
+    def test_the_code_of_a_driver_lies_at_each_quarter_of_a_line_of_the_cache(self):
+        self.assertEqual(timing.PLACES, list(range(0, 64, 16)))
+
+    def test_the_processor_is_named_as_linux_names_it(self):
+        file = self.root / "cpuinfo"
+        self.put(timing, "Path", {"/proc/cpuinfo": file}.get)
+        for text, name in ((None, "unknown"), ("flags\t: fast\n", "unknown"),
+                           ("flags: a\nmodel name\t: Fast 3\nmodel name: b\n", "Fast 3")):
+            self.write("cpuinfo", text)
+            self.assertEqual(timing.processor(), f"The processor: {name}.")
 
     def curve(self, **sides):
         return {side.replace("_", " "): dict(enumerate(counts)) for side, counts in sides.items()}
