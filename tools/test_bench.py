@@ -9,6 +9,7 @@ from contextlib import redirect_stdout
 from importlib.machinery import SourceFileLoader
 from importlib.util import module_from_spec, spec_from_loader
 from pathlib import Path
+from types import SimpleNamespace
 
 from planted import Flushed, TreeTest
 from repository import ROOT, read
@@ -275,6 +276,50 @@ calls=5 9
         self.assertNotIn("`pop`, 23", said)
         self.assertIn("the crate in 4 of 7 lengths", said)
         self.assertIn("|`pop`|1|1|–|**23**|17|11|**23**|17|11|\n", said_by(OF_CRATE.tell_means, found))
+
+    def test_calls_are_counted_five_times_at_each_capacity_and_of_two_drives_the_last_tells(self):
+        asked = []
+
+        def drive(**sides):
+            def count_titled(capacity, mode, times, names):
+                asked.append((capacity, mode, times, names))
+                return {(side, f"`pop`|{size}"): count for side, counts in sides.items() for size, count in enumerate(counts)}
+
+            return SimpleNamespace(count_titled=count_titled)
+
+        drives = [drive(String=[9, 9], crate=[30, 10]), drive(String=[10, 20])]
+        found = curves.curves(drives, self.root, ["pop"])
+        self.assertEqual(found, {"`pop`": {it: self.curve(String=[10, 20], crate=[30, 10]) for it in (23, 63, 255)}})
+        self.assertEqual(asked, [(it, "curves", 5, ["pop"]) for it in (23, 63, 255)] * 2)
+        wanted = [f"`pop` at {it}, {counts}" for it in (23, 63, 255) for counts in ("0: 30/10 crate behind", "1: 10/20")]
+        self.assertEqual(read(self.root / "curves.txt").splitlines(), wanted)
+        curves.curves(drives, self.root)
+        self.assertEqual(asked[-1], (255, "curves", 5, ()))
+        self.assertRaisesRegex(SystemExit, "^no call has one of these names: a, b$", curves.curves, [drive()], self.root, ["a", "b"])
+
+    def test_curves_are_told_in_one_table(self):
+        late, even = self.curve(crate=[30, 10], String=[10, 20]), self.curve(crate=[10], String=[10])
+        said = said_by(curves.tell_curves, {"`pop`": {23: late, 63: late, 255: even}})
+        columns = "|".join(f"{what}{it}" for what in ("", "worst ", "behind ") for it in (23, 63, 255))
+        self.assertEqual(said, f"\n|Mean: crate/String/arrayvec|{columns}|\n|---|{'---|' * 9}\n"
+                               "|`pop`|**20**/15/–|**20**/15/–|10/10/–|3.00@0|3.00@0|1.00@0|1|1|0|\n"
+                               "\nBehind the best peer: the crate in 2 of 5 lengths.\n")
+        # (of two lengths the shorter)
+        self.assertEqual(curves.worst(self.curve(crate=[10, 30, 60], String=[10, 10, 20]), "crate"), "3.00@1")
+
+    def test_a_line_goes_from_the_left_to_the_right_and_from_the_foot_to_the_top(self):
+        drawn = curves.panel("`a` < b", [(("red", "1 2"), {0: 0, 10: 5, 20: 10}), (("blue", ""), {0: 10, 20: 0})])
+        self.assertEqual(re.findall('points="(.*?)" fill="none" stroke="(.*?)"', drawn),
+                         [("40,34 236,146", "blue"), ("40,146 138,90 236,34", "red")])
+        self.assertIn(">a &lt; b</text>", drawn)
+
+    def test_the_drawings_are_laid_out_as_this_draws(self):
+        """But for the lines, the greatest counts and the greatest lengths."""
+        layout = lambda drawn: re.sub('((?:end|middle)">)(?!0<)[0-9]+', "\\1", re.sub("<polyline.*?/>", "", drawn))
+        for file, ours, peers in (("costs", "crate", ["String", "arrayvec"]), ("costs_proved", "port", ["String", "arrayvec", "kit"])):
+            curve = {side: {0: 0, 255: 10} for side in (ours, *peers)}
+            drawn = curves.drawing({title: {255: curve} for title in curves.CALLS})
+            self.assertEqual(layout(drawn), layout(read(ROOT / f"docs/{file}.svg")))
 
     def test_a_drawing_has_a_panel_for_each_call_and_a_key_for_each_side_that_is_there(self):
         curve = self.curve(crate=[30, 10], String=[10, 20])
