@@ -127,9 +127,17 @@ class Pages(TreeTest):
             found = list(pages.differences(self.PAGE, "run", told, timed))
             self.assertEqual((bool(found), wanted in found or not wanted), (bool(wanted), True), found)
             self.assertIn(wanted, said_by(pages.tell_differences, page, "run", told, {}, timed))
-        for drawn, differs in ({drawing: "<svg>"}, False), ({drawing: "<other>"}, True), ({self.root / "none.svg": ""}, True):
-            self.put(sys, "stdout", io.StringIO())
-            self.assertEqual(pages.tell_differences(page, "run", same, drawn), differs)
+        lines = ["--- the page, first", "+++ run, first", "@@ -3 +3 @@", "-|one|", "+|two|"]
+        self.assertEqual(list(pages.differences(self.PAGE, "run", changed)), lines)
+        self.assertEqual(pages.names_of_rows("|Name|a|\n|---|---|\n|one|1|\n\nBehind: a|b|\n"), ["Name", "---", "one"])
+        other = "{} is drawn from other counts\n".format
+        for drawn, differs, said in (({drawing: "<svg>"}, False, "\n"), ({drawing: "<other>"}, True, other("drawn.svg")),
+                                     ({self.root / "none.svg": ""}, True, other("none.svg"))):
+            with redirect_stdout(io.StringIO()) as found:
+                self.assertEqual(pages.tell_differences(page, "run", same, drawn), differs)
+            self.assertEqual(found.getvalue(), said)
+        said = said_by(pages.tell_differences, page, "run", changed, {drawing: ""})
+        self.assertEqual(said.splitlines(), [*lines, other("drawn.svg").strip()])
 
     def test_what_a_part_says_is_told_and_printed_at_once_if_it_is_wanted(self):
         parts = {"first": lambda: print("\none"), "second": lambda: print("two")}
