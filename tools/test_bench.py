@@ -2,6 +2,7 @@
 import io
 import os
 import re
+import subprocess
 import sys
 import tempfile
 import unittest
@@ -303,7 +304,8 @@ calls=5 9
         self.assertEqual(read(self.root / "curves.txt").splitlines(), wanted)
         curves.curves(drives, self.root)
         self.assertEqual(asked[-1], (255, "curves", 5, ()))
-        self.assertRaisesRegex(SystemExit, "^no call has one of these names: a, b$", curves.curves, [drive()], self.root, ["a", "b"])
+        none = "^no call has one of these names: a, b$"
+        self.assertRaisesRegex(SystemExit, none, curves.curves, [drive()], self.root, ["a", "b"])
 
     def test_curves_are_told_in_one_table(self):
         late, even = self.curve(crate=[30, 10], String=[10, 20]), self.curve(crate=[10], String=[10])
@@ -324,8 +326,8 @@ calls=5 9
     def test_the_drawings_are_laid_out_as_this_draws(self):
         """But for the lines, the greatest counts and the greatest lengths."""
         layout = lambda drawn: re.sub('((?:end|middle)">)(?!0<)[0-9]+', "\\1", re.sub("<polyline.*?/>", "", drawn))
-        for file, ours, peers in (("costs", "crate", ["String", "arrayvec"]), ("costs_proved", "port", ["String", "arrayvec", "kit"])):
-            curve = {side: {0: 0, 255: 10} for side in (ours, *peers)}
+        for file, ours, more in (("costs", "crate", []), ("costs_proved", "port", ["kit"])):
+            curve = {side: {0: 0, 255: 10} for side in (ours, "String", "arrayvec", *more)}
             drawn = curves.drawing({title: {255: curve} for title in curves.CALLS})
             self.assertEqual(layout(drawn), layout(read(ROOT / f"docs/{file}.svg")))
 
@@ -395,3 +397,212 @@ class Programs(TreeTest):
         for name in programs.PROGRAMS:
             for file, form in (("src/programs.rs", r"(?s)fn run_all.*counted_{}::<S>\("), ("tests/same.rs", r"counted_{}::<S>\(")):
                 self.assertRegex(read(ROOT / "rust/whole_programs" / file), form.format(name))
+
+
+class Tables(TreeTest):
+    """What is counted is what the page tells of, and what the sources have."""
+
+    def rows(self, part):
+        """The first cells of a part of the page, and the head of its first table."""
+        told = pages.parts_of(read(OF_CRATE.PAGE), "rust/bench/run")[part]
+        return pages.names_of_rows(told), told.splitlines()[0].strip("|").split("|")[1:]
+
+    def test_the_rows_and_the_columns_are_those_of_the_page(self):
+        by_capacity = [it for capacity in counting.CAPACITIES for it in (f"{capacity} crate", "String", "arrayvec")]
+        titles = [title for title, *_ in counting.ROWS]
+        for part, rows, head in (
+            ("calls", [it for text in counting.TEXTS for it in (f"Call, {text}", "---", *titles)], by_capacity),
+            ("lookup", ["Names", "---", *counting.LOOKUPS], by_capacity),
+            ("programs", ["4,000 rows of three texts are", "---", *programs.PROGRAMS.values()], list(programs.MARKS)),
+            ("small", ["Bytes of code at `opt-level`", "---", *(it[0] for it in codes.PROGRAMS)], codes.SMALL),
+            ("codes", ["Bytes of code at `opt-level`", "---", *(f"{calls} {capacities}" for calls in codes.CALLS.values()
+                                                               for capacities in codes.CAPACITIES.values())],
+             [it for level in codes.LEVELS for it in (f"{level} crate", "String", "arrayvec")]),
+        ):
+            self.assertEqual(self.rows(part), (rows, head), part)
+        versions = pages.parts_of(read(OF_CRATE.PAGE), "rust/bench/run")["versions"]
+        self.assertTrue(versions.endswith(f"; {counting.CPU}\n"), versions)
+
+    def test_each_call_of_a_row_is_made_where_its_title_says(self):
+        made = "".join(read(it) for it in (ROOT / "bench").glob("*.rs"))
+        for title, name, place in counting.ROWS:
+            self.assertRegex(made, rf"\bfn counted_{name}\b")
+            self.assertEqual(place, "front" if "at the front" in title else "middle", title)
+
+    def test_a_program_made_small_is_there_and_may_be_over_std(self):
+        for title, source, settings in codes.PROGRAMS:
+            self.assertTrue((ROOT / source).is_file())
+            self.assertEqual(settings, ["--cfg", "over_string"] if "`String`" in title else [])
+
+    def test_a_side_is_marked_by_the_type_that_it_is_counted_over(self):
+        source = read(ROOT / "rust/whole_programs/src/main.rs") + read(ROOT / "rust/whole_programs/src/lib.rs")
+        self.assertEqual(list(programs.MARKS), list(counting.PEERS)[1:] + counting.PEERS["crate"])
+        for mark in programs.MARKS.values():
+            self.assertRegex(source, rf"\b{mark}\b")
+
+
+class Commands(TreeTest):
+    """By which commands what is counted is built and run."""
+
+    def setUp(self):
+        super().setUp()
+        self.ran, self.library = [], ["--extern", "arraystring=lib"]
+
+        def run(command, **more):
+            self.ran.append((list(map(str, command)), more))
+            for word in map(str, command):
+                if "-out-file=" in word:
+                    Path(word.partition("=")[2]).write_text("counted", encoding="utf-8")
+            return SimpleNamespace(stdout="said\n")
+
+        self.put(subprocess, "run", run)
+
+    def commands(self):
+        """The commands that were run, each of which had to pass."""
+        self.assertTrue(all(more["check"] for _, more in self.ran))
+        ran, self.ran = self.ran, []
+        return [" ".join(command).replace(str(self.root), "FOLDER").replace(str(ROOT), "ROOT") for command, _ in ran]
+
+    RUSTC = "rustc -O -C codegen-units=1 -C target-cpu=x86-64-v2"
+    NAMED = "-C symbol-mangling-version=v0"
+
+    def test_what_is_counted_is_built_for_one_processor_and_by_one_unit(self):
+        source = self.root / "lib.rs"
+        made = counting.rust_library(source, "words", 2021, self.root, ["--cfg", "more"])
+        self.assertEqual(made, ["--extern", f"words={self.root}/libwords.rlib"])
+        library = "--edition=2021 --crate-type=rlib --crate-name=words --cap-lints=allow FOLDER/lib.rs -o FOLDER/libwords.rlib"
+        self.assertEqual(self.commands(), [f"{self.RUSTC} {library} --cfg more"])
+        counting.rust_library(source, "words", 2021, self.root)
+        self.assertEqual(self.commands(), [f"{self.RUSTC} {library}"])
+        self.put(counting, "ARRAYVEC", [source])
+        self.put(counting, "rust_library", lambda *words: [words])
+        self.assertEqual(counting.arrayvec(self.root), ["--cfg", "has_arrayvec", (source, "arrayvec", 2018, self.root)])
+        self.assertEqual(counting.build_drive(self.root / "drive", ["--cfg", "more"], 16), self.root / "drive")
+        self.assertEqual(self.ran[0][1]["env"], {**os.environ, "PLACE": "16"})
+        counting.build_drive(self.root / "drive", [])
+        self.assertEqual(self.ran[1][1]["env"], {**os.environ, "PLACE": "0"})
+        drive = f"{self.RUSTC} --edition=2024 {self.NAMED}{{}} ROOT/bench/drive.rs -o FOLDER/drive".format
+        self.assertEqual(self.commands(), [drive(" --cfg more"), drive("")])
+
+    def test_valgrind_runs_a_program_with_its_stack_at_a_place(self):
+        out, log = self.root / "out", self.root / "log"
+        self.assertEqual(counting.under("callgrind", out, log, ["program", "a"], 7, 3), "counted")
+        counting.under("callgrind", out, log, ["program"])
+        for (_, more), given, place in zip(self.ran, (7, subprocess.DEVNULL), ("xxx", "")):
+            self.assertEqual((more["stdin"], more["stdout"], more["stderr"].name), (given, subprocess.DEVNULL, str(log)))
+            self.assertEqual(more["env"], {**os.environ, "LD_BIND_NOW": "1", "PLACE_OF_STACK": place})
+            more["stderr"].close()
+        valgrind = "valgrind --tool=callgrind --callgrind-out-file=FOLDER/out program"
+        self.assertEqual(self.commands(), [f"{valgrind} a", valgrind])
+
+    def test_what_a_command_says_is_text_and_versions_are_told(self):
+        self.assertEqual(counting.written("size", Path("a"), 3), "said\n")
+        self.assertEqual(self.ran[0], (["size", "a", "3"], {"stdout": subprocess.PIPE, "text": True, "check": True}))
+        missing = "x86-64-v2\narrayvec is not installed, so its column is empty: see bench/README.md.\n"
+        for sources, told in (([Path("/x/arrayvec-0.7.2/src/lib.rs")], "arrayvec-0.7.2; x86-64-v2\n"), ([], missing)):
+            self.put(counting, "ARRAYVEC", sources)
+            self.put(counting, "written", lambda *command: f"{' '.join(command)} is 1\nmore\n")
+            said = said_by(counting.tell_versions, ["rt", "version"])
+            self.assertEqual(said, f"rt version is 1; rustc --version is 1; valgrind --version is 1; {told}")
+
+    def drive(self):
+        """A driver, and what it is run by: at each place of the stack the counts are others."""
+        asked = []
+
+        def under(tool, out, log, command, place):
+            asked.append((tool, out.name, log.name, " ".join(map(str, command)), place))
+            out.write_text(out.read_text(encoding="utf-8") if out.exists() else "", encoding="utf-8")
+            return place
+
+        self.put(counting, "under", under)
+        return counting.Drive("program", self.root, {"crate": "crate::"}), asked
+
+    COMPRESSED = "--compress-strings=no --compress-pos=no"
+
+    def test_calls_are_counted_fifty_times_with_the_stack_at_two_places(self):
+        drive, asked = self.drive()
+        self.put(counting.Drive, "counted", lambda drive, place: {"a": 10 + place, "b": 3000 - place})
+        self.assertEqual(drive.count(23, "ascii", "front"), {"a": 10, "b": 1000})
+        command = f"{self.COMPRESSED} program 23 ascii front 50"
+        self.assertEqual(asked, [("callgrind", "callgrind.out", "valgrind.log", command, it) for it in (0, 2000)])
+        self.assertEqual(drive.counts(), {"a": 10, "b": 1000})
+        self.assertEqual(asked[-1][3], f"{self.COMPRESSED} program")
+
+    def test_each_title_has_a_part_of_what_is_counted(self):
+        """The first part is what comes before, and the last has no number. A part of an older run is not read."""
+        drive, asked = self.drive()
+        self.put(counting, "written", lambda *words: asked.append(words) or "one\ntwo\nthree\n")
+        self.put(counting.Drive, "counted", lambda drive, text: {("crate", text): len(text), ("crate", "remove"): 9})
+        (self.root / "curves.out.9").write_text("old", encoding="utf-8")
+
+        def under(tool, out, log, command, place):
+            asked.append((tool, out.name, log.name, " ".join(map(str, command)), place))
+            for name, text in (("curves.out.1", "before"), ("curves.out.2", "a"), ("curves.out.3", "bb"), ("curves.out", "ccc")):
+                (self.root / name.replace("curves", out.stem)).write_text(text, encoding="utf-8")
+
+        self.put(counting, "under", under)
+        # (the last of the calls of a part is the one that is told)
+        wanted = {("crate", "one"): 9, ("crate", "two"): 9, ("crate", "three"): 9}
+        self.assertEqual(drive.count_titled(23, "curves", 5, ["pop", "len"]), wanted)
+        self.assertFalse((self.root / "curves.out.9").exists())
+        words = "program 23 ascii curves"
+        before = f"{self.COMPRESSED} --dump-before=*::next_edge*"
+        self.assertEqual(asked, [(*words.split(), "1", "pop", "len")] + [
+            ("callgrind", "curves.out", "valgrind.log", f"{before} {words} 5 pop len", it) for it in (0, 2000)])
+        self.assertEqual(drive.count_titled(23, "short"), {("crate", "one"): 1, ("crate", "two"): 2, ("crate", "three"): 3})
+        self.assertEqual(asked[-1][3], f"{before} program 23 ascii short 50")
+
+    def test_whole_programs_are_built_over_each_string_that_is_there(self):
+        made = []
+        self.put(programs, "rust_library", lambda *words: made.append(words) or ["--extern", words[1]])
+        for sources, more in (([], []), ([Path("/x/lib.rs")], ["--extern", "arrayvec", "--cfg", 'feature="arrayvec"'])):
+            self.put(programs, "ARRAYVEC", sources)
+            drive = programs.build(self.root)
+            strings = ["--extern", "arraystring", *more]
+            libraries = [(ROOT / "rust/arraystring/src/lib.rs", "arraystring", 2024, self.root),
+                         *((it, "arrayvec", 2018, self.root) for it in sources),
+                         (ROOT / "rust/whole_programs/src/lib.rs", "whole_programs", 2024, self.root, strings)]
+            self.assertEqual(made, libraries)
+            made.clear()
+            self.assertEqual((drive.program, drive.folder), (self.root / "whole_programs", self.root))
+            self.assertEqual(drive.marks, programs.MARKS)
+            self.assertEqual(self.commands(), [
+                f"{self.RUSTC} --edition=2024 {self.NAMED} {' '.join(strings)} --extern whole_programs -L FOLDER "
+                "ROOT/rust/whole_programs/src/main.rs -o FOLDER/whole_programs"])
+
+    FLAGS = "-C opt-level=z -C codegen-units=1 -C panic=abort -C target-cpu=x86-64-v2"
+
+    def test_code_is_made_small_of_a_library_of_its_level(self):
+        folder, out = self.root / "new/er", "FOLDER/new/er/libarraystring.rlib"
+        words = codes.library(folder, "z", ["--cfg", "more"])
+        linked = f"{self.FLAGS} --edition=2024 --extern arraystring={out}"
+        self.assertEqual(" ".join(words).replace(str(self.root), "FOLDER"), linked)
+        library = f"rustc {self.FLAGS} --edition=2024 --cap-lints=allow ROOT/rust/arraystring/src/lib.rs --crate-type=rlib " \
+            f"--crate-name=arraystring -o {out}"
+        self.assertEqual(self.commands(), [f"{library} --cfg more"])
+        self.put(codes, "text_bytes", lambda program: 7_000_000 + len(program.name))
+        source = self.root / "small.rs"
+        self.assertEqual(codes.program_bytes(folder, source, ["--cfg", "over"], "z"), 7_000_007)
+        panics = "-C lto -C link-arg=-Wl,--defsym=a_panic_is_left=main"
+        program = f"rustc {linked} --cfg over {panics} -o FOLDER/new/er/program FOLDER/small.rs"
+        self.assertEqual(self.commands(), [library, program])
+        self.put(codes, "SMALL", ["s"])
+        self.put(codes, "PROGRAMS", [("one", "rust/a.rs", ["--cfg", "b"])])
+        self.put(codes, "program_bytes", lambda folder, program, settings, level: self.assertEqual(
+            (folder, program, settings, level), (self.root, ROOT / "rust/a.rs", ["--cfg", "b"], "s")) or 12_345)
+        self.assertEqual(said_by(codes.tell_small, self.root), "\n|Bytes of code at `opt-level`|s|\n|---|---|\n|one|12,345|\n")
+
+    def test_a_library_of_calls_is_shared_and_over_one_side(self):
+        self.put(codes, "exports", lambda library: 6)
+        self.put(codes, "text_bytes", lambda library: library.name)
+        self.assertEqual(codes.library_of_calls(self.root, ["--cfg", "over"], 2, 3), "calls.so")
+        self.assertEqual(self.commands(), ['rustc --cfg over --cfg calls="2" --cfg capacities="3" -C lto --crate-type=cdylib '
+                                           "ROOT/rust/bench/sizes.rs -o FOLDER/calls.so"])
+        self.put(codes, "library", lambda folder, level, **more: [folder, level, more])
+        flags = [*self.FLAGS.split(), "--edition=2024", "--cfg", "over_string"]
+        for sources in ([], [Path("/x/lib.rs")]):
+            self.put(codes, "ARRAYVEC", sources)
+            given = {"source": Path("/x/lib.rs"), "name": "arrayvec", "edition": "2018"}
+            self.assertEqual(codes.sides_at(self.root, "z"), {
+                "crate": [self.root, "z", {}], "String": flags,
+                **{"arrayvec": [self.root, "z", given, "--cfg", "over_arrayvec"] for _ in sources}})
