@@ -314,13 +314,19 @@ calls=5 9
         self.assertEqual(said, f"\n|Mean: crate/String/arrayvec|{columns}|\n|---|{'---|' * 9}\n"
                                "|`pop`|**20**/15/–|**20**/15/–|10/10/–|3.00@0|3.00@0|1.00@0|1|1|0|\n"
                                "\nBehind the best peer: the crate in 2 of 5 lengths.\n")
+        both = {it: self.curve(port=[30], crate=[20], String=[10]) for it in (23, 63, 255)}
+        other = {it: self.curve(port=[10], crate=[10], arrayvec=[10]) for it in (23, 63, 255)}
+        said = said_by(curves.tell_curves, {"`pop`": both, "`len`": other}).splitlines()
+        self.assertEqual(said[1].split("|")[1], "Mean: port/crate/String/arrayvec")
+        row = "|".join(["**30**/**20**/10/–"] * 3 + ["3.00@0/2.00@0"] * 3 + ["1/1"] * 3)
+        self.assertEqual(said[3], f"|`pop`|{row}|")
         # (of two lengths the shorter)
         self.assertEqual(curves.worst(self.curve(crate=[10, 30, 60], String=[10, 10, 20]), "crate"), "3.00@1")
 
     def test_a_line_goes_from_the_left_to_the_right_and_from_the_foot_to_the_top(self):
-        drawn = curves.panel("`a` < b", [(("red", "1 2"), {0: 0, 10: 5, 20: 10}), (("blue", ""), {0: 10, 20: 0})])
+        drawn = curves.panel("`a` < b", [(("red", "1 2"), {0: 0, 10: 5, 20: 10}), (("blue", ""), {0: 5, 10: 0})])
         self.assertEqual(re.findall('points="(.*?)" fill="none" stroke="(.*?)"', drawn),
-                         [("40,34 236,146", "blue"), ("40,146 138,90 236,34", "red")])
+                         [("40,90 138,146", "blue"), ("40,146 138,90 236,34", "red")])
         self.assertIn(">a &lt; b</text>", drawn)
 
     def test_the_drawings_are_laid_out_as_this_draws(self):
@@ -333,9 +339,11 @@ calls=5 9
 
     def test_a_drawing_has_a_panel_for_each_call_and_a_key_for_each_side_that_is_there(self):
         curve = self.curve(crate=[30, 10], String=[10, 20])
-        drawn = curves.drawing({title: {curves.CAPACITY: curve} for title in curves.CALLS})
-        self.assertEqual((drawn.count("<polyline"), drawn.count("<g ")), (2 * len(curves.CALLS), len(curves.CALLS)))
-        self.assertEqual([f">{side}<" in drawn for side in counting.SIDES], [False, True, True, False, False])
+        first, *others = curves.CALLS
+        more = {first: curve | self.curve(kit=[5, 5]), **dict.fromkeys(others, curve)}
+        drawn = curves.drawing({title: {curves.CAPACITY: it} for title, it in more.items()})
+        self.assertEqual((drawn.count("<polyline"), drawn.count("<g ")), (2 * len(curves.CALLS) + 1, len(curves.CALLS)))
+        self.assertEqual([f">{side}<" in drawn for side in counting.SIDES], [False, True, True, False, True])
         self.assertNotIn("<,", drawn)
 
 
@@ -606,3 +614,114 @@ class Commands(TreeTest):
             self.assertEqual(codes.sides_at(self.root, "z"), {
                 "crate": [self.root, "z", {}], "String": flags,
                 **{"arrayvec": [self.root, "z", given, "--cfg", "over_arrayvec"] for _ in sources}})
+
+
+SECTION = '<section id="{}" class="{}"><h4>{}</h4></section>\n'.format
+HEAD = '<pre class="rust item-decl">{}pub {}fn {}()</pre>\n'.format
+REFERENCE = {
+    "macro.arraystring.html": "", "macro.arraystring!.html": "", "fn.look.html": HEAD("<code>", "", "look"),
+    "utils/fn.cut.html": HEAD("", "const ", "cut"), "fn.raw.html": HEAD("", "unsafe ", "raw"), "fn.text": HEAD("", "", "text"),
+    "struct.Text.html": SECTION("method.pop", "method", "<b>pub</b> fn pop(unsafe: u8)")
+    + SECTION("method.raw", "method", "pub unsafe fn raw") + SECTION("method.go-for-it", "method", "pub fn go")
+    + SECTION("impl-From%3C%26str%3E-for-Text%3CN%3E", "impl", "impl From") + SECTION("impl-Copy-for-Text", "impl", "impl Copy")
+    + SECTION("impl-Into%3CU%3E-for-T", "impl", "impl Into") + SECTION("impl-Text", "impl", "impl Text")
+    + '<h2 id="deref-methods-str">' + SECTION("method.len", "method", "pub fn len")
+    + '<h2 id="trait-implementations">' + SECTION("method.first", "method", "pub fn first\n"),
+    "enum.Error.html": SECTION("method.source", "method", "pub fn source"),
+    "trait.Peer.html": SECTION("method.held", "method", "pub fn held") + SECTION("impl-Peer-for-Error", "impl", "impl Peer"),
+}
+
+
+class Linked(TreeTest):
+    """Which calls have a program of their own, and which of these link."""
+
+    def test_what_the_reference_shows_is_asked_for(self):
+        for path, text in REFERENCE.items():
+            self.write(f"doc/{path}", text)
+        self.assertEqual(PROGRAMS.shown(self.root / "doc"), {
+            "arraystring!", "utils::look", "utils::cut", "Text::pop", "Text::go-for-it", "Text::first", "From<&str> for Text<N>",
+            "Error::source", "Peer for Error",
+        })
+
+    def test_no_entry_is_empty(self):
+        for table in (PROGRAMS.UNCALLED, PROGRAMS.OF_EACH, PROGRAMS.STRINGS, PROGRAMS.OWNED, PROGRAMS.ERRORS):
+            self.assertTrue(all(table), table)
+        for table in (PROGRAMS.RANGES, PROGRAMS.PANICS, PROGRAMS.TOGETHER, PROGRAMS.BY_TRAITS, PROGRAMS.GIVEN, PROGRAMS.USED,
+                      PROGRAMS.BY_ERROR, PROGRAMS.OTHERS):
+            self.assertTrue(all(table) and all(table.values()), table)
+
+    def test_each_name_has_its_call(self):
+        found = PROGRAMS.expressions()
+        for name, call in (
+            ("Index<RangeFrom<u8>> for ArrayString<N>", "v.s[v.at..].len()"),
+            ("IndexMut<RangeFrom<u8>> for ArrayString<N>", "v.s[v.at..].make_ascii_uppercase()"),
+            ("Clone for ArrayString<N>", "v.s.clone()"), ("Clone for CacheString", "v.c.clone()"),
+            ("PartialEq for CacheString", "v.c == v.o"), ("From<&str> for CacheString", "CacheString::from(v.text)"),
+            ("Clone for Error", "v.error.clone()"), ("Clone for Utf8", "black_box(Utf8).clone()"),
+            ("Error for Utf16", "core::error::Error::source(&black_box(Utf16)).is_some()"),
+            ("Default for Utf8", "Utf8::default()"), ("ArrayString::pop", "v.s.pop()"),
+            ("CacheString::try_from_str", "CacheString::try_from_str(v.text)"), ("ArrayString::slice", PROGRAMS.USED["slice"]),
+            ("Units::new", "Units::new(v.units)"),
+            ("ArrayString::remove behind `push_str`", "v.s.push_str(v.text); v.s.remove(v.index as u8)"),
+        ):
+            self.assertEqual(found.get(name), call, name)
+        self.assertNotIn("Default for Error", found)
+        self.assertLessEqual(PROGRAMS.PANICS.keys(), found.keys())
+
+    def asked(self, shown, known):
+        self.put(PROGRAMS, "shown", lambda reference: {*shown})
+        self.put(PROGRAMS, "expressions", lambda: dict.fromkeys([*known, *PROGRAMS.TOGETHER], "v"))
+        self.put(PROGRAMS, "PANICS", {"a": "it does"})
+        return PROGRAMS.asked(self.root)
+
+    def test_what_has_no_program_and_what_is_not_shown_stop_the_bench(self):
+        self.assertEqual(set(self.asked("ab", "ab")), {*"ab", *PROGRAMS.TOGETHER})
+        fault = "rust/bench/calls.py: {}\n".format
+        for shown, known, said in (
+            ("abdc", "ab", fault("no program makes `c`") + fault("no program makes `d`")),
+            ("ab", "adcb", fault("the reference does not show `c`") + fault("the reference does not show `d`")),
+            ("b", "b", fault("no program makes `a`, which may panic")),
+        ):
+            with self.assertRaises(SystemExit) as ended:
+                self.asked(shown, known)
+            self.assertEqual(f"{ended.exception}\n", said)
+        self.put(PROGRAMS, "TOGETHER", {})
+        self.put(PROGRAMS, "shown", lambda reference: set())
+        self.put(PROGRAMS, "expressions", dict)
+        self.put(PROGRAMS, "PANICS", {})
+        self.assertRaisesRegex(SystemExit, "^rust/bench/calls.py: no call is shown$", PROGRAMS.asked, self.root)
+
+    def test_a_program_links_where_no_panic_is_left(self):
+        asked = []
+
+        def run(command, **more):
+            asked.append((command, more))
+            return SimpleNamespace(returncode=ends[0], stderr=ends[1])
+
+        self.put(PROGRAMS.subprocess, "run", run)
+        for ends, links in (((0, ""), True), ((1, "undefined: a_panic_is_left"), False), ((0, "a_panic_is_left"), True)):
+            self.assertEqual(PROGRAMS.links("a.rs", ["-C", "lto"], "a"), links)
+        self.assertEqual(asked[0], (["rustc", "-C", "lto", "-o", "a", "a.rs"], {"capture_output": True, "text": True}))
+        ends = (1, "no such type")
+        self.assertRaisesRegex(ValueError, "^a.rs: no such type$", PROGRAMS.links, "a.rs", [], "a")
+
+    def test_a_call_is_told_that_links_and_should_not_or_does_not_and_should(self):
+        workers, asked = [], []
+        pool = PROGRAMS.ThreadPoolExecutor
+        self.put(PROGRAMS, "ThreadPoolExecutor", lambda count: workers.append(count) or pool(count))
+        self.put(PROGRAMS, "PROGRAM", "{ CALL }")
+
+        def links(source, words, out):
+            asked.append((source.name, words, out.name))
+            return "linked" in read(source)
+
+        self.put(PROGRAMS, "links", links)
+        calls = {"d": "1", "c": "linked", "a": "2", "b": "linked"}
+        self.assertEqual(PROGRAMS.unlinked(calls, ["-C"], self.root), ["a", "d"])
+        self.assertEqual((workers, sorted(asked)), ([2], [(f"call-{it}.rs", ["-C"], f"call-{it}") for it in range(4)]))
+        self.assertEqual(read(self.root / "call-0.rs"), "{ 1 }")
+        self.put(PROGRAMS, "PANICS", {"a": "it does", "b": "it does", "c": PROGRAMS.BY_CORE})
+        self.assertEqual(PROGRAMS.faults(calls, ["-C"], self.root), ["`d` has a panic", "`b` has none"])
+
+    def test_the_program_makes_one_call_and_nothing_defines_where_a_panic_goes(self):
+        self.assertEqual((PROGRAMS.PROGRAM.count("CALL"), PROGRAMS.PROGRAM.count("fn a_panic_is_left")), (1, 1))
