@@ -193,8 +193,7 @@ class Places(ast.NodeVisitor):
 
 def shown(text, start, end, new):
     """The lines of a change after it, and as they are."""
-    first, last = text.rfind(b"\n", 0, start) + 1, text.find(b"\n", end)
-    before, behind = text[first:start].decode(), text[end:last].decode()
+    before, behind = text[:start].rpartition(b"\n")[2].decode(), text[end:].partition(b"\n")[0].decode()
     old, new = (" ".join(it.split()) for it in (text[start:end].decode(), new))
     cut = [f"{it[:70]}.." if len(it) > 70 else it for it in (new, old)]
     return " for ".join(f"`{before.lstrip()}{it}{behind.rstrip()}`" for it in cut)
@@ -346,7 +345,7 @@ def main(arguments, root):
     failed = told(fates, known)
     if not end and len(fates) < len(asked):
         return f"{len(fates)} of {len(asked)} changes were tried"
-    stale = [] if end else [it for it in known if it.partition(":")[0] in files and fates.get(it, "it is not there") is not None]
+    stale = [] if end else [it for it in known if it.partition(":")[0] in files and (it, None) not in fates.items()]
     print("".join(f"no longer survives, or is no longer there: {it}\n" for it in stale), end="")
     print(f"{len(fates)} of {len(asked)} changes of the tools were tried in {time.monotonic() - start:.0f} seconds")
     return failed or bool(stale)

@@ -36,8 +36,8 @@ CHANGES = {
     "a % b": ["a * b"], "a ** b": [], "-a": [], "(a) + (b)": ["(a) - (b)"], "a not  in b": [],
     "3": ["4", "2"], "1.5": [], "'ab'": ['""'], "''": [], "True": ["False"], "None": [], "b'a'": [],
     "g(a, b)": ["g(b, a)"], "g(a, b, c)": ["g(b, a, c)", "g(a, c, b)"], "g(a, k=b)": [], "g(a, a)": [],
-    # (the second would be no program)
-    "g(a, k=b, *c)": [],
+    # (with two arguments swapped it would be no program)
+    "g(a, k=b, *c) + 1": ["g(a, k=b, *c) - 1", "g(a, k=b, *c) + 2", "g(a, k=b, *c) + 0"],
     "a[b:c]": ["a[:c]", "a[b:]"], "a[:]": [], "a[b]": [],
     "a if b else c": ["a if True else c", "a if False else c"], "[a for a in b]": [],
     "[a for a in b if c]": ["[a for a in b if True]", "[a for a in b if False]"],
@@ -216,7 +216,7 @@ class Fates(TreeTest):
         self.assertEqual(([it for _, it in first], len(first[0][0])), ([1100], 8))
         orders = []
         for day in ("7", "8", "9"):
-            self.main_told("--sample", day, "100")
+            self.main_told("--sample", day, "100", SUMS)
             orders.append(self.asked[0][0])
         self.assertEqual(orders[0], first[0][0])
         self.assertEqual(len({tuple(it) for it in orders}), 3)
@@ -265,8 +265,9 @@ class Mutants(TreeTest):
         """Each copy has the code of its tools, which is made once."""
         self.write("out/made", "")
         self.write("deep/target/made", "")
+        self.write("deep/other.py", "")
         self.write("tools/test_sums.py", TESTS.replace("import unittest", "import unittest\nfrom pathlib import Path").replace(
-            "        self.assertEqual", "        self.assertFalse(list(Path('..').rglob('made')))\n"
+            "        self.assertEqual", "        self.assertFalse([*Path('..').rglob('made'), *Path('../deep').rglob('*.pyc')])\n"
             "        code = Path(sums.__cached__).read_bytes()\n        self.assertEqual(code[4], 3)\n        self.assertEqual"))
         copies = []
         self.put(mutants, "copied", lambda *words, copied=mutants.copied: copies.append(words) or copied(*words))
