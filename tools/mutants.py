@@ -11,7 +11,8 @@ The rules: a comparison, `and`, `or` and a sum for its neighbour; a number by on
 value, and without its `not`; a statement out; a returned value to None; two arguments swapped; a bound of a part out; a word for
 its opposite. The tools are copied, with the repository that their tests read. Each change is tried on the tests named as its
 tool, then on those of what imports it, however far, and on those of `tools/run`. Each file of tests is run once without a change,
-too, and has to pass. One that takes ten times as long after a change is ended, and counts as seen.
+too, and has to pass. One that takes ten times as long after a change is ended, and counts as seen. A module of a bench, which is
+tried if it is named, has tools/test_bench.py alone.
 
 Two changes are tried at a time, each in a copy of its own among the temporary files; TMPDIR=/dev/shm keeps these in memory.
 """
