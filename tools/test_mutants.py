@@ -34,6 +34,7 @@ CHANGES = {
     "a and b or c": ["a or b or c", "a and b and c"], "a and b and c": ["a or b and c", "a and b or c"], "not a": ["bool(a)"],
     "a + b": ["a - b"], "a - b": ["a + b"], "a * b": ["a + b"], "a | b": ["a & b"], "a & b": ["a | b"], "a // b": ["a * b"],
     "a % b": ["a * b"], "a ** b": [], "-a": [], "(a) + (b)": ["(a) - (b)"], "a not  in b": [],
+    "g(a + b) + c": ["g(a - b) + c", "g(a + b) - c"], "a not  in 'b not in c'": ['a not  in ""'],
     "3": ["4", "2"], "1.5": [], "'ab'": ['""'], "''": [], "True": ["False"], "None": [], "b'a'": [],
     "g(a, b)": ["g(b, a)"], "g(a, b, c)": ["g(b, a, c)", "g(a, c, b)"], "g(a, k=b)": [], "g(a, a)": [],
     # (with two arguments swapped it would be no program)
@@ -72,6 +73,7 @@ class Changes(TreeTest):
 
     def test_a_statement_goes_and_what_says_what_a_part_does_stays(self):
         for text, wanted in (
+            ("a = (b +  # +\n     c)\n", ["pass\n", "a = (b -  # +\n     c)\n"]),
             ("a()\n", ["pass\n"]), ("a = b\n", ["pass\n"]), ("import a\nfrom a import b\n", []), ('"""A text."""\n', []),
             ("pass\n", []), ("class A:\n    pass\n", []), ("def f():\n    return\n", []),
             ("if a:\n    b()\n", ["pass\n", "if True:\n    b()\n", "if False:\n    b()\n", "if a:\n    pass\n"]),
