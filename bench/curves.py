@@ -43,8 +43,8 @@ def each(found):
 
 def by_length(curve):
     """The counts of the sides that have the call, by length."""
-    sides = [it for it in SIDES if it in curve]
-    return {size: {it: curve[it][size] for it in sides} for size in curve[sides[0]]}
+    first, *others = [it for it in SIDES if it in curve]
+    return {size: {it: curve[it][size] for it in (first, *others)} for size in curve[first]}
 
 
 def means(curve, sides):

@@ -13,8 +13,8 @@ tools/run calls             compares
 tools/run calls --write     first makes that list (call_lists.py)
 tools/run calls --added     prints the proved calls of the string that arraystring 0.3.0 lacks, but for the counted ones
 """
-import importlib.util
 import re
+import runpy
 import textwrap
 from collections import namedtuple
 
@@ -42,7 +42,7 @@ def source(file):
 
 
 def text_of(root, files):
-    return "\n".join(read(it) for it in sorted(root.glob(files)))
+    return "".join(read(it) for it in sorted(root.glob(files)))
 
 
 def calls_of(text):
@@ -52,7 +52,7 @@ def calls_of(text):
 
 def string_blocks(text):
     """The impls of `ArrayString` of a text."""
-    return "\n".join(block[0] for block in STRING.finditer(text))
+    return "".join(block[0] for block in STRING.finditer(text))
 
 
 def string_calls(text):
@@ -115,15 +115,13 @@ def panicking(root):
 
 def bench_calls(file):
     """The calls of the string for which rust/bench/calls.py has a program."""
-    spec = importlib.util.spec_from_file_location("bench_calls", file)
-    module = importlib.util.module_from_spec(spec)
-    spec.loader.exec_module(module)
-    return set(re.findall(r"ArrayString::(\w+)(?= |$)(?! behind)", "\n".join(module.expressions()), re.M))
+    made = runpy.run_path(str(file))["expressions"]()
+    return set(re.findall(r"ArrayString::(\w+)(?= |$)(?! behind)", "\n".join(made), re.M))
 
 
 def made_in(names, files):
     """Those of some names that tests of every state try: by `each` with the name, or as a call of the string."""
-    text = "\n".join(map(source, files))
+    text = "".join(map(source, files))
     made = re.findall(r'each\(\s*"(\w+)"|\b(?:string|ArrayString(?:::<\w+>)?)(?:\.|::)(\w+)\b', text)
     return names.intersection(name for both in made for name in both)
 
@@ -144,13 +142,14 @@ def call_places(root):
     rust_page = "rust/arraystring/README.md"
     core, string = (text_of(root, f"crates/{it}/src/**/*.rt") for it in STRING_CRATES[1:])
     calls = string_calls(core) | calls_of(string)
+    files = [rust_page, "README.md", "crates/*/*.md"]
     pages = section(read(root / "README.md"), "The calls") + text_of(root, "crates/*/*.md")
     page = read(root / rust_page)
     listed = [it for heading in ("What cuts, and what refuses", "The calls") for it in inline_code(section(page, heading))]
     lists = "what lists of calls and pages for callers name"
     in_source = of_files(root, "src/ of the string", calls, *(f"crates/{it}/src/**/*.rt" for it in STRING_CRATES))
     code = listed + inline_code(pages)
-    yield "public calls", in_source, of_files(root, lists, named(calls, code), rust_page, "README.md", "crates/*/*.md")
+    yield "public calls", in_source, of_files(root, lists, named(calls, code), *files)
     traits = traits_of(core + string)
     yield "traits", in_source._replace(names=traits), of_files(root, rust_page, traits.intersection(listed), rust_page)
 
@@ -201,7 +200,7 @@ def places(root):
         of_files(root, "the table of bodies in README.md", bodies, "README.md")
 
     promises, public_api = "docs/promises.md", "crates/arraystring_tests/src/tests/public_api.rt"
-    promised = " ".join(it.removeprefix("laws") for it in inline_code(read(root / promises)) if it.startswith("laws::"))
+    promised = "".join(it.removeprefix("laws") for it in inline_code(read(root / promises)) if it.startswith("laws::"))
     laws = calls_of(text_of(root, "crates/*/src/laws.rt"))
     yield "laws", of_files(root, "crates/*/src/laws.rt", laws, "crates/*/src/laws.rt"), \
         of_files(root, promises, set(re.findall(r"\w+", promised)), promises)
@@ -278,10 +277,10 @@ def main(arguments, root):
         return True
     if arguments == ["--added"]:
         print(textwrap.fill(" ".join(sorted(added(root))), 100))
-        return False
+        return
     twice = list(places(root))
     files = ["rust/arraystring/src/**/*.rs", *(f"crates/{it}/src/**/*.rt" for it in STRING_CRATES)]
-    shapes = neighbours.shapes_of("\n".join(string_blocks(text_of(root, it)) for it in files))
+    shapes = neighbours.shapes_of("".join(string_blocks(text_of(root, it)) for it in files))
     faults = [fault for it in twice for fault in faults_of(root, shapes, *it)]
     faults += [*faults_of_pages(root), *faults_of_moves(root)]
     faults = [*call_lists.faults(root, lists), *faults]

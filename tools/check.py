@@ -45,8 +45,8 @@ import words
 
 
 def declared_tests(folder):
-    """The names of the tests in the files of a folder, as unittest tells them; one that stands twice in a class twice."""
-    for file in sorted(folder.glob("*.py")):
+    """The names of the tests in the files below a folder, as unittest tells them; one that stands twice in a class twice."""
+    for file in sorted(folder.rglob("*.py")):
         classes = [it for it in ast.walk(ast.parse(repository.read(file))) if isinstance(it, ast.ClassDef)]
         for kind in classes:
             names = [it.name for it in kind.body if isinstance(it, ast.FunctionDef) and it.name.startswith("test")]
@@ -62,7 +62,7 @@ def tests(arguments, root):
     """Runs the tests of the tools; one that is there and was not run is a fault, too."""
     suite = unittest.defaultTestLoader.discover(str(root / "tools"))
     found = [it.id() for it in tests_of(suite)]
-    result = unittest.TextTestRunner(verbosity=0).run(suite)
+    result = unittest.TextTestRunner(verbosity=False).run(suite)
     ran = Counter(found) - Counter(it.id() for it, _ in result.skipped)
     missed = Counter(declared_tests(root / "tools")) - ran
     print("".join(f"{it} was not run\n" for it in sorted(missed)), end="")
@@ -70,42 +70,42 @@ def tests(arguments, root):
     return bool(missed) or not result.wasSuccessful()
 
 
-# The parts, each with the words of its call, and how much it has to say at least that it looked at. A search that finds less than
-# there is fails at nothing else. So these are near what there is: what grows by more than a tenth is written here again.
+# The parts, each with the words of its call, and what it has to say that it looked at, with the least number. A search that finds
+# less than there is fails at nothing else. So these are near what there is: what grows by more than a tenth is written here again.
 PARTS = [
-    (tests, [], {"{} tests of the tools": 241}),
-    (trusted.main, [], {"run: {} definitions": 65, "all public contracts: {} definitions": 200}),
-    (words.main, [], {"{} rows of docs/definitions.md": 22}),
-    (promises.main, [], {"{} promises": 189}),
-    (dead.main, [], {"{} lemmas and laws are cited": 760}),
-    (imported.main, ["--check"], {"{} laws that crates above import": 41}),
-    (equality.main, [], {"{} types have == by a derive": 14}),
-    (quotes.main, [], {"{} blocks are as in the files": 37}),
-    (calls.main, [], {"{} names stand in two places": 490, "{} public calls": 58, "{} traits": 18}),
-    (evidence.main, [], {"wrong bodies try {} functions": 190}),
-    (controls.main, ["--check"], {"{} controls are as they were": 144}),
-    (reasons.main, ["--check"], {"the reasons of {} functions": 97}),
-    (proved.main, ["--check"], {"{} sources of the Rust crate are as they were proved": 240}),
+    (tests, [], ["311 tests of the tools"]),
+    (trusted.main, [], ["run: 65 definitions", "all public contracts: 200 definitions"]),
+    (words.main, [], ["22 rows of docs/definitions.md"]),
+    (promises.main, [], ["189 promises"]),
+    (dead.main, [], ["760 lemmas and laws are cited"]),
+    (imported.main, ["--check"], ["41 laws that crates above import"]),
+    (equality.main, [], ["14 types have == by a derive"]),
+    (quotes.main, [], ["37 blocks are as in the files"]),
+    (calls.main, [], ["490 names stand in two places", "58 public calls", "18 traits"]),
+    (evidence.main, [], ["wrong bodies try 190 functions"]),
+    (controls.main, ["--check"], ["144 controls are as they were"]),
+    (reasons.main, ["--check"], ["the reasons of 97 functions"]),
+    (proved.main, ["--check"], ["240 sources of the Rust crate are as they were proved"]),
 ]
 
 
-def status_of(command, folder):
-    """The status of a command, whose output nobody reads; one that is not there is told."""
+def has_failed(command, folder):
+    """Whether a command fails, whose output nobody reads; one that is not there is told."""
     try:
-        return subprocess.run(command, cwd=folder, stdout=subprocess.DEVNULL).returncode
+        return subprocess.run(command, cwd=folder, stdout=subprocess.DEVNULL).returncode != 0
     except OSError as error:
         print(error)
-        return 1
+        return True
 
 
 def is_written(root):
     """Writes what commands can write; whether none of them fails."""
     commands = [(["rt", "fmt"], root / "crates" / it) for it in repository.crates(root)]
     commands += [(["rust/erase/run"], root)] if shutil.which("cargo") else []
-    statuses = [status_of(*it) for it in commands]
+    failed = [has_failed(*it) for it in commands]
     for page in (calls, quotes, words, promises):
         page.main(["--write"], root)
-    return not any(statuses)
+    return not any(failed)
 
 
 def is_recorded(root):
@@ -113,32 +113,30 @@ def is_recorded(root):
     return not controls.main([], root) and not proved.main([], root)
 
 
-def fault_of_count(form, found, least):
-    """What is wrong with what a part said that it looked at; None where nothing is."""
-    told = form.format(found[1] if found else "no")
-    if not found or int(found[1]) < least:
+def fault_of_count(due, said):
+    """What is wrong with what a part said that it looked at, where so much is due; None where nothing is."""
+    before, least, behind = re.split(r"(\d+)", due)
+    found = re.search(rf"{re.escape(before)}(\d+){re.escape(behind)}", said)
+    told = found[0] if found else f"{before}no{behind}"
+    if not found or int(found[1]) < int(least):
         return f"{told}, where at least {least} are due"
-    return f"{told}, and tools/check.py asks for {least} alone: write more there" if int(found[1]) > 1.1 * least else None
+    return f"{told}, and tools/check.py asks for {least} alone: write more there" if int(found[1]) > 1.1 * int(least) else None
 
 
-def fails(root, part, words, least):
+def fails(root, part, words, dues):
     """Whether a part fails or looked at too little; prints what it says."""
     with redirect_stdout(io.StringIO()) as said:
         failed = part(words, root)
     print(said.getvalue(), end="")
-    for form, count in least.items() if not failed else []:
-        found = re.search(re.escape(form).replace(r"\{\}", r"(\d+)"), said.getvalue())
-        fault = fault_of_count(form, found, count)
-        if fault:
-            failed = True
-            print(fault)
-    return failed
+    faults = [] if failed else [fault for it in dues if (fault := fault_of_count(it, said.getvalue()))]
+    print("".join(f"{it}\n" for it in faults), end="")
+    return failed or bool(faults)
 
 
-def timed(root, part, words, least):
+def timed(root, part, words, dues):
     """Whether a part fails, its name, and how many seconds it took."""
     begins = time.perf_counter()
-    failed = fails(root, part, words, least)
+    failed = fails(root, part, words, dues)
     name = part.__module__ if part.__name__ == "main" else part.__name__
     return failed, name, time.perf_counter() - begins
 

@@ -71,7 +71,7 @@ class Callers:
         """The laws that are passed on by their names, though no page names them and nothing imports them from there; and the
         names with a dash in LAWS.md, and those that begin inline code of another page, that are neither laws for callers nor
         answers."""
-        imported = {it for names in tree.modules.values() for it in names.values() if isinstance(it, tuple)}
+        imported = {it for names in tree.modules.values() for it in names.values()}
         for module, law in self.passed_on:
             if not module.endswith(".Lib") and law not in self.named and (module, law.name) not in imported:
                 yield f"{module} passes on {law.name}, which no page names and nothing imports"
@@ -86,19 +86,17 @@ class Callers:
 
 def dead_helpers(item):
     """The helpers below a `where` of an item that it names nowhere but in their own lines."""
-    for at in (number for number, line in enumerate(item.lines) if re.fullmatch(r" *(\] )?where", line)):
-        indent = re.match(" *", item.lines[at + 1])[0]
-        end = next((i for i in range(at + 1, len(item.lines)) if not item.lines[i].startswith(indent)), len(item.lines))
-        begins = [i for i in range(at + 1, end) if re.match(rf"{indent}{NAME} : ", item.lines[i])]
-        for first, last in zip(begins, [*begins[1:], end]):
-            name = item.lines[first].split()[0]
-            if name not in re.findall(NAME, "\n".join(item.lines[:first] + item.lines[last:])):
-                yield f"{item}: its helper {name} is cited by nothing"
+    text = "\n".join(item.lines)
+    # (what stands below is looked at and not taken, as another `where` may stand there)
+    for below, indent in re.findall(r"(?m)^ *(?:\] )?where\n(?=(( *).*(?:\n\2.*)*))", text):
+        for helper in re.finditer(rf"(?m)^{indent}({NAME}) : .*(?:\n(?!{indent}{NAME} : ).*)*", below):
+            if helper[1] not in re.findall(NAME, text.replace(helper[0], "")):
+                yield f"{item}: its helper {helper[1]} is cited by nothing"
 
 
 def unused_imports(text):
     """What a module imports and neither uses nor passes on. An operator is used by its signs, `◌∙◌` by `∙`."""
-    without_comments = re.sub(r"(?m)(^|\s)--(\s.*)?$", "", re.sub('"[^"]*"', '""', text))
+    without_comments = re.sub(r"(?m)(^|\s)--(\s.*)?$", "", re.sub('"[^"]*"', "", text))
     words = set(re.findall(rf"\[\]|{NAME}", IMPORT.sub("", without_comments)))
     names = imports(re.sub(r"(?m)^(unfoldable )?pub use .*", "", text))
     return [it for it in names if not words.issuperset(filter(None, it.split("◌")))]

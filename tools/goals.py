@@ -28,10 +28,8 @@ def subject(crate, module):
 
 def proofs(folder):
     """Prints what the proofs of a crate take; whether it does not prove."""
-    last = ""
     with cost.first_check(folder) as run:
-        for last in run.stdout:
-            pass
+        *_, last = ["", *run.stdout]
     written = sorted((it.stat().st_mtime_ns, it.stem) for it in folder.glob("out/incremental/*/*.oantt"))
     seconds = [((at - before) / 10**9, subject(folder.name, module)) for (before, _), (at, module) in pairwise(written)]
     for long, name in sorted(seconds, key=lambda it: it[0], reverse=True):

@@ -30,8 +30,8 @@ class Item:
     it is in."""
 
     def __init__(self, path, number, line, code, comment, around, names):
-        form = rf"\s*(abbrev |unfoldable )?(pub )?(data |record |ruleset )?({NAME})"
-        kind, public, other, self.name = re.match(form, line).groups()
+        form = rf"\s*(abbrev |unfoldable )?(pub )?(data |record |ruleset )?({NAME}).*"
+        kind, public, other, self.name = re.fullmatch(form, line).groups()
         self.path, self.number, self.lines, self.code, self.around, self.names = path, number, [line], [code], around, names
         self.comment = comment
         self.module, self.crate, self.part = module_of(path), path.parts[1], path.parts[2]
@@ -82,8 +82,9 @@ class Modules:
     def __init__(self, root):
         self.root, self.items, self.modules = root, [], {}
         for folder in [root / "crates" / it for it in crates(root)]:
-            order = "".join(read(it) for it in folder.glob("specs/Lib.antt"))
-            specs = sorted(folder.glob("specs/**/*.antt"), key=lambda it: order.find(f"mod {it.stem}\n"))
+            listed = folder / "specs/Lib.antt"
+            order = read(listed) if listed.exists() else ""
+            specs = sorted(folder.glob("specs/**/*.antt"), key=lambda it: len(order.split(f"mod {it.stem}\n")[0]))
             for file in [*specs, *sorted(folder.glob("proofs/**/*.antt"))]:
                 path = file.relative_to(root)
                 items, self.modules[module_of(path)] = parsed(path, read(file))

@@ -11,7 +11,8 @@ The rules: a comparison, `and`, `or` and a sum for its neighbour; a number by on
 value, and without its `not`; a statement out; a returned value to None; two arguments swapped; a bound of a part out; a word for
 its opposite. The tools are copied, with the repository that their tests read. Each change is tried on the tests named as its
 tool, then on those of what imports it, however far, and on those of `tools/run`. Each file of tests is run once without a change,
-too, and has to pass. One that takes ten times as long after a change is ended, and counts as seen.
+too, and has to pass. One that takes ten times as long after a change is ended, and counts as seen. A module of a bench, which is
+tried if it is named, has tools/test_bench.py alone.
 
 Two changes are tried at a time, each in a copy of its own among the temporary files; TMPDIR=/dev/shm keeps these in memory.
 """
@@ -38,6 +39,7 @@ LISTED = "rust/equivalent.txt"
 WORKERS = 2
 # For how many seconds of a processor each file of tests may go on, and for how many of the clock.
 LEAST, LONGEST = 10, 600
+TOO_LONG = (-signal.SIGXCPU, -signal.SIGKILL)
 FORK = multiprocessing.get_context("fork")
 
 COMPARISONS = {
@@ -46,7 +48,7 @@ COMPARISONS = {
 }
 SUMS = {ast.Add: "-", ast.Sub: "+", ast.Mult: "+", ast.BitOr: "&", ast.BitAnd: "|", ast.FloorDiv: "*", ast.Mod: "*"}
 PAIRS = [("any", "all"), ("min", "max"), ("startswith", "endswith"), ("removeprefix", "removesuffix"), ("partition", "rpartition"),
-         ("find", "rfind"), ("match", "search"), ("continue", "break"), ("append", "remove"), ("rglob", "glob")]
+         ("find", "rfind"), ("match", "search"), ("append", "remove"), ("rglob", "glob")]
 OPPOSITES = {**dict(PAIRS), **{other: one for one, other in PAIRS}}
 
 
@@ -56,7 +58,7 @@ class Places(ast.NodeVisitor):
     def __init__(self, text):
         self.text = text.encode()
         lines = self.text.splitlines(keepends=True)
-        self.starts = [sum(map(len, lines[:it])) for it in range(len(lines) + 1)]
+        self.starts = [sum(map(len, lines[:it])) for it in range(len(lines))]
         self.around, self.found = [], []
         self.visit(ast.parse(text))
 
@@ -76,11 +78,11 @@ class Places(ast.NodeVisitor):
             self.put(*self.span(node), text)
 
     def between(self, one, other, word, texts):
-        """Changes the sign that stands between two parts."""
+        """Changes the sign that stands between two parts, as it stands there first: what comes behind it may be a comment."""
         start, end = self.span(one)[1], self.span(other)[0]
-        at = self.text.find(word.encode(), start, end)
-        for text in texts if at >= 0 else []:
-            self.put(at, at + len(word), text)
+        front, sign, _ = self.text[start:end].partition(word.encode())
+        for text in texts if sign else []:
+            self.put(start + len(front), start + len(front) + len(sign), text)
 
     def generic_visit(self, node):
         for field in ("body", "orelse", "finalbody"):
@@ -105,6 +107,12 @@ class Places(ast.NodeVisitor):
     def visit_Expr(self, node):
         if not isinstance(node.value, ast.Constant):
             self.generic_visit(node)
+
+    def visit_Continue(self, node):
+        self.put_at(node, "break")
+
+    def visit_Break(self, node):
+        self.put_at(node, "continue")
 
     def visit_Return(self, node):
         if node.value is not None:
@@ -186,8 +194,7 @@ class Places(ast.NodeVisitor):
 
 def shown(text, start, end, new):
     """The lines of a change after it, and as they are."""
-    first, last = text.rfind(b"\n", 0, start) + 1, text.find(b"\n", end)
-    before, behind = text[first:start].decode(), text[end:last].decode()
+    before, behind = text[:start].rpartition(b"\n")[2].decode(), text[end:].partition(b"\n")[0].decode()
     old, new = (" ".join(it.split()) for it in (text[start:end].decode(), new))
     cut = [f"{it[:70]}.." if len(it) > 70 else it for it in (new, old)]
     return " for ".join(f"`{before.lstrip()}{it}{behind.rstrip()}`" for it in cut)
@@ -215,8 +222,10 @@ def imported_by(file):
 
 
 def tests_of(root, file):
-    """The files of tests that may see a change of a tool, in the order in which they are asked: those named as the tool, those that
-    import it, those that import what imports it, and those of tools/run, which runs them as programs."""
+    """The files of tests that may see a change of a tool, in the order in which they are asked: those named as the tool, those
+    that import it, those that import what imports it, and those of tools/run, which runs them as programs. The benches have one."""
+    if "bench" in Path(file).parts:
+        return ["test_bench"]
     tool, folder = Path(file).stem, root / "tools"
     files = {it.stem: it for it in folder.glob("*.py")}
     reached = lambda name: closed([name], lambda it: imported_by(files[it]) & files.keys())
@@ -234,10 +243,10 @@ def run_tests(folder, name, seconds):
         del sys.modules[it]
     sys.path.insert(0, str(folder))
     nowhere = os.open(os.devnull, os.O_RDWR)
-    for it in range(3):
+    for it in (0, 1, 2):
         os.dup2(nowhere, it)
-    sys.stdout = sys.stderr = open(os.devnull, "w")
-    resource.setrlimit(resource.RLIMIT_CPU, (seconds, seconds))
+    # (a limit that nobody may raise would fail the tests of this tool, which set limits of their own)
+    resource.setrlimit(resource.RLIMIT_CPU, (seconds, resource.RLIM_INFINITY))
     unittest.main(name, argv=["", "-f"])
 
 
@@ -266,7 +275,7 @@ def seen_by(tree, file, text, tests, usual):
         status, _ = ran(tree, it, LEAST + int(10 * usual[it]))
         (tree / file).write_bytes(kept)
         if status:
-            return it if status > 0 else f"{it} (it ran too long)"
+            return f"{it} (it ran too long)" if status in TOO_LONG else it
     return None
 
 
@@ -290,14 +299,12 @@ def tried(root, asked, end):
         for number in range(WORKERS):
             tree = copies.enter_context(copied(root, "out", "target"))
             # (which is read where a file is as it was, however short a time ago that was)
-            compileall.compile_dir(tree / "tools", quiet=1, invalidation_mode=py_compile.PycInvalidationMode.CHECKED_HASH)
-            worker = FORK.Process(target=work, args=(tree, asked[number::WORKERS], tests, end, waiting))
-            worker.start()
-            copies.callback(worker.join)
+            compileall.compile_dir(tree / "tools", quiet=True, invalidation_mode=py_compile.PycInvalidationMode.CHECKED_HASH)
+            FORK.Process(target=work, args=(tree, asked[number::WORKERS], tests, end, waiting)).start()
         for _ in range(WORKERS):
             for name, by in iter(waiting.get, None):
                 fates[name] = by
-                print(f"{name}: {by or 'not seen'}", file=sys.stderr, flush=True)
+                print(f"{name}: {by or 'not seen'}", file=sys.stderr)
     return fates
 
 
@@ -339,7 +346,7 @@ def main(arguments, root):
     failed = told(fates, known)
     if not end and len(fates) < len(asked):
         return f"{len(fates)} of {len(asked)} changes were tried"
-    stale = [] if end else [it for it in known if it.partition(":")[0] in files and fates.get(it, "it is not there") is not None]
+    stale = [] if end else [it for it in known if it.partition(":")[0] in files and (it, None) not in fates.items()]
     print("".join(f"no longer survives, or is no longer there: {it}\n" for it in stale), end="")
     print(f"{len(fates)} of {len(asked)} changes of the tools were tried in {time.monotonic() - start:.0f} seconds")
     return failed or bool(stale)

@@ -5,6 +5,8 @@ import re
 from repository import read
 
 CALL = re.compile(r"(?m)^ *pub (?:const |unsafe )*fn (\w+)(?:<[^(]*>)?(\([^{]*)")
+# What stands between the names of a list: in code, in a text, and on a page.
+BETWEEN = r", | \| | "
 
 
 def shapes_of(text):
@@ -21,7 +23,7 @@ def nearest(name, names, shapes):
     def distance(other):
         is_other_shape = shapes.get(other) != shapes.get(name)
         apart = order[name] - order[other] if name in order and other in order else len(order)
-        return is_other_shape, abs(apart), apart < 0, -len(os.path.commonprefix([name, other])), other
+        return is_other_shape, abs(apart), -apart, -len(os.path.commonprefix([name, other])), other
 
     return sorted(names, key=distance)
 
@@ -30,20 +32,18 @@ def with_name(line, name, other, names):
     """The line in which the other name stands, as it would be with this one: in a list of names behind it, else in its place."""
     if len(names.intersection(re.findall(r"\w+", line))) < 2:
         return re.sub(rf"\b{other}\b", name, line)
-    found = re.search(rf"[^\s,|(\[]*\b{other}\b(?:\([^()]*\))?[^\s,|)\]]*", line)
-    # (in code, in a text and on a page names stand one behind the other, with or without a comma)
-    comma = ", " if line[found.end():].startswith(",") or line[:found.start()].endswith(", ") else " "
-    token = found[0].strip('"')
-    ends = line[:found.end()].removesuffix('"')
-    return f"{ends}{comma}{re.sub(rf'{other}', name, token)}{line[len(ends):]}"
+    found = re.search(rf'"{other}"|[^\s,|(\["]*\b{other}\b(?:\([^()]*\))?[^\s,|)\]"]*', line)
+    before, behind = line[:found.start()], line[found.end():]
+    signs = re.match(BETWEEN, behind) or re.search(f"(?:{BETWEEN})$", before)
+    return "".join([before, found[0], signs[0] if signs else " ", re.sub(rf"\b{other}\b", name, found[0]), behind])
 
 
 def rank(line, other, known):
-    """How well a line shows where a name stands, 0 where it does not have it: best is a list of names, then the line that says it
-    most often, which does nothing else."""
+    """How well a line shows where a name stands, nothing where it does not have it: best is a list of names, then the line that
+    says it most often, which does nothing else."""
     times = len(re.findall(rf"(?<![\w-]){re.escape(other)}(?![\w-])", line))
     is_list = len(known.intersection(re.findall(r"\w+", line))) > 1
-    return times and times + 100 * is_list
+    return (is_list, times) if times else ()
 
 
 def place_of(root, files, name, names, shapes):
@@ -57,7 +57,7 @@ def place_of(root, files, name, names, shapes):
         if ranks.get(best):
             file, number, line = best
             return f"{file.relative_to(root)}:{number}: as `{other}` there: {with_name(line, name, other, known)}"
-    return ""
+    return None
 
 
 def standing(root, files, name):

@@ -16,6 +16,7 @@ call says, the page says by hand, outside of these parts.
 import re
 import textwrap
 from collections import namedtuple
+from itertools import takewhile
 
 from page_parts import prose
 from repository import public_types, read, sources
@@ -43,9 +44,9 @@ def said(comment):
     return " ".join(text.split()).replace("|", "\\|")
 
 
-def impl_of(line):
-    """The type and the trait of the first line of an impl; no trait where it has none."""
-    trait, _, kind = re.sub(r"^impl(<(?:[^<>]|<[^<>]*>)*>)? ", "", line).rpartition(" for ")
+def impl_of(head):
+    """The type and the trait of an impl, of what its first line has behind `impl`; no trait where it has none."""
+    trait, _, kind = re.sub(r"^(<(?:[^<>]|<[^<>]*>)*>)? ", "", head).rpartition(" for ")
     return re.findall(r"\w+", kind)[0], re.sub(r"^(\w+::)+", "", trait)
 
 
@@ -53,11 +54,11 @@ def items_of(text):
     """The impls and the functions of a file that have a comment, each with its clauses."""
     lines, comment, kind, trait = text.splitlines(), [], "", ""
     for at, line in enumerate(lines):
-        found = re.match(r"( *)(pub )?(?:const )?(?:fn (\w+)|impl\b)", line)
+        found = re.match(r"( *)(pub )?(?:const )?(?:fn (\w+)|impl\b(.*))", line)
         if found:
             if not found[1]:
-                kind, trait = ("", "") if found[3] else impl_of(line)
-            rest = "" if line.endswith("}") else "\n".join(lines[at + 1:])
+                kind, trait = impl_of(found[4]) if found[4] else ("", "")
+            rest = "" if line.endswith("}") else "\n".join(lines[at:])
             header = re.split(rf"(?m)^{found[1]}(\{{\}}?$|\}}$|    fn )", rest)[0]
             clauses = [one or other for one, other in CLAUSE.findall(header)]
             if comment and clauses:
@@ -82,7 +83,7 @@ def table_of(root, file, public):
     """The table of a file, or its comment alone, and how many rows it has."""
     name, text = file.relative_to(root).as_posix(), read(file)
     title = "/".join(file.relative_to(root).parts[3:])
-    module = text_of(re.match(r"(?://!.*\n)*", text)[0].splitlines()).split("\n\n")[0]
+    module = text_of(takewhile(lambda it: it.startswith("//!"), text.splitlines())).split("\n\n")[0]
     heading = f"### [{title}](../{name})\n\n{textwrap.fill(module, 130, break_on_hyphens=False)}\n\n"
     if name in BY_FILE:
         return heading, 1

@@ -77,7 +77,7 @@ def with_rows(folder, rows):
         text = read(folder / file) if (folder / file).exists() else ""
         of_file = re.findall(rf"(?m)^\|.*\|`{re.escape(file)}`\n", rows)
         before, due = "", {it for it in calls.calls_of(text) if not it.endswith("_counted")}
-        for call in functions_of(text, False, frozenset()):
+        for call in functions_of(text):
             row = next((it for it in of_file if re.search(rf"`{call.name}\(", it)), "")
             if call.name in due and not row:
                 row = row_of(call, file)
@@ -116,7 +116,7 @@ def faults_of(root, text):
 def faults_of_row(row, file):
     """What is wrong with a row of a table of calls, and which calls it has."""
     named, makes, error = row
-    functions = {it.name: it for it in functions_of(read(file), False, frozenset())} if file.exists() else {}
+    functions = {it.name: it for it in functions_of(read(file))} if file.exists() else {}
     names = re.findall(r"`(\w+)\(", named)
     faults = [f"{file.name} has no call {it}" for it in names if it not in functions]
     contracts = [functions[it].header for it in names if it in functions]

@@ -135,8 +135,8 @@ def answers(output, errors):
     behind a line about allocations and before the line `case=NAME` with its status."""
     outputs = dict(re.findall(r"(?ms)^== (\S+)\n(.*?)(?=^== |\Z)", output))
     parts = re.split(r"(?m)^case=(\S+) (.*)\n", errors)
-    for said, name, how in zip(parts[0::3], parts[1::3], parts[2::3]):
-        status = re.match(r"run=ended status=(\d+) ", how)
+    for said, name, how in zip(parts[::3], parts[1::3], parts[2::3]):
+        status = re.fullmatch(r"run=ended status=(\d+) .*", how)
         yield name, Answer(int(status[1]) if status else how, outputs.get(name), re.sub(r"^allocations: .*\n", "", said))
 
 

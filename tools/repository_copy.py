@@ -13,5 +13,5 @@ def copied(root, *but):
     if root.resolve() in (temporary, *temporary.parents):
         sys.exit(f"the folder for temporary files is inside the repository, so a copy would copy itself: {temporary}")
     with tempfile.TemporaryDirectory(prefix="arraystring-") as room:
-        ignored = shutil.ignore_patterns(".git", *but)
-        yield Path(shutil.copytree(root, Path(room, "copy"), ignore=ignored, symlinks=True))
+        ignored = [".git", *but]
+        yield Path(shutil.copytree(root, Path(room, "copy"), ignore=shutil.ignore_patterns(*ignored), symlinks=True))

@@ -29,7 +29,7 @@ class Function(namedtuple("Function", "name kind trait is_asked place span heade
 
 
 @cache
-def functions_of(text, is_program, public):
+def functions_of(text, is_program=False, public=frozenset()):
     """The functions of a source file; those of a trait's impl are asked about if its type is among the public ones."""
     found, lines, kind, trait, block = [], text.split("\n"), "", "", ""
     for at, line in enumerate(lines):

@@ -20,6 +20,11 @@ impl<'a, const N: usize> From<&'a str> for ArrayString<N> {
 }
 
 impl<const N: usize> Model for ArrayString<N> {}
+
+#[derive(Hash)]
+pub struct Text(u8);
+
+impl Add for Text {}
 """
 RUST = """\
 macro_rules! array_string {
@@ -28,6 +33,7 @@ macro_rules! array_string {
         pub fn pop_counted(&mut self, steps: &mut Steps) {}
         pub unsafe fn pop_unchecked(&mut self) {}
         pub fn slice(&self) {}
+        pub fn as_mut_str(&mut self) {}
         #[doc(hidden)]
         #[must_use]
         pub const fn of_constant(text: &str) {}
@@ -44,6 +50,10 @@ PLAYED = """\
         "get" | "drain" if is_part => given(" at"),
         _ => return,
     }
+    match call {
+        "slice" => text.slice(),
+        _ => return,
+    }
 """
 LISTED = """\
 const AT_THE_END: &str = "pop pop_counted pop_unchecked slice";
@@ -55,7 +65,7 @@ const IN_RANGE: &str =
 """
 README = """\
 ## The calls
-`capacity()`, `.._counted`
+`capacity()`, `.._counted`, `u8`
 
 ## The crates, and what is proved
 ```text
@@ -72,7 +82,7 @@ arraystring_uses ── arraystring ── arraystring_base
 """
 RUST_PAGE = """\
 ## What cuts, and what refuses
-`pop()`, `slice`
+`pop()`, `slice`, `as_mut_str`
 
 ## The calls
 `.._counted`, `.._unchecked`, `Clone`, `Copy`, `From<&str>`
@@ -95,7 +105,7 @@ PANICS = {
 
 
 def expressions():
-    names = "pop pop_counted slice"
+    names = "pop pop_counted slice as_mut_str"
     return [f"ArrayString::{it}" for it in names.split()] + ["ArrayString::push behind `pop`", "CacheString::new"]
 """
 ON_RUST, BODIES = "rust/arraystring/README.md", "the table of bodies in README.md"
@@ -111,14 +121,14 @@ class Calls(TreeTest):
         call_lists.FILE: call_lists.made(LISTS),
         LINES: 'match word {\n"pop" => {}\n"push" => {}\n',
         SCRIPTS: "|`pop`, `push C`|says `no char`|\n",
-        "crates/arraystring/src/lib.rt": "pub fn capacity() {}\n",
+        "crates/arraystring/src/lib.rt": "pub fn capacity() {}\npub fn size() {}\n",
         CORE: STRING,
         "crates/arraystring_core/src/other.rt": "pub fn no_call_of_the_string() {}\n",
         BASE: "pub fn move_run() {\n    1\n}\n",
         LAWS: "pub fn parts() {}\n",
         "crates/arraystring_run/src/laws.rt": "pub fn replies() {}\n",
-        "crates/arraystring/CALLING.md": "`capacity()`\n",
-        PROMISES: "`laws::{parts, replies}`\n",
+        "crates/arraystring/CALLING.md": "`size()`\n",
+        PROMISES: "`laws::{parts, replies}` and `pop`\n",
         PUBLIC_API: "laws::parts();\n",
         PLAYERS[0]: PLAYED,
         PLAYERS[1]: LISTED,
@@ -128,21 +138,26 @@ class Calls(TreeTest):
         STATES: 'made += case.each("pop", &popped, |it| it.pop());\n',
         OTHER_STATES: "made += case.each(\n    \"slice\", it);\nArrayString::<N>::pop_counted(steps);\nstring.pop_unchecked();\n",
         DIFFERENCES: "## Left out\n`pop`\n\n## Added\n`slice`, `.._counted`, `.._unchecked`\n",
-        PROGRAM: "string.pop();\nstring.pop_counted(steps);\n",
+        PROGRAM: "string.pop();\nstring.pop_counted(steps);\nstring.as_mut_str();\n",
+        # (what a copy of the repository has below it is not of it)
+        f"copy/{CORE}": STRING.replace("pop", "copied"),
+        f"copy/{ON_RUST}": RUST_PAGE,
+        f"copy/{STATES}": 'made += case.each("pop", it);\n',
     }
 
     def test_what_stands_in_two_places_is_counted(self):
-        counts = "3 public calls, 3 traits, 4 Rust calls, 2 calls without panics, 3 calls of programs, 4 calls in every state, " \
+        counts = "4 public calls, 3 traits, 5 Rust calls, 3 calls without panics, 4 calls of programs, 4 calls in every state, " \
             "3 calls that arraystring 0.3.0 lacks, 6 calls of tables, 4 calls in tables, 1 counted calls, 2 laws, " \
             "1 laws of the string, 2 commands, 3 crates, 3 crates with a line"
-        self.assertEqual(self.told(calls), (False, f"44 names stand in two places: {counts}\n"))
+        self.assertEqual(self.told(calls), (False, f"48 names stand in two places: {counts}\n"))
 
     def test_what_one_of_two_places_lacks_is_told(self):
         here, lists = "src/ of the string", "what lists of calls and pages for callers name"
         lacks = "{} lacks {}, which {} has\n".format
         self.assert_finds(calls, *((lacks(*names), *changes) for *names, changes in (
-            (lists, "capacity", here, [("crates/arraystring/CALLING.md", "capacity\n\n```rust\n`capacity`\n```\n"),
-                                       ("README.md", r"`capacity\(\)`, ", "")]),
+            (lists, "capacity", here, [("README.md", r"`capacity\(\)`, ", "")]),
+            (lists, "size", here, [("crates/arraystring/CALLING.md", "size\n\n```rust\n`size`\n```\n")]),
+            (lists, "discounted", here, [(CORE, "fn hidden", "pub fn discounted")]),
             (lists, "pop_counted", here, [("README.md", r", `\.\._counted`", ""), (ON_RUST, r"`\.\._counted`, ", "")]),
             (lists, "pop", here, [(ON_RUST, r"`pop\(\)`, ", "")]),
             (lists, "more", here, [(CORE, "fn hidden", "pub fn more")]),
@@ -188,14 +203,14 @@ class Calls(TreeTest):
         """As the call that stands next among those of its form does."""
         front = "        pub fn pop(&mut self) {}\n        pub fn pop_front(&mut self) {}\n"
         proved = "    pub fn pop(&mut self) {}\n    pub fn pop_front(&mut self) {}\n"
-        listed = f"{ON_RUST}:2: as `pop` there: `pop()`, `pop_front()`, `slice`"
+        listed = f"{ON_RUST}:2: as `pop` there: `pop()`, `pop_front()`, `slice`, `as_mut_str`"
         self.assert_finds(calls, *((f"{lacking} lacks pop_front, which {having} has\n    {place}\n", *changes)
                                    for lacking, having, place, *changes in (
             ("what lists of calls and pages for callers name", "src/ of the string", listed, (CORE, "^ *pub fn pop\\(.*\n", proved)),
             *((lacking, "rust/arraystring/src", place, (IN_RUST, "^ *pub fn pop\\(.*\n", front)) for lacking, place in (
                 (ON_RUST, listed),
                 (PROGRAM, f"{PROGRAM}:1: as `pop` there: string.pop_front();"),
-                (PANICS, f'{PANICS}:8: as `pop` there: names = "pop pop_front pop_counted slice"'),
+                (PANICS, f'{PANICS}:8: as `pop` there: names = "pop pop_front pop_counted slice as_mut_str"'),
                 (EVERY_STATE, f'{STATES}:1: as `pop` there: made += case.each("pop_front", &popped, |it| it.pop_front());'),
                 (PLAYERS[0], f'{PLAYERS[0]}:5: as `pop` there: "pop_front" => text.pop_front(),'),
             )),
@@ -217,6 +232,7 @@ class Calls(TreeTest):
             calls,
             *((f"{page} names pop_front, which is no call\n", (page, heading, rf"{heading}\n`pop`, `pop_front()`, `.._more`"))
               for page, heading in ((ON_RUST, "## The calls"), (DIFFERENCES, "## Added"))),
+            (f"{ON_RUST} names push_front, which is no call\n", (ON_RUST, "## The calls", "## The calls\n`push_front`")),
             ("", (ON_RUST, "## The calls", "## The calls\n`pop_counted`, `split_at_mut`, `arraystring_base`, `str`")),
             ("", (DIFFERENCES, "## Left out", "## Left out\n`pop_front`")),
         )
@@ -224,6 +240,9 @@ class Calls(TreeTest):
     def test_the_calls_that_arraystring_lacks_are_printed_and_a_block_names_them(self):
         with self.changed((CORE, "fn hidden", "pub fn more(&self) {}\n    pub fn get_counted")):
             self.assertEqual(self.told(calls, "--added"), (False, "more\n"))
+        for longest, signs in (("b" * 50, " "), ("b" * 51, "\n")):
+            with self.changed((CORE, "fn hidden", f"pub fn {'a' * 49}(&self) {{}}\n    pub fn {longest}")):
+                self.assertEqual(self.told(calls, "--added"), (False, f"{'a' * 49}{signs}{longest}\n"))
         printed = (DIFFERENCES, "## Added\n`slice`, ", "## Added\n\nPrinted by `tools/run calls --added`:\n\n")
         lacks = f"{DIFFERENCES} lacks slice, which rust/arraystring/src has\n"
         sliced = (CORE, "fn hidden", "pub fn slice"), ("README.md", "`capacity", "`slice`, `capacity")

@@ -3,7 +3,7 @@ import re
 import shutil
 import subprocess
 import sys
-import time
+from types import SimpleNamespace
 
 import check
 from planted import TreeTest
@@ -20,11 +20,17 @@ class Check(TreeTest):
     # (what takes no time is told last)
     SECONDS = "seconds: one 0.0, two 0.0\n"
 
-    def parts(self, failing=None, said="5 letters and 30 numbers are", waits=0):
-        """There are two parts, of which each says this and takes its time, and one may fail."""
+    def setUp(self):
+        super().setUp()
+        self.clock = 100
+        self.put(check, "time", SimpleNamespace(perf_counter=lambda: self.clock))
+
+    def parts(self, failing=None, said="5 letters and 30 numbers are", takes=0):
+        """There are two parts, of which each says this, the second takes some seconds, and one may fail."""
         def part(number, name):
             def main(words, root):
-                time.sleep(number * waits)
+                self.assertEqual((words, root), ([], self.root))
+                self.clock += number * takes
                 print(said)
                 return number == failing
 
@@ -32,7 +38,7 @@ class Check(TreeTest):
             return main
 
         parts = [part(*it) for it in enumerate(("one", "two"))]
-        self.put(check, "PARTS", [(it, [], {"{} letters": 5, "and {} numbers are": 30}) for it in parts])
+        self.put(check, "PARTS", [(it, [], ["5 letters", "and 30 numbers are"]) for it in parts])
 
     def test_each_part_is_asked_and_enough_to_fail(self):
         named = [f"{it.__module__}.{it.__name__} {' '.join(words)}".strip() for it, words, _ in check.PARTS]
@@ -59,15 +65,16 @@ class Check(TreeTest):
         self.assertEqual(self.told(check)[1].splitlines()[:2], ["a fault"] * 2)
 
     def test_it_says_how_long_each_part_takes(self):
-        self.parts(waits=0.15)
-        seconds = re.search(r"(?m)^seconds: one (\d+\.\d), two (\d+\.\d)$", self.told(check)[1])
-        self.assertTrue(float(seconds[1]) < 0.15 <= float(seconds[2]) + 0.05, seconds)
-        self.put(check, "PARTS", [(check.tests, [], {})])
-        self.put(check, "fails", lambda root, part, words, least: False)
+        self.parts(takes=1.25)
+        self.assertEqual(self.told(check)[1].splitlines()[-1], "seconds: one 0.0, two 1.2")
+        self.put(check, "PARTS", [(check.tests, [], [])])
+        self.put(check, "fails", lambda root, part, words, dues: False)
         self.assertEqual(self.told(check), (False, "seconds: tests 0.0\n"))
 
     def test_each_part_has_to_say_what_it_looked_at(self):
-        self.assertTrue(all(least and min(least.values()) > 0 for _, _, least in check.PARTS))
+        for part, _, dues in check.PARTS:
+            self.assertTrue(dues, part.__module__)
+            self.assertEqual([len(re.findall("[1-9]\\d*", it)) for it in dues], [1] * len(dues), dues)
 
     def written(self, failing=""):
         """Whether it fails where this command does, and what is written by which command."""
@@ -105,11 +112,11 @@ class Check(TreeTest):
                                 ("proved", ["controls", "proved"]), ("written", ["controls", "proved", "written"])):
             met = []
             for module in (check.controls, check.proved):
-                self.put(module, "main", lambda words, root, it=module.__name__: met.append(it) or it == failing)
-            self.put(check, "is_written", lambda root: not met.append("written") and failing != "written")
+                self.put(module, "main", lambda *given, it=module.__name__: met.append((it, *given)) or it == failing)
+            self.put(check, "is_written", lambda root: not met.append(("written", [], root)) and failing != "written")
             self.parts()
             failed, said = self.told(check, "--record")
-            self.assertEqual((failed, met), (bool(failing), wanted))
+            self.assertEqual((failed, met), (bool(failing), [(it, [], self.root) for it in wanted]))
             self.assertIn(self.SECONDS, said)
 
     def test_nothing_is_written_unasked(self):
@@ -128,12 +135,16 @@ class Tests(TreeTest):
             if not file.name.startswith("test_"):
                 self.write(f"tools/{file.name}", file.read_text(encoding="utf-8"))
         self.write("tools/test_sums.py", CLASS + TEST.format("a", 2) + "\n" + TEST.format("b", 2))
+        # (what is no tool has its tests elsewhere)
+        self.write("bench/test_times.py", CLASS + TEST.format("a", 2))
 
     def ran(self):
         """Whether they fail, and what is said on standard output."""
         code = "import sys; sys.dont_write_bytecode = True; import check, repository; sys.exit(check.tests([], repository.ROOT))"
         run = subprocess.run([sys.executable, "-c", code], cwd=self.root / "tools", capture_output=True, encoding="utf-8")
         shutil.rmtree(self.root / "tools/__pycache__", ignore_errors=True)
+        # (of a test that passes nothing is said)
+        self.assertNotRegex(run.stderr, r"(?m)^\.")
         return run.returncode != 0, run.stdout
 
     def test_a_test_that_fails_or_is_not_run_is_a_fault(self):
@@ -149,6 +160,7 @@ class Tests(TreeTest):
             (not_run("test_sums.Sums.test_a") + not_run("test_sums.Sums.test_b") + all_run(0),
              (file, r"\(unittest.TestCase\)", "")),
             (not_run("sums.Sums.test_a") + all_run(2), ("tools/sums.py", CLASS + TEST.format("a", 2))),
+            (not_run("test_deep.Sums.test_a") + all_run(2), ("tools/deep/test_deep.py", CLASS + TEST.format("a", 2))),
             (not_run("test_sums.Sums.test_b") + all_run(1), (file, END, "\n\ndel Sums.test_b\n")),
         ):
             with self.subTest(told), self.changed(*changes):

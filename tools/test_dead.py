@@ -26,10 +26,13 @@ use Rattle.numbers.specs.Edits.{doubling}
 
 module _ (n : ℕ) where
   pub doubling-made : n ≡ n
-  doubling-made = law n
+  doubling-made = law n done
     where
-      law : (m : ℕ) → m ≡ m
+      law : (m : ℕ) →
+        m ≡ m
       law m = doubling m
+      done : ℕ → ℕ
+      done m = law m
 """
 EDITS = """\
 abbrev pub doubling : List ℕ → ℕ → Edit (Unit {0})
@@ -40,7 +43,7 @@ UNDER = "\nunder : (n : ℕ) → half n ≡ n\nunder n = half-odd n\n"
 FOLDER, END = "crates/numbers", r"\Z"
 FILE, ANSWER, SOURCE = f"{FOLDER}/proofs/HalfLemmas.antt", f"{FOLDER}/proofs/halve/Answers.antt", f"{FOLDER}/src/lib.rt"
 ROWS, ROW, PAGE = f"{FOLDER}/proofs/RowLaws.antt", f"{FOLDER}/specs/Edits.antt", f"{FOLDER}/LAWS.md"
-UPPER = "crates/upper/proofs"
+UPPER, COPY = "crates/upper/proofs", f"{FOLDER}/out/copy"
 
 
 class Dead(TreeTest):
@@ -51,6 +54,11 @@ class Dead(TreeTest):
         FILE: LEMMAS,
         ANSWER: ANSWERS,
         SOURCE: "pub fn halve(n: u8) -> u8 {\n    n / 2\n}\n",
+        # (what a copy of the crate has below it is not of it)
+        f"{COPY}/proofs/MoreLaws.antt":
+            "use Rattle.std.proofs.Common.{refl}\npub use Rattle.numbers.proofs.RowLaws.{doubling-made}\n",
+        f"{COPY}/LAWS.md": "`doubling-made` and `doubling-gone`\n",
+        f"{COPY}/src/lib.rt": "#[tactic(auto, using(crate::proofs::HalfLemmas::half_odd))]\n",
     }
 
     def assert_passes(self):
@@ -107,7 +115,7 @@ class Dead(TreeTest):
             (unused(FILE, "◌∙◌"), more),
             (unused(FILE, "half"), (FILE, r"half \(n \+ n\)", "n")),
             (unused(FILE, "refl"), (FILE, "= refl", "= tt -- refl")),
-            (unused(FILE, "refl"), (FILE, "= refl", '= "refl"')),
+            (unused(FILE, "refl"), (FILE, "= refl", '= "as refl does"')),
             (unused(FILE, "other"), (FILE, "refl}", "refl as other}"), (FILE, "= refl", "= tt")),
             (unused(FILE, "[]"), (FILE, "refl}", "refl, []}")),
             (unused(ANSWER, "half"), by_module),
@@ -132,10 +140,21 @@ class Dead(TreeTest):
     def test_a_helper_that_the_rest_of_its_lemma_does_not_name_is_told(self):
         self.laws("`doubling-made n`\n")
         self.assert_passes()
-        with self.changed((ROWS, "= law n", "= doubling n")):
-            self.assert_fails("doubling-made: its helper law is cited by nothing")
-        with self.changed((ROWS, "= law n", "= doubling n"), (ROWS, "= doubling m", "= law m")):
-            self.assert_fails("doubling-made: its helper law is cited by nothing")
+        for wanted, *changes in (("done", ("= law n done", "= law n")), ("law", ("= law", "= doubling")),
+                                 ("law", ("= law", "= doubling"), ("law m = doubling m", "law m = law m"))):
+            with self.changed(*((ROWS, *it) for it in changes)):
+                said = f"{ROWS}:5: doubling-made: its helper {wanted} is cited by nothing\n"
+                self.assertEqual(self.told(dead), (True, said))
+
+    def test_a_helper_below_another_and_one_below_a_rewriting_are_told(self):
+        below = "\n        where\n          deep : ℕ\n          deep = 1\n"
+        for old, new, wanted in ((r"      done : ℕ", below[1:] + "      done : ℕ", "deep"), ("    where", "    ] where", "")):
+            self.laws("`doubling-made n`\n")
+            with self.changed((ROWS, old, new)):
+                self.assertEqual([it.partition("helper ")[2] for it in self.told(dead)[1].splitlines()],
+                                 [f"{wanted} is cited by nothing" if wanted else ""])
+        with self.changed((ROWS, "    where", "    ] where"), (ROWS, "n done", "n")):
+            self.assert_fails("its helper done is cited by nothing")
 
     def test_a_page_names_laws_by_themselves_or_by_their_family(self):
         self.write(f"{FOLDER}/proofs/OtherLaws.antt", "pub halving-made : 1 ≤ 2\nhalving-made = omega arith\n")
@@ -165,6 +184,30 @@ class Dead(TreeTest):
         self.write("crates/upper/LAWS.md", "no law\n")
         self.assert_fails("doubling-made is cited by nothing")
 
+    def test_a_module_that_passes_several_on_passes_on_each_and_no_other(self):
+        """Also one that no page names."""
+        self.write(f"{FOLDER}/proofs/OtherLaws.antt", "pub halving-made : 1 ≤ 2\nhalving-made = omega arith\n")
+        self.write(f"{FOLDER}/proofs/ThirdLaws.antt", "pub third-made : 1 ≤ 2\nthird-made = omega arith\n")
+        self.passed_on("Lib.antt", "pub use Rattle.numbers.proofs.OtherLaws\npub use Rattle.numbers.proofs.RowLaws\n")
+        self.write(PAGE, "`doubling-made n`, `halving-made` and `third-made`\n")
+        for page in ("`doubling-made n` and `halving-made`\n", "no law\n"):
+            self.write("crates/upper/LAWS.md", page)
+            self.assert_passes()
+        self.write("crates/upper/LAWS.md", "`third-made`\n")
+        self.assert_fails("crates/upper/LAWS.md names third-made, which is no law for callers")
+
+    def test_a_lemma_that_is_passed_on_is_no_law(self):
+        self.write("crates.txt", "numbers:\nupper: numbers\n")
+        self.write(f"{UPPER}/UpperLaws.antt", "pub use Rattle.numbers.proofs.HalfLemmas.{half-even}\n")
+        self.assert_passes()
+
+    def test_a_page_may_name_an_answer_and_what_has_another_form_than_a_name(self):
+        self.write(PAGE, "`returns-all` and `IsHalf-made`\n")
+        with self.changed((ANSWER, "^(pub )?returns", r"\1returns-all")):
+            self.assertEqual(self.told(dead), (True, f"{PAGE} names IsHalf-made, which is no law for callers\n"))
+            self.write(f"{FOLDER}/CALLING.md", "`IsHalf-made`\n")
+            self.assertEqual(len(self.told(dead)[1].splitlines()), 1)
+
     def test_a_law_that_is_passed_on_by_its_name_is_imported_or_named_by_a_page(self):
         self.passed_on("UpperLaws.antt", "pub use Rattle.numbers.proofs.RowLaws.{doubling-made}\n")
         self.assert_passes()
@@ -187,5 +230,5 @@ class Dead(TreeTest):
         self.passed_on("Lib.antt", "pub use Rattle.numbers.proofs.RowLaws\n")
         self.write("crates/upper/CALLING.md", "`doubling-made n`, `c.in_err-call`, `..-made` and `kit-13`\n")
         self.assert_passes()
-        self.write("crates/upper/CALLING.md", "`doubling-done n`\n")
+        self.write("crates/upper/CALLING.md", "`doubling-done n m`\n")
         self.assert_fails("crates/upper/CALLING.md names doubling-done, which is no law for callers")

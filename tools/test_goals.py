@@ -25,8 +25,7 @@ done <<'END'
 5000 Rattle-other-proofs.h.Proof
 6000 Rattle-numbers.proofs.h.Proof
 END
-echo 'src/lib.rt:1:1: open'
-exit STATUS
+ENDS
 """
 
 LISTED = """\
@@ -37,19 +36,23 @@ LISTED = """\
 
 
 class Goals(TreeTest):
-    FILES = {"crates.txt": "numbers:\n", "crates/numbers/src/lib.rt": "fn f() {}\n"}
+    # (what another crate has kept in a folder of this one is none of its proofs)
+    FILES = {"crates.txt": "numbers:\n", "crates/numbers/src/lib.rt": "fn f() {}\n",
+             "crates/numbers/other/out/incremental/build/Rattle-numbers-proofs.OtherLaws.oantt": ""}
+    SAYS = "echo 'src/lib.rt:1:1: open'; "
 
-    def told_of(self, status):
+    def told_of(self, ends):
         """What is told where a check ends so."""
-        self.write_program("bin/rt", STAND_IN.replace("STATUS", status))
+        self.write_program("bin/rt", STAND_IN.replace("ENDS", ends))
         with mock.patch.dict(os.environ, {"PATH": f"{self.root}/bin:{os.environ['PATH']}"}):
             return self.told(goals, "numbers")
 
     def test_what_takes_over_a_second_is_told_the_slowest_first(self):
-        self.assertEqual(self.told_of("0"), (False, LISTED))
+        self.assertEqual(self.told_of(self.SAYS + "exit 0"), (False, LISTED))
 
     def test_a_crate_that_is_not_proved_is_told_of_and_fails(self):
-        self.assertEqual(self.told_of("1"), (True, LISTED + "numbers was not proved: src/lib.rt:1:1: open\n"))
+        self.assertEqual(self.told_of(self.SAYS + "exit 1"), (True, LISTED + "numbers was not proved: src/lib.rt:1:1: open\n"))
+        self.assertEqual(self.told_of("exit 1"), (True, LISTED + "numbers was not proved: \n"))
 
     def test_a_crate_is_named(self):
         self.assertEqual(self.told(goals), (True, "name a crate"))

@@ -233,6 +233,12 @@ uncited n = refl
             *(("", (f"{NUMBERS}/{it}/Answers.antt", "new : ℕ\nnew = 1\n")) for it in ("proofs/nothing", "deep/proofs/twice")),
         )
 
+    def test_a_stored_proof_counts_as_it_is_written(self):
+        """What a name means may depend on what stands above it."""
+        one, two, file = "a : ℕ\na = 1\n", "b : ℕ\nb = 2\n", f"{NUMBERS}/proofs/twice/Invariants.antt"
+        self.write(file, f"{one}\n{two}")
+        self.assert_stale(("twice", (file, f"{two}\n{one}")), ("", (file, f"{one}\n\n{two}")))
+
     def test_the_stored_proofs_of_callers_count_where_they_are_asked_for(self):
         twice, quadrupled = (f"{NUMBERS}/proofs/{it}/Answers.antt" for it in ("twice", "quadrupled"))
         self.assert_stale(
@@ -243,6 +249,8 @@ uncited n = refl
             ("get other", (LIB, "^    1$", "    value.get()")),
             # (one in a crate above has proofs of its own)
             ("letter", (f"{LETTERS}/proofs/letter/Answers.antt", "new : ℕ\nnew = 1\n")),
+            # (nor are those of a name that a caller in a crate below has its own)
+            ("", (f"{LETTERS}/proofs/twice/Answers.antt", "new : ℕ\nnew = 1\n")),
             kinds=("function", "callers"),
         )
 
@@ -277,6 +285,10 @@ uncited n = refl
             ("alone", (f"{LETTERS}/specs/Lib.antt", r"specs.Sums\n\Z", "specs.Others as Sums\n")),
             (self.OF_TWICE, (LIB, "min as least", "max as least")),
         )
+
+    def test_a_definition_of_the_same_text_is_another_in_another_module(self):
+        self.write(LETTER, self.FILES[LETTER].replace("passed (held true)", "passed true"))
+        self.assert_stale(("alone", (f"{LETTERS}/specs/Lib.antt", r"specs.Sums\n\Z", "specs.Others as Sums\n")))
 
     def test_types_constants_and_imports_count_where_they_are_named(self):
         self.assert_stale(

@@ -46,7 +46,8 @@ class Imported(unittest.TestCase):
         "crates/arraystring/proofs/EditLaws.antt": LAW.format("popping-made") + LAW.format("other-made"),
         "crates/arraystring_base/proofs/TextLaws.antt": LAW.format("size-is") + LAW.format("width-is"),
         "crates/beside/proofs/Lib.antt": "use Rattle.arraystring_base.proofs.TextLaws.{width-is}\n",
-        PROOF: f"use {TEXT}.{{size-is as size}}\nuse Rattle.arraystring.proofs.EditLaws.{{popping-made}}\n",
+        PROOF: f"use Rattle.std.proofs.Common.{{refl}}\nuse {TEXT}.{{size-is as size}}\n"
+               "use Rattle.arraystring.proofs.EditLaws.{popping-made}\n",
         LIB: "#[tactic(auto, using(arraystring::proofs::TextLaws::one_text))]\n",
         "crates/near_tests/src/lib.rt": f"ghost use {TEXT}.{{size-is}};\n",
     }

@@ -18,6 +18,8 @@ pub struct Line {
 impl Model for Line {}
 
 impl Line {
+    /// One.
+    const ONE: u8 = 1; // one
     /// Returns its length,
     /// in bytes.
     ///
@@ -64,14 +66,16 @@ impl Line {
 }
 
 /// Prints it.
-impl<'a> fmt::Display for Line {
+impl<'a> fmt::Display for Line<'a> {
     ghost use Rattle.std.specs.Prelude.{Some};
 
     ghost output = { λ line. line };
 
-    /// Writes it, as fn other does.
+    /// Writes it,
+    /// as fn other does.
     fn fmt(&self) -> bool
         ensures written { result }
+        ensures again { result }
     {
         true
     }
@@ -108,6 +112,14 @@ pub fn other()
     ensures one { 0 ≡ 0 }
 {}
 """
+MORE = """\
+//! More.
+
+/// It is more.
+pub fn more()
+    ensures { 0 ≡ 0 }
+{}
+"""
 PAGE = """\
 # Promises
 
@@ -119,6 +131,14 @@ By hand.
 Behind it.
 """
 TABLES = """\
+
+### [deep/more.rt](../crates/base/src/deep/more.rt)
+
+More.
+
+|Call|What it promises|Clauses|
+|---|---|---|
+|`more`|It is more.|
 
 ### [laws.rt](../crates/base/src/laws.rt)
 
@@ -138,7 +158,7 @@ Lines of text, short ones.
 |`Line::len`|Returns its length, in bytes. It is `a \\| b`. **Errors.** The first decides: `Err(One)` if it is one; \
 `Err(Two)` if it is two. **Precondition.** It has to end.|`value`
 |`Display` of `Line`|Prints it.|`output`
-|`Line::fmt`|Writes it, as fn other does.|`written`
+|`Line::fmt`|Writes it, as fn other does.|`written`, `again`
 |`made`|Makes a line.|
 
 """
@@ -150,11 +170,12 @@ class Promises(TreeTest):
         promises.PAGE: PAGE.replace("<!-- end", f"{TABLES}<!-- end"),
         FILE: SOURCE,
         LAW: LAWS,
+        "crates/base/src/deep/more.rt": MORE,
         "crates/base/src/none.rt": "//! None.\n",
     }
 
     def test_the_tables_are_those_of_the_comments(self):
-        self.assertEqual(self.told(promises), (False, f"6 promises of {promises.PAGE} are as the comments say\n"))
+        self.assertEqual(self.told(promises), (False, f"7 promises of {promises.PAGE} are as the comments say\n"))
 
     def test_what_is_by_hand_stays_and_the_tables_are_written(self):
         self.write(promises.PAGE, PAGE)
@@ -169,7 +190,7 @@ class Promises(TreeTest):
             (writes + row.format("a"), (promises.PAGE, "Makes a line", "Makes one line")),
             (writes + "Lines of text, long ones.", (FILE, "short ones", "long ones")),
             (writes + "w w w w", (FILE, "short ones", "w " * 100)),
-            (writes + "|`Line::fmt`|Writes it, as fn other does.|`wrote`", (FILE, "ensures written", "ensures wrote")),
+            (writes + "|`Line::fmt`|Writes it, as fn other does.|`wrote`, `again`", (FILE, "ensures written", "ensures wrote")),
             (writes + "|`Line::bare`|Has no clause.|",
              (FILE, r"bare\(&self\) -> usize \{", "bare(&self) -> usize\n        ensures { 1 }\n    {")),
             (writes + "### [more.rt](../crates/base/src/more.rt)", ("crates/base/src/more.rt", LAWS)),
@@ -185,12 +206,17 @@ class Promises(TreeTest):
             ("", (FILE, r"    \{\n        1", "    {\n        2")),
         )
 
+    def test_each_line_that_is_stale_is_told_on_its_own(self):
+        with self.changed((FILE, "Makes a line", "Makes one"), (FILE, "Prints it", "Prints"), (LAW, "So does", "So")):
+            said = self.told(promises)[1].splitlines()
+        self.assertEqual([it.partition("|`")[2].partition("`")[0] for it in said], ["laws::other", "Display", "made"])
+
     def test_a_file_whose_calls_are_those_of_another_has_its_comment_alone(self):
         self.put(promises, "BY_FILE", {LAW})
         self.assertFalse(self.told(promises, "--write")[0])
         page = read(self.root / promises.PAGE)
         self.assertIn("(../crates/base/src/laws.rt)\n\nLaws.\n\n### [line.rt]", page)
-        self.assertEqual(self.told(promises), (False, f"5 promises of {promises.PAGE} are as the comments say\n"))
+        self.assertEqual(self.told(promises), (False, f"6 promises of {promises.PAGE} are as the comments say\n"))
 
     def test_each_such_file_is_there(self):
         self.assertTrue(all((ROOT / it).is_file() for it in promises.BY_FILE))

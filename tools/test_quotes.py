@@ -186,7 +186,8 @@ class Quotes(TreeTest):
         """Behind that of the call before it in its file, or else first of the file."""
         cited = "pub fn {}({}) -> Result<u8, Bold>\n    ensures {{ Makes {} self.old.text (from result) self.new.text }}\n{{\n" \
             "    own()\n}}\n\n"
-        adding = cited.format("add", "&mut self, at: u8, other: &str", "(addition self.old.text at (chars other.now) (cap N))")
+        makes = "(addition self.old.text at (chars other.now) (cap N))"
+        adding = cited.format("add<I: Char>", "&mut self, at: u8, other: &str", makes)
         row, made = "|`add(at, other)`|`addition t at (chars other) n`|`Bold`|`words.rt`\n", "|`part()`|`left n`||`words.rt`\n"
         first, clearing = PAGE[:PAGE.index("|`greet(name)`")], "|`clear()`|`clearing`|`Bold`|`words.rt`\n"
         clears = cited.format("clear", "&mut self", "clearing")

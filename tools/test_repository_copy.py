@@ -20,6 +20,16 @@ class Copies(TreeTest):
         with repository_copy.copied(self.root) as copy:
             self.assertTrue((copy / "deep/out/made").exists())
 
+    def test_a_link_stays_one(self):
+        """What it leads to may not be there in a copy, as a file of git is not."""
+        os.symlink("../.git/config", self.root / "deep/link")
+        with repository_copy.copied(self.root) as copy:
+            self.assertEqual(os.readlink(copy / "deep/link"), "../.git/config")
+
+    def test_a_copy_that_is_left_behind_says_whose_it_is(self):
+        with repository_copy.copied(self.root) as copy:
+            self.assertRegex(copy.parent.name, "^arraystring-")
+
     def test_a_folder_for_temporary_files_inside_the_repository_is_refused(self):
         """The copy would copy itself, again and again."""
         (self.root / "deep/er").mkdir()

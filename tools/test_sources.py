@@ -124,8 +124,8 @@ class Sources(TreeTest):
         self.assertEqual(asked, {"first", "inner", "from", "get", "neg"})
 
     def test_what_is_asked_of_a_function_of_a_trait_is_that_its_type_is_public(self):
-        public = [it.name for it in sources.functions_of(SOURCE, False, frozenset(["Hidden"])) if it.is_asked]
-        self.assertEqual(public, ["first", "get", "sub"])
+        for types, wanted in (({}, ["first", "get"]), ({"public": frozenset(["Hidden"])}, ["first", "get", "sub"])):
+            self.assertEqual([it.name for it in sources.functions_of(SOURCE, **types) if it.is_asked], wanted)
 
     def test_a_function_has_names_the_shortest_first(self):
         names = {name: list(dict.fromkeys(it.names())) for name, it in self.found().items()}

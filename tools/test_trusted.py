@@ -1,10 +1,9 @@
 """Which definitions a contract reaches, what specs/ may hold, and what the page has to have."""
 import re
 
-import modules
 import trusted
 from planted import TreeTest
-from repository import read
+from repository import ROOT, crates
 
 WORDS = """\
 use Rattle.std.specs.Prelude.{◌≡◌, length}
@@ -54,10 +53,12 @@ pub fn length_of(line: &Line) -> u8
 }
 """
 PAGE = "|Definition|What|\n|---|---|\n|`IsShort t`|short|\n|`limit`|three|\n|`rest_of t`|all but one|\n"
-LAWS = "use Rattle.base.specs.Words.{IsShort}\n\npub empty-short : IsShort []\nempty-short = omega arith\n"
+LAWS = "use Rattle.base.specs.Words.{IsShort}\nuse Rattle.base.proofs.Order.{total}\n\n" \
+    "pub empty-short : IsShort []\nempty-short = omega arith\n"
 LIST, FILE, END = "crates/base/specs/Lib.antt", "crates/base/specs/Words.antt", r"\Z"
 RUN, USER = "crates/base/src/lib.rt", "crates/user/src/lib.rt"
 IN_ORDER = ["IsShort", "limit", "rest_of"]
+LIBRARIES = list(trusted.LIBRARIES)
 
 
 class Trusted(TreeTest):
@@ -81,8 +82,9 @@ class Trusted(TreeTest):
         return re.findall(r"(?m)^crates/\S+antt:\d+: (\S+): ", said)
 
     def test_a_contract_reaches_what_its_words_are_made_of(self):
-        failed, said = self.told(trusted)
-        self.assertEqual((failed, said.splitlines()[0]), (False, "run: 3 definitions, 6 lines"))
+        self.write("crates/base/proofs/Bounds.antt", "-- no part of specs/\nabbrev pub most : 3 ≡ 3 → ℕ\nmost e = 3\n")
+        counts = "".join(f"{it}: 3 definitions, 6 lines\n" for it in ("run", "all public contracts", "all of specs/"))
+        self.assertEqual(self.told(trusted), (False, counts))
         self.assertEqual(self.reached(of_run=True), IN_ORDER)
         listed = self.told(trusted, "--list")[1]
         self.assertIn(f"{FILE}:4: IsShort: a text is short\n{FILE}:9: limit: how long a short text is at most\n", listed)
@@ -114,8 +116,27 @@ class Trusted(TreeTest):
             self.assertEqual(self.reached(), [])
         with self.changed((RUN, LINE.replace("fn length_of", "fn run"))):
             self.assertEqual(self.reached(of_run=True), ["IsShort", "limit"])
-        with self.changed((RUN, LINE.replace("fn length_of(line: &Line)", "fn run(line: &Other)"))):
-            self.assertEqual(self.reached(of_run=True), [])
+        for source in (LINE.replace("fn length_of(line: &Line)", "fn run(line: &Other)"),
+                       LINE + "\npub fn run(line: &Other) -> u8\n    ensures { result ≡ 1 }\n{\n    1\n}\n"):
+            with self.changed((RUN, source)):
+                self.assertEqual(self.reached(of_run=True), [])
+
+    def test_a_function_of_a_trait_is_as_public_as_its_type(self):
+        line = "ghost use Rattle.base.specs.Words.{limit};\n\npub struct Line {\n}\n\nimpl Shown for Line {\n" \
+            "    fn shown(&self) -> u8\n        ensures { result ≡ limit }\n    {\n        1\n    }\n}\n"
+        for source, wanted in ((line, ["limit"]), (line.replace("pub struct", "struct"), [])):
+            with self.changed((RUN, source)):
+                self.assertEqual(self.reached(), wanted)
+
+    def test_a_proof_that_a_contract_names_is_not_followed(self):
+        proof = "use Rattle.base.specs.Words.{limit}\n\n-- none\npub none : limit ≡ 3\nnone = refl\n"
+        self.write("crates/base/specs/GhostProofs.antt", proof)
+        with self.changed((RUN, SOURCE.replace("Rows.{rest_of}", "GhostProofs.{none}").replace("rest_of", "none"))):
+            self.assertEqual(self.reached(), [])
+
+    def test_libraries_are_the_crates_that_are_no_programs_no_tests_and_no_callers(self):
+        found = [it for it in crates(ROOT) if (ROOT / "crates" / it / "src/lib.rt").exists() and not re.search("test|_uses$", it)]
+        self.assertEqual(LIBRARIES, found)
 
     def test_labels_parameters_fields_and_strings_are_no_words(self):
         source = SOURCE.replace("use Rattle", "use Rattle.base.specs.Words.{limit, IsShort};\nghost use Rattle", 1)
@@ -163,6 +184,8 @@ class Trusted(TreeTest):
         tactics = ("rw", "simp", "search", "assumption", "ground", "cc", "omega", "grind", "hlevel")
         self.assert_finds(trusted, *((f"{FILE}:9: limit calls a tactic: {it}\n", (FILE, "^limit = 3", f"limit = {it} rules"))
                                      for it in tactics))
+        clauses = (FILE, "^limit = 3", "limit zero = omega\nlimit n = 3")
+        self.assert_finds(trusted, (f"{FILE}:9: limit calls a tactic: omega\n", clauses))
         several = (FILE, "^limit = 3", "limit = first_of (omega arith, cc)")
         self.assert_finds(trusted, ("limit calls a tactic: cc, omega", several))
         self.assert_finds(trusted, *(("", (FILE, "^limit = 3", f"limit = {it}")) for it in ("omega2", '"omega"', "3 -- omega")))
@@ -177,50 +200,6 @@ class Trusted(TreeTest):
             ("", (trusted.PAGE, r"^\|`IsShort t`\|short\|\n\|`limit`\|three\|", "|`IsShort t`, `limit`|both|")),
             (in_the_place("IsShort", "rest_of"), (LIST, "(pub mod Words\n)(pub mod Rows\n)", r"\2\1")),
         )
-
-
-class Modules(TreeTest):
-    """What the names in a module stand for."""
-
-    FILES = {
-        "crates.txt": "base:\nuser: base\n",
-        FILE: WORDS + "\ndata Kind : Type 0 where\n  plain : Kind\n  (wide : ℕ) : Kind\n",
-        "crates/user/specs/Lib.antt": "pub use Rattle.base.specs.Words\n",
-    }
-
-    def named(self, term, text):
-        """The names of the items that a term stands for beside these imports."""
-        tree = modules.Modules(self.root)
-        return sorted(it.name for it in tree.named(term, modules.imports(text)))
-
-    def test_a_name_stands_for_what_is_imported_by_it(self):
-        for text, term, wanted in (
-            ("use Rattle.base.specs.Words.{limit}\n", "limit + limits + words.limit", ["limit"]),
-            ("use Rattle.base.specs.Words.{limit as most, IsShort}\n", "most limit", ["limit"]),
-            ("use Rattle.base.specs.Words.{limit as most, IsShort}\n", "limit", []),
-            ("ghost use Rattle.base.specs.Words as words;\n", "words.limit Words.IsShort", ["limit"]),
-            ("use Rattle.base.specs.Words\n", "Words.limit words.IsShort", ["limit"]),
-            ("pub use Rattle.base.specs.Words.{plain}\n", "plain", ["Kind"]),
-            ("unfoldable pub use Rattle.base.specs.Words.{plain}\n", "plain", ["Kind"]),
-            ("use Rattle.user.specs.Words.{\n  limit,\n  IsShort as Brief\n}\n", "Brief t", ["IsShort"]),
-            ("use Rattle.other.specs.Words.{limit}\n", "limit", []),
-        ):
-            with self.subTest(text, term=term):
-                self.assertEqual(self.named(term, text), wanted)
-
-    def test_labels_of_clauses_and_records_and_fields_are_no_words(self):
-        text = "use Rattle.base.specs.Words.{limit, IsShort}\n"
-        for term in ("ensures limit { IsShort t }", "requires limit { IsShort t }", "record { limit = IsShort t }",
-                     "record { other = IsShort t; limit = 0 }", "let limit = IsShort t in t", "IsShort t.limit",
-                     "record {\n  limit = IsShort t\n}"):
-            with self.subTest(term):
-                self.assertEqual(self.named(term, text), ["IsShort"])
-        self.assertEqual(self.named("record { other = limit }", text), ["limit"])
-
-    def test_an_item_has_its_lines_and_the_comment_above_it(self):
-        items, _ = modules.parsed((self.root / FILE).relative_to(self.root), read(self.root / FILE))
-        told = [("IsShort", "a text is short", 2), ("limit", "how long a short text is at most", 2), ("Kind", "", 3)]
-        self.assertEqual([(it.name, it.comment, len(it.lines)) for it in items], told)
-        self.assertTrue(all(it.is_definition for it in items))
-        passed = "unfoldable pub use Rattle.base.specs.Words.{limit}\n"
-        self.assertEqual([it.name for it in modules.parsed((self.root / FILE).relative_to(self.root), passed)[0]], [])
+        with self.changed((trusted.PAGE, r"^(\|`IsShort.*\n)(\|`limit.*\n)", r"\2\1"), (FILE, "^-- a text is short\n", "")):
+            said = self.told(trusted)[1].splitlines()[3:]
+        self.assertEqual(said, [f"{FILE}:3: IsShort has no comment", in_the_place("limit", "IsShort").strip()])

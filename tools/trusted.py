@@ -38,8 +38,8 @@ Contract = namedtuple("Contract", "name is_public signature words")
 def contracts(tree, source, of_library):
     """The contracts of a file of src/, laid out as `rt fmt` does; `of_library` are the public types of a library, else None."""
     source, imported, is_library = re.sub(r'//.*|"[^"\n]*"', "", source), imports(source), of_library is not None
-    for block in re.split(rf"(?m)^(?={FUNCTION}|impl\b)", source)[1:]:
-        trait, kind = re.match(r"(?:impl(?:<(?:[^<>]|<[^<>]*>)*>)? (?:(.*) for )?(\w+))?", block).groups("")
+    for block in re.split(rf"(?m)^(?={FUNCTION}|impl\b)", source):
+        trait, kind = re.fullmatch(r"(?:impl(?:<(?:[^<>]|<[^<>]*>)*>)? (?:(.*) for )?(\w+))?[\s\S]*", block).groups("")
         is_public_type = is_library and kind in of_library
         for text in re.split(rf"(?m)^ *(?={FUNCTION})", block)[1:]:
             header = re.split(r"(?m)^ *\{\}?$| \{$", text)[0]
@@ -48,7 +48,7 @@ def contracts(tree, source, of_library):
             words = {name: it for name, it in imported.items() if name not in parameters}
             is_public = is_public_type if trait else is_library and text.startswith("pub ")
             name = re.search(r"fn (\w+)", text)[1]
-            yield Contract(name, is_public, f"{kind} {signature}", tree.named("\n".join(clauses), words))
+            yield Contract(name, is_public, f"{kind} {signature}", tree.named("".join(clauses), words))
         for member in re.findall(r"(?ms)^ {4}ghost (?!use )(\w+ = \{.*?\});$", block):
             is_public = is_public_type and not member.startswith("inverse")
             yield Contract(f"{trait} for {kind}", is_public, "", tree.named(member, imported))
@@ -85,7 +85,9 @@ def faults_of_page(page, headline):
     rows = re.findall(r"(?m)^\|(`.*?`)\|", page)
     told = [name for row in rows for name in re.findall(r"`([^\s`]+)[^`]*`", row)]
     both = zip_longest([it.name for it in headline], told)
-    yield from [f"{PAGE} has {name} in the place of {it}" for it, name in both if it != name][:1]
+    first = next((f"{PAGE} has {name} in the place of {it}" for it, name in both if it != name), None)
+    if first:
+        yield first
 
 
 def main(arguments, root):
@@ -105,5 +107,5 @@ def main(arguments, root):
             print("".join(f"{it}: {it.comment}\n" for it in found if it not in listed))
         listed += found
     faults = [*faults_of_specs(tree, known), *faults_of_page(read(root / PAGE), headline)]
-    print("\n".join(faults), end="\n" if faults else "", file=sys.stderr)
+    print("".join(f"{it}\n" for it in faults), end="", file=sys.stderr)
     return bool(faults)

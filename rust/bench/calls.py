@@ -185,7 +185,7 @@ SOURCES = Path(__file__).resolve().parents[1] / "arraystring/src"
 def calls_of(kind, text):
     """The safe calls of a type in a text by name, each with its parameters."""
     blocks = re.finditer(rf"(?ms)^( *)impl(?:<[^>]*>)? {kind} \{{$.*?^\1\}}$", text)
-    shown = re.sub(r"#\[doc\(hidden\)\][^{]*", "", "\n".join(it[0] for it in blocks))
+    shown = re.sub(r"#\[doc\(hidden\)\][^{]*", "", "".join(it[0] for it in blocks))
     return dict(re.findall(r"(?m)^ *pub (?:const )?fn (\w+)(?:<[^(]*>)?\(([^{]*?)\)(?: ->[^{]*)? \{$", shown))
 
 
@@ -218,7 +218,7 @@ def expressions():
     for name, call in BY_TRAITS.items():
         found[re.sub(r"\bS\b", "ArrayString<N>", name)] = call
         found[re.sub(r"\bS\b", "CacheString", name)] = for_cache(call)
-    found |= of_strings("\n".join(it.read_text() for it in sorted(SOURCES.rglob("*.rs"))))
+    found |= of_strings("".join(it.read_text() for it in sorted(SOURCES.rglob("*.rs"))))
     for error in ERRORS:
         for name, call in BY_ERROR.items():
             value = f"black_box({error})" if error != "Error" else "v.error"
