@@ -281,7 +281,7 @@ class Calls(TreeTest):
         """In the program and in both tables, which then need not name the calls that are in the lists."""
         makes = "whole_calls!(make);\ncounted_calls!(make);\n"
         played = [(PLAYERS[0], r'^ *"pop" =>.*\n', ""), (PLAYERS[0], r'"pop_counted" \| ', ""), (PLAYERS[1], "pop pop_counted ", "")]
-        for path, *changes in ((PROGRAM, (PROGRAM, "")), (PLAYERS[0], *played[:2]), (PLAYERS[1], *played[2:])):
+        for path, *changes in ((PROGRAM, (PROGRAM, "string.as_mut_str();\n")), (PLAYERS[0], *played[:2]), (PLAYERS[1], *played[2:])):
             with self.subTest(path), self.changed(*changes):
                 lacking = [f"{path} lacks {it}, which" for it in ("pop", "pop_counted")]
                 self.assertEqual([it in self.told(calls)[1] for it in lacking], [True, True])
