@@ -475,7 +475,7 @@ pub const PLACES: &[Place] = &[
     },
     Place {
         path: "arraystring_core::array_string::borrowed_range::ArrayString::slice",
-        source: 0xB09A_1F3E_A40D_7C6C,
+        source: 0x4BFE_1E40_47E1_2939,
         here: "
             pub fn slice<R: RangeBounds<u8>>(&self, range: R) -> &str {
                 let (start, end) = plain_ends(range, self.len());
@@ -485,7 +485,7 @@ pub const PLACES: &[Place] = &[
     },
     Place {
         path: "arraystring_core::array_string::borrowed_range::ArrayString::get",
-        source: 0x4914_C8A9_BF9F_A62C,
+        source: 0xBBAE_A25D_DB85_51EF,
         here: "
             pub fn get<R: RangeBounds<u8>>(&self, range: R) -> Option<&str> {
                 let (start, end) = plain_ends(range, self.len());
@@ -495,7 +495,7 @@ pub const PLACES: &[Place] = &[
     },
     Place {
         path: "arraystring_core::array_string::ascii::ArrayString::make_ascii_uppercase_in",
-        source: 0x9FBB_390C_DFBC_CBB7,
+        source: 0xA47A_CD7F_76A7_E973,
         here: "
             pub fn make_ascii_uppercase_in<R: RangeBounds<u8>>(&mut self, range: R) {
                 let (start, end) = plain_ends(range, self.len());
@@ -506,7 +506,7 @@ pub const PLACES: &[Place] = &[
     },
     Place {
         path: "arraystring_core::array_string::ascii::ArrayString::make_ascii_lowercase_in",
-        source: 0xA4C7_FDF2_F207_E58E,
+        source: 0x0DB7_B949_26B1_8A46,
         here: "
             pub fn make_ascii_lowercase_in<R: RangeBounds<u8>>(&mut self, range: R) {
                 let (start, end) = plain_ends(range, self.len());
@@ -526,7 +526,7 @@ pub const PLACES: &[Place] = &[
     },
     Place {
         path: "arraystring_core::blockwise::order::order",
-        source: 0x4B09_0F8C_F8C2_9B50,
+        source: 0xB921_2B35_1E59_A8BE,
         here: "
             pub(crate) fn order<const N: usize>(text: &str, other: &str) -> Ordering {
                 text.cmp(other)
