@@ -351,7 +351,8 @@ class Codes(TreeTest):
     def test_bytes_are_those_of_the_text_and_a_library_exports_its_calls(self):
         size = "lib.so  :\nsection     size    addr\n.rela.text    11       0\n.text         3580    6016\n.text.hot    7    0\n"
         names = "0000 T pop_23\n0001 T pop_63\n0002 D data\n     U memcpy\n0003 t hidden\n"
-        self.put(codes, "written", lambda *words: size if words[0] == "size" else names)
+        told = {("size", "-A"): size, ("nm", "--dynamic", "--defined-only"): names}
+        self.put(codes, "written", lambda *words: told[words[:-1]] if str(words[-1]).endswith(".so") else "")
         self.put(codes.subprocess, "run", lambda *words, check: None)
         self.assertEqual((codes.text_bytes("lib.so"), codes.exports("lib.so")), (3580, 2))
         for words, calls, capacities, is_due in (([], 1, 2, True), ([], 2, 1, True), ([], 1, 3, False), ([], 1, 0, False),
@@ -362,14 +363,20 @@ class Codes(TreeTest):
             else:
                 self.assertRaisesRegex(SystemExit, f"{calls} calls at {capacities} capacities exports 2 functions", due)
 
+    def test_a_folder_that_is_not_there_is_made(self):
+        for _ in range(2):
+            self.assertTrue(codes.made(self.root / "new" / "within").is_dir())
+
     def test_what_the_empty_library_has_is_taken_off(self):
         for sides in (SIDES, SIDES[:2]):
             self.put(codes, "sides_at", lambda folder, level, sides=sides: {it: [it, level] for it in sides})
             self.put(codes, "library_of_calls", lambda folder, words, calls, capacities:
-                     7000 + 100 * calls * capacities + sides.index(words[0]) + (500 if capacities and words == ["crate", "z"] else 0))
+                     7000 + 40 * calls + 100 * calls * capacities * capacities + sides.index(words[0])
+                     + (5000 if capacities and words == ["crate", "z"] else 0))
             said = said_by(codes.tell_codes, self.root)
-            self.assertIn(f"|3 {'|'.join(sides)}|s {'|'.join(sides)}|z {'|'.join(sides)}|\n", said)
-            bytes_of = ["|".join(["2400"] * len(sides))] * 2 + ["|".join(["**2900**", *["2400"] * (len(sides) - 1)])]
+            self.assertIn(f"|Bytes of code at `opt-level`|3 {'|'.join(sides)}|s {'|'.join(sides)}|z {'|'.join(sides)}|\n", said)
+            # (40 bytes for each call but the first, and 100 for each at each capacity, times these)
+            bytes_of = ["|".join(["19280"] * len(sides))] * 2 + ["|".join(["**24280**", *["19280"] * (len(sides) - 1)])]
             self.assertIn(f"|three calls at eight|{'|'.join(bytes_of)}|\n", said)
             self.assertEqual(said.count("\n|"), 2 + len(codes.CALLS) * len(codes.CAPACITIES))
 
