@@ -233,6 +233,28 @@ calls=5 9
         self.assertFalse(counting.is_behind({"crate": None, "String": 1}, "crate"))
         self.assertEqual([timing.is_slower(it, 4.0) for it in (6.0, 6.1)], [False, True])
 
+    def test_a_table_of_counts_tells_in_how_many_cells_ours_are_behind(self):
+        # (the first cell has a side more than the others)
+        rows = [("`pop`", [{"port": 50, "crate": 30, "String": 10}, {"crate": 10, "String": 30}]),
+                ("`trim`", [{}, {"crate": 40, "String": 10}])]
+        self.assertEqual(said_by(counting.table_of_counts, "Call", [23, 63], rows),
+                         "\n|Call|23|63|\n|---|---|---|\n|`pop`|**50**/**30**/10|10/30|\n|`trim`|–|**40**/10|\n"
+                         "\nBehind the best peer: the port in 1, the crate in 2 of 3 cells.\n")
+
+    def test_the_least_of_counts_is_of_those_that_the_first_has(self):
+        for counts, least in (([{"a": 1}], {"a": 1}), ([{"a": 1}, {"a": 0, "b": 2}], {"a": 0})):
+            self.assertEqual(counting.least(counts), least)
+
+    def test_the_counts_of_a_call_are_by_side_where_the_first_has_one(self):
+        counted = {("crate", "pop"): 5, ("String", "push"): 7}
+        self.assertEqual([counting.by_side(counted, it, SIDES[:2]) for it in ("pop", "push")], [{"crate": 5, "String": None}, {}])
+
+    def test_the_peers_of_the_port_are_told_on_its_page(self):
+        page = read(ROOT / "docs/speed_proved.md")
+        for peer in counting.PEERS["port"]:
+            self.assertIn(peer, page)
+            self.assertTrue(peer)
+
     def test_a_cell_of_the_page_of_the_crate_has_one_number(self):
         rows = [("`pop`", [{"crate": 20, "String": 10, "arrayvec": None}, {}])]
         said = said_by(OF_CRATE.table_by_side, "Call", [23, 63], rows)
