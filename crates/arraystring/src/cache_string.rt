@@ -132,8 +132,8 @@ impl CacheString {
         Ok(CacheString(ArrayString::try_from_iterator(pieces)?))
     }
 
-    /// Creates a string from the longest prefix of whole characters of the joined pieces that
-    /// fits.
+    /// Creates a string from all pieces, joined. If that is too long, keeps the longest prefix of
+    /// whole characters that fits.
     ///
     /// # Precondition
     ///
@@ -160,8 +160,8 @@ impl CacheString {
     ///
     /// # Precondition
     ///
-    /// All of the pieces must fit. The iterator must end, and until then the precondition of its
-    /// `next` must hold.
+    /// The pieces that the iterator returns must fit, joined. The iterator must end, and until then
+    /// the precondition of its `next` must hold.
     pub fn from_iterator_unchecked<'a, I: IntoIterator<Item = &'a str> + Drop>(pieces: I) -> Self
         requires ends { IsFiniteIterable I.into_iter_gives I.IntoIter.can_next I.IntoIter.remaining pieces }
         requires fits { Fits I.into_iter_gives I.IntoIter.next_gives joined_pieces pieces 63 }
@@ -228,8 +228,8 @@ impl CacheString {
     ///
     /// # Precondition
     ///
-    /// All of the characters must fit. The iterator must end, and until then the precondition of its
-    /// `next` must hold.
+    /// The characters that the iterator returns must fit. The iterator must end, and until then the
+    /// precondition of its `next` must hold.
     pub fn from_chars_unchecked<I: IntoIterator<Item = char> + Drop>(characters: I) -> Self
         requires ends { IsFiniteIterable I.into_iter_gives I.IntoIter.can_next I.IntoIter.remaining characters }
         requires fits { Fits I.into_iter_gives I.IntoIter.next_gives (λ cs. cs) characters 63 }

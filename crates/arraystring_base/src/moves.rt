@@ -63,11 +63,11 @@ pub fn move_run<const N: usize>(array: &mut [u8; N], from: usize, to: usize, len
 }
 
 /// Moves `len` bytes of a slice from the offset `from` to the offset `to`, as `move_run` does those of
-/// an array. It stands once in a program, and costs a call.
+/// an array. It is not inlined: a program has one copy of it, and each use is a call.
 ///
 /// # Precondition
 ///
-/// Both runs must lie in the slice.
+/// Both ranges, `from..from + len` and `to..to + len`, must be within the slice.
 #[inline(never)]
 pub fn move_bytes(all: &mut [u8], from: usize, to: usize, len: usize)
     requires source { from + len ≤ length all.old }

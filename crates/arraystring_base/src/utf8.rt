@@ -161,12 +161,12 @@ fn char_before_end(text: &str, steps: &mut Steps) -> (usize, char)
     (end - 4, unsafe { char::from_u32_unchecked(code) })
 }
 
-/// Writes the UTF-8 of `ch` into the array, from the offset `at` on, and returns how many bytes it
-/// takes. No other byte changes.
+/// Writes the UTF-8 of `ch` into the array, starting at the offset `at`, and returns the number of
+/// bytes that it takes. No other byte changes.
 ///
 /// # Precondition
 ///
-/// `ch` must fit into the array from there.
+/// `at` plus that number must be at most `N`.
 #[inline(always)]
 #[tactic(auto, unfolding(crate::specs::Text::width, crate::specs::Text::utf8))]
 pub fn encode<const N: usize>(ch: char, array: &mut [u8; N], at: usize) -> usize

@@ -6,11 +6,11 @@ ghost use Rattle.arraystring_run.specs.Arguments.{IsOnlyWord};
 use arraystring::MaxString;
 use std::env::{Env, FillError};
 
-/// The arguments of a program. The contracts of the kit's `Env` do not say what its calls return. This
-/// trait has a name for it, so that a contract can speak of it. Of an `Env` still nothing is known: that
-/// its arguments are read is only tested.
+/// The arguments of a program. This trait names what they return (`gives`), so that a contract can
+/// speak of it. The contracts of the kit's `Env` do not say what its calls return. So for an `Env` it is
+/// only tested that its arguments are read.
 pub trait Arguments {
-    /// What may be returned for the argument of an index, and what the buffer may then have.
+    /// What `argument` may return for an index, and what may then be in the buffer.
     ghost gives: { Self → ℕ → Result ℕ Fault → List ℕ → Type 0 };
 
     /// Copies the argument `index` into the buffer and returns its length. Argument 0 is the
@@ -30,12 +30,12 @@ impl<E: Env> Arguments for E {
     }
 }
 
-/// Returns the only argument of the program, or `None` if there is none, if there are more,
-/// or if it is not UTF-8. An argument of more than 255 bytes counts as none, since the call allocates nothing. No
-/// capacity has so long a name.
+/// Returns the only argument of the program. Returns `None` if there is no argument, if there are two
+/// or more, if it is not UTF-8, or if it takes more than 255 bytes. The call allocates nothing, so it has
+/// room for 255 bytes. No name of a capacity is longer.
 ///
-/// The contract speaks of what `arguments` gives (`gives`). An environment may give anything (`⊤`), so
-/// for a program it is only tested that the word is the argument.
+/// The contract speaks of what `arguments` returns (`gives`). No contract says what an `Env` returns. So
+/// for a program it is only tested that the word is its argument.
 pub fn given_word<A: Arguments>(arguments: &A) -> Option<MaxString>
     ensures { (count : Result ℕ Fault) × (first : List ℕ) × (second : Result ℕ Fault) × (rest : List ℕ)
         × A.gives arguments.now 1 count first × A.gives arguments.now 2 second rest

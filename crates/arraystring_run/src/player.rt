@@ -39,7 +39,7 @@ const LARGEST: usize = usize::MAX / 4;
 /// - It reads the script to its end.
 /// - It reads each line as a command.
 /// - It executes the commands.
-/// - It writes a line for each reply, and one for the last text. From here on it allocates nothing.
+/// - It writes a line for each reply, and one for the last text. This last step allocates nothing.
 ///
 /// A read or a write that was interrupted is tried again.
 ///

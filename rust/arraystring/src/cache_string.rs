@@ -183,8 +183,8 @@ impl CacheString {
         Ok(CacheString(ArrayString::try_from_iterator(pieces)?))
     }
 
-    /// Creates a string from the longest prefix of whole characters of the joined pieces that
-    /// fits.
+    /// Creates a string from all pieces, joined. If that is too long, keeps the longest prefix of
+    /// whole characters that fits.
     ///
     /// # In Rust
     ///

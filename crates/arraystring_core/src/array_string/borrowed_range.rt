@@ -11,8 +11,8 @@ use std::ops::RangeBounds;
 
 impl<const N: usize> ArrayString<N> {
     /// Returns the part of the text in the range, borrowed without a copy. An excluded start and
-    /// an included end count as one more, also past 255: `..=255` ends at 256, which is past every
-    /// text.
+    /// an included end count as the next index: `..=2` ends at 3, and `..=255` ends at 256, which is
+    /// past every text.
     ///
     /// # Precondition
     ///

@@ -92,8 +92,8 @@ impl<const N: usize> ArrayString<N> {
         Ok(ArrayString { array, start, size })
     }
 
-    /// Creates a string from the longest prefix of whole characters of the joined pieces that
-    /// fits.
+    /// Creates a string from all pieces, joined. If that is too long, keeps the longest prefix of
+    /// whole characters that fits.
     ///
     /// # Precondition
     ///
@@ -161,7 +161,8 @@ impl<const N: usize> ArrayString<N> {
     ///
     /// ```
     /// assert_eq!(ArrayString::<4>::from_chars('a'..='c').as_str(), "abc");
-    /// assert_eq!(ArrayString::<4>::from_chars("abcéd".chars()).as_str(), "abc"); // `d` is late
+    /// // `d` would fit, but `é` before it does not
+    /// assert_eq!(ArrayString::<4>::from_chars("abcéd".chars()).as_str(), "abc");
     /// ```
     pub fn from_chars<I: IntoIterator<Item = char> + Drop>(characters: I) -> Self
         requires { IsFiniteIterable I.into_iter_gives I.IntoIter.can_next I.IntoIter.remaining characters }

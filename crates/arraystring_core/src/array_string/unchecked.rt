@@ -34,8 +34,8 @@ impl<const N: usize> ArrayString<N> {
     ///
     /// # Precondition
     ///
-    /// All of the pieces must fit. The iterator must end, and until then the precondition of its
-    /// `next` must hold.
+    /// The pieces that the iterator returns must fit, joined. The iterator must end, and until then
+    /// the precondition of its `next` must hold.
     pub fn from_iterator_unchecked<'a, I: IntoIterator<Item = &'a str> + Drop>(pieces: I) -> Self
         requires ends { IsFiniteIterable I.into_iter_gives I.IntoIter.can_next I.IntoIter.remaining pieces }
         requires fits { Fits I.into_iter_gives I.IntoIter.next_gives joined_pieces pieces (cap N) }
@@ -61,8 +61,8 @@ impl<const N: usize> ArrayString<N> {
     ///
     /// # Precondition
     ///
-    /// All of the characters must fit. The iterator must end, and until then the precondition of its
-    /// `next` must hold.
+    /// The characters that the iterator returns must fit. The iterator must end, and until then the
+    /// precondition of its `next` must hold.
     pub fn from_chars_unchecked<I: IntoIterator<Item = char> + Drop>(characters: I) -> Self
         requires ends { IsFiniteIterable I.into_iter_gives I.IntoIter.can_next I.IntoIter.remaining characters }
         requires fits { Fits I.into_iter_gives I.IntoIter.next_gives (λ cs. cs) characters (cap N) }

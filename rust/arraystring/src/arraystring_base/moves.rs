@@ -95,7 +95,7 @@ pub unsafe fn move_run<const N: usize>(array: &mut [u8; N], from: usize, to: usi
 }
 
 /// Moves `len` bytes of a slice from the offset `from` to the offset `to`, as `move_run` does those of
-/// an array. It stands once in a program, and costs a call.
+/// an array. It is not inlined: a program has one copy of it, and each use is a call.
 ///
 /// # Safety
 ///

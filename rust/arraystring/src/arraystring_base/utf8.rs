@@ -252,8 +252,8 @@ unsafe fn char_before_end(text: &str, steps: &mut Steps) -> (usize, char) {
     (end - 4, unsafe { crate::by_hand::char::from_u32_unchecked(code) })
 }
 
-/// Writes the UTF-8 of `ch` into the array, from the offset `at` on, and returns how many bytes it
-/// takes. No other byte changes.
+/// Writes the UTF-8 of `ch` into the array, starting at the offset `at`, and returns the number of
+/// bytes that it takes. No other byte changes.
 ///
 /// # Safety
 ///

@@ -128,8 +128,8 @@ impl<const N: usize> ArrayString<N> {
         Ok(ArrayString { array, start, size })
     }
 
-    /// Creates a string from the longest prefix of whole characters of the joined pieces that
-    /// fits.
+    /// Creates a string from all pieces, joined. If that is too long, keeps the longest prefix of
+    /// whole characters that fits.
     ///
     /// # In Rust
     ///
@@ -232,7 +232,8 @@ impl<const N: usize> ArrayString<N> {
     /// use arraystring::ArrayString;
     ///
     /// assert_eq!(ArrayString::<4>::from_chars('a'..='c').as_str(), "abc");
-    /// assert_eq!(ArrayString::<4>::from_chars("abcéd".chars()).as_str(), "abc"); // `d` is late
+    /// // `d` would fit, but `é` before it does not
+    /// assert_eq!(ArrayString::<4>::from_chars("abcéd".chars()).as_str(), "abc");
     /// ```
     ///
     /// <details><summary>Contract</summary>

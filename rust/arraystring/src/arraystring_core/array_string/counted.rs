@@ -234,9 +234,9 @@ impl<const N: usize> ArrayString<N> {
     }
 
     /// Most programs need [`remove`](crate::ArrayString::remove), and none of the counted calls. Removes as [`remove`](crate::ArrayString::remove) does, and
-    /// counts in `steps` the bytes that it moves. It moves at most as many bytes as the part after
-    /// the character has, and at least as many as the shorter of two parts has: the part before the
-    /// character and the part after it. At index 0, or if it is refused, it moves none.
+    /// counts in `steps` the bytes that it moves. The text has a part before the removed character
+    /// and a part after it. The call moves at least as many bytes as the shorter of the two has, and
+    /// at most as many as the part after has. At index 0, or if it is refused, it moves none.
     ///
     /// # Errors
     ///
@@ -295,9 +295,9 @@ impl<const N: usize> ArrayString<N> {
     }
 
     /// Most programs need [`trim`](crate::ArrayString::trim), and none of the counted calls. Trims as [`trim`](crate::ArrayString::trim) does, and counts in
-    /// `steps` its looks at the end. There it looks at each character that it removes, and at the one
-    /// before them. It looks at each of these at least once and at most four times. What it reads at
-    /// the start is not counted. It moves no byte.
+    /// `steps` its looks at the end of the text. It looks at each character that it removes there, and
+    /// at the last one that it keeps. Each of these characters costs one to four looks. Looks at the
+    /// start of the text are not counted. It moves no byte.
     ///
     /// # In Rust
     ///

@@ -10,7 +10,7 @@ use core::ops::RangeBounds;
 impl<const N: usize> ArrayString<N> {
     /// Removes the part in the range and returns its characters as a [`Drain`](crate::Drain). The part is removed
     /// at once, whether or not the [`Drain`](crate::Drain) is used. An excluded start and an included end count as
-    /// one more, but as no more than 255: `..=255` ends at 255.
+    /// the next index, but as 255 at most: `..=2` ends at 3, and `..=255` ends at 255.
     ///
     /// # Errors
     ///
