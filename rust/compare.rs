@@ -305,7 +305,7 @@ impl Lexer<'_> {
     }
 }
 
-/// The index behind a group of brackets that begins at an index, or `None` if it has no end.
+/// The index behind the token at an index, or behind the group of brackets that it opens. `None` if that has no end.
 pub fn behind_group(tokens: &[Token], from: usize) -> Option<usize> {
     let mut open = Vec::new();
     for (index, token) in tokens.iter().enumerate().skip(from) {
@@ -562,7 +562,7 @@ impl Items<'_> {
         self.tokens.get(self.at + ahead).is_some_and(|token| token.is(text))
     }
 
-    /// The index behind the group that begins at an index.
+    /// The index behind the token at an index, or behind the group that it opens.
     fn behind(&self, from: usize) -> Result<usize, Fault> {
         let line = self.tokens.get(from).map_or(self.line(), |token| token.line);
         behind_group(&self.tokens, from).map_or_else(|| fault(line, "brackets that do not match"), Ok)
@@ -716,8 +716,7 @@ impl Items<'_> {
         let mut at = word;
         let ends = |token: &Token| token.kind == Kind::Ghost || token.is("{") || token.is(";");
         while self.tokens.get(at).is_some_and(|token| !ends(token)) {
-            let is_group = self.tokens[at].is("(") || self.tokens[at].is("[");
-            at = if is_group { self.behind(at)? } else { at + 1 };
+            at = self.behind(at)?;
         }
         let clauses = at;
         while self.tokens.get(at).is_some_and(|token| token.kind == Kind::Ghost && !token.text.starts_with("prove")) {
@@ -1073,8 +1072,7 @@ fn end_of_part(tokens: &[Token], from: usize, next: Option<&Token>) -> usize {
         if is_end || at > from && Some(token) == next {
             break;
         }
-        let is_group = ["(", "[", "{"].iter().any(|open| token.is(open));
-        at = if is_group { behind_group(tokens, at).unwrap_or(tokens.len()) } else { at + 1 };
+        at = behind_group(tokens, at).unwrap_or(tokens.len());
     }
     at
 }

@@ -359,6 +359,8 @@ fn an_attribute_takes_nothing_of_its_line_along() {
     differs("#[tactic::more]\nfn f() {}\n", "fn f() {}\n", "[] for [\"tactic::more\"]");
     differs("fn f() {}\n", "#[cold]\nfn f() {}\n", "[\"cold\"] for []");
     differs("#[derive(Clone)]\nstruct A;\n", "#[derive(Clone, Copy)]\nstruct A;\n", "derive(Clone,Copy)");
+    differs("#[a]\n#[b]\nstruct A;\n", "#[b]\n#[a]\nstruct A;\n", "[\"b\", \"a\"] for [\"a\", \"b\"]");
+    differs("fn f() {}\n", "#[tactic(a)]\nfn f() {}\n", "[\"tactic(a)\"] for []");
 }
 
 #[test]
@@ -401,6 +403,7 @@ fn a_path_is_compared_as_what_it_means_here() {
         differs(item, item, "as the name of a parameter");
     }
     differs("pub use b::c;\n", "use b::c;\n", "visibility");
+    differs("use b::c as _;\n", "use b::c;\n", "::use b::c as _` is missing");
     differs("use super::b::*;\n", "use super::b::*;\n", "a `use` of all names");
     differs("pub use std::marker::Model;\n", "", "use core::marker::Model` is missing");
     same("use std::marker::Model;\n", "");
@@ -656,6 +659,11 @@ fn what_is_required_makes_a_function_unsafe() {
         ..NONE
     };
     assert_eq!(pair(&SAFE, source, "fn f(a: u8) {\n    g(a);\n}\n"), [""; 0]);
+    let public = pair(&SAFE, &format!("pub {source}"), "pub unsafe fn f(a: u8) {\n    g(a);\n}\n");
+    assert!(
+        public.len() == 1 && public[0].contains("is a public `unsafe fn`, and the list does not say"),
+        "{public:?}"
+    );
 }
 
 #[test]
@@ -917,6 +925,42 @@ fn each_item_is_there_once_and_no_other() {
     differs("pub(crate) fn f() {}\n", "pub fn f() {}\n", "for `pub ( crate )");
 }
 
+#[test]
+fn each_difference_names_its_places() {
+    let (there, here) = ("crates/arraystring_base/src/a.rt", "rust/arraystring/src/arraystring_base/a.rs");
+    for (source, made, wanted) in [
+        (
+            "fn e() {}\nfn f() { g(a) }\n",
+            "\n\nfn f() { g(b) }\nfn e() {}\n",
+            format!(
+                "{there}:2, {here}:4: `arraystring_base::a::f`: `{{ g ( b ) }}` (line 4) for `{{ g ( a ) }}` (line 2)"
+            ),
+        ),
+        (
+            "\nstruct A {}\n",
+            "#[a]\n\nstruct A {}\n",
+            format!("{there}:2, {here}:4: `arraystring_base::a::struct A`: [\"a\"] for []"),
+        ),
+        (
+            "fn f() {}\nstruct A;\n",
+            "fn f() {}\n",
+            format!("{there}:2: `arraystring_base::a::struct A` is missing in {here}"),
+        ),
+        ("", "\nstruct A;\n", format!("{here}:3: `arraystring_base::a::struct A` is in no source and in no list")),
+        ("struct A;\n", "struct A;\nstruct A;\n", format!("{here}:3: `arraystring_base::a::struct A` is there twice")),
+        (
+            "\nfn str() {}\n",
+            "fn str() {}\n",
+            format!("{there}:2: `arraystring_base::a::str` has the name of a crate, or of what a rewrite knows"),
+        ),
+        ("fn f() {}\n}\n", "fn f() {}\n", format!("{there}:2: `}}` closes nothing")),
+        ("fn f() {}\n", "fn f() {}\n}\n", format!("{here}:3: `}}` closes nothing")),
+        ("fn f() {\n    prove!(a)\n}\n", "fn f() {}\n", format!("{there}:2: `prove!(a)` in a body")),
+    ] {
+        assert_eq!(pair(&NONE, source, made), [wanted]);
+    }
+}
+
 // ---- One function after the other ----
 
 fn rust_tokens(text: &str) -> Vec<Token> {
@@ -1082,9 +1126,11 @@ fn what_is_no_program_is_refused_at_its_line() {
         ("fn f() {}\nconst A: u8 = 1\n}\n", "2: an item without its end"),
         ("fn f() {}\nuse a::b\n", "2: an item without its end"),
         ("fn f() {}\nfn g()\n", "2: `g`: what is behind the clauses is no body"),
+        ("fn f() {}\nfn g)\n{}\n", "2: brackets that do not match"),
         ("fn f() {}\nfn g() {\n", "2: brackets that do not match"),
         ("fn f() {}\nimpl A\n", "2: an impl without its body"),
         ("fn f() {}\nimpl A;\nfn g() {}\n", "2: an impl without its body"),
+        ("fn f() {}\nimpl A\n;\n", "3: an impl without its body"),
         ("fn f() {}\nimpl A {\n    fn g() {}\n", "3: an item without its closing brace"),
         ("fn f() {}\nmod a {\n    fn g() {}\n", "3: an item without its closing brace"),
         ("fn f() {}\nmod a\n", "2: `mod a` without `;`"),
@@ -1296,6 +1342,7 @@ fn brackets_and_commas_are_those_around() {
         (", a", &["", "a"]),
         ("a(b, c), [d, e], {f, g}, h", &["a ( b , c )", "[ d , e ]", "{ f , g }", "h"]),
         ("a, (b, c", &["a", "( b , c"]),
+        ("a ) b, c", &["a ) b", "c"]),
     ] {
         let tokens = rust_tokens(text);
         assert_eq!(between_commas(&tokens).into_iter().map(shown).collect::<Vec<_>>(), wanted, "{text}");
@@ -1319,6 +1366,8 @@ fn a_call_and_a_path_of_fields_are_known() {
         ("f::<A>(b > c)", Some("f")),
         ("f::<A(c)", None),
         ("a + f(b)", None),
+        ("a.0 > (b)", None),
+        ("f;", None),
         ("<A>(b)", None),
         ("", None),
     ] {
@@ -1382,6 +1431,7 @@ fn a_difference_is_shown_with_what_is_around() {
         ("x b c", Some("`x b c` (line 1) for `a b c d e f g h` (line 1)")),
         ("a b c d e x\ng h", Some("`b c d e x g h` (line 1) for `b c d e f g h i j k l m` (line 1)")),
         ("a b\nc", Some("`a b c` (line 2) for `a b c d e f g h i j k` (line 1)")),
+        ("a b\nx", Some("`a b x` (line 2) for `a b c d e f g h i j` (line 1)")),
         ("", Some("`` (line 0) for `a b c d e f g h` (line 1)")),
     ] {
         assert_eq!(first_difference(&rust_tokens(text), &rust_tokens(other)).as_deref(), wanted, "{other}");
@@ -1446,6 +1496,7 @@ fn a_pattern_matches_what_it_says() {
         ("f($a)", "f(g(b, c), )", 0, None),
         ("f($a, $b)", "f([b, c], {d, e})", 0, Some(14)),
         ("f($a", "f(b}", 0, Some(3)),
+        ("[$a]", "[b]", 0, Some(3)),
         ("$a = $a;", "b + 1 = b + 1;", 0, Some(8)),
         ("$a = $a;", "b = c;", 0, None),
         ("f($item)", "f(b)", 0, Some(4)),
@@ -1761,10 +1812,11 @@ fn an_item_has_its_parts() {
         ("pub mod c;", "pub mod c"),
         ("pub mod c {}", "pub mod c {"),
         ("impl B for C {}", "impl B for C"),
+        ("compile_error!(\"c\");", "compile_error ! ( \"c\" ) ;"),
     ] {
-        let found = items(&format!("{text} fn next() {{}}"), origin).expect("items").remove(0);
+        let found = items(&format!("fn before() {{}}\n{text} fn next() {{}}"), origin).expect("items").remove(1);
         assert!(shown(&found.head) == head && !found.is_function && found.body.is_empty(), "{text}: {found:?}");
-        assert_eq!(found.at.0, 0, "{text}");
+        assert_eq!((found.line, found.at.0), (2, "fn before() {}\n".len()), "{text}");
     }
     same("#[tactic(a::b(c, d), e)]\nfn f() {}\n", "fn f() {}\n");
 }
