@@ -988,7 +988,9 @@ fn take_tree(tree: &[Token], before: &[String], paths: &mut Vec<(Vec<String>, St
 
 /// What stands between the commas that are in no brackets.
 pub fn between_commas(tokens: &[Token]) -> Vec<&[Token]> {
-    let (mut parts, mut start, mut at) = (Vec::new(), 0, 0);
+    let mut parts = Vec::new();
+    let mut start = 0;
+    let mut at = 0;
     while at < tokens.len() {
         if tokens[at].is(",") {
             parts.push(&tokens[start..at]);
