@@ -1376,6 +1376,7 @@ fn a_call_and_a_path_of_fields_are_known() {
     for (text, is_path, is_of_calls) in [
         ("a", true, true),
         ("self.a", true, true),
+        ("a.0", true, true),
         ("a.b.0", true, true),
         ("a.b()", false, true),
         ("a().b()", false, true),
@@ -1496,7 +1497,8 @@ fn a_pattern_matches_what_it_says() {
         ("f($a)", "f(g(b, c), )", 0, None),
         ("f($a, $b)", "f([b, c], {d, e})", 0, Some(14)),
         ("f($a", "f(b}", 0, Some(3)),
-        ("[$a]", "[b]", 0, Some(3)),
+        ("f($a", "f(b)", 0, Some(3)),
+        ("f[$a", "f[b]", 0, Some(3)),
         ("$a = $a;", "b + 1 = b + 1;", 0, Some(8)),
         ("$a = $a;", "b = c;", 0, None),
         ("f($item)", "f(b)", 0, Some(4)),
