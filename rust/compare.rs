@@ -1154,7 +1154,7 @@ fn without_unsafe_blocks(mut body: Vec<Token>, reading: &mut Reading) -> Vec<Tok
 /// Takes `unsafe { }` away that begins at an index, if one call of a function that is `unsafe` is in it, or one access without a test,
 /// and nothing else. (rustc refuses an access that stands in none.)
 fn without_unsafe(tokens: &mut Vec<Token>, start: usize, reading: &mut Reading) {
-    if !tokens.get(start).is_some_and(|token| token.is("unsafe")) {
+    if !tokens[start].is("unsafe") {
         return;
     }
     let Some(end) = behind_group(tokens, start + 1) else { return };

@@ -1367,6 +1367,7 @@ fn a_call_and_a_path_of_fields_are_known() {
         ("f::<A(c)", None),
         ("a + f(b)", None),
         ("a.0 > (b)", None),
+        ("::f(b)", None),
         ("f;", None),
         ("<A>(b)", None),
         ("", None),
@@ -1552,6 +1553,7 @@ fn a_function_is_unsafe_by_the_word_before_it() {
 fn a_comma_is_free_where_it_makes_no_tuple() {
     for (text, is_head, wanted) in [
         ("f(a, b,)", false, "f(a, b)"),
+        ("f(a, (b), [c], {})", false, "f(a, (b), [c], {})"),
         ("f!(a,)", false, "f!(a)"),
         ("[a,]", false, "[a]"),
         ("A { b, }", false, "A { b }"),
