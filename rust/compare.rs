@@ -1234,7 +1234,11 @@ fn is_call(before: &[Token], is_head: bool) -> bool {
 fn before_generics(tokens: &[Token]) -> Option<&Token> {
     let mut depth = 0;
     let open = tokens.iter().rposition(|token| {
-        depth += i32::from(token.is(">")) - i32::from(token.is("<"));
+        match token.text.as_str() {
+            ">" => depth += 1,
+            "<" => depth -= 1,
+            _ => {}
+        }
         depth == 0
     })?;
     tokens[..open].last()

@@ -1563,6 +1563,8 @@ fn a_comma_is_free_where_it_makes_no_tuple() {
         ("f<A,>(b,)", true, "f<A>(b)"),
         ("f<A, B<C>,>(d: (E,),)", true, "f<A, B<C> >(d: (E,))"),
         ("pub fn f<A>(b,)", true, "pub fn f<A>(b)"),
+        ("for<A> (b,)", true, "for<A> (b,)"),
+        ("for<A<B> > (c,)", true, "for<A<B> > (c,)"),
         ("A<B>,>", true, "A<B> >"),
         ("a < b,>", false, "a < b,>"),
         ("a < b > (c,)", false, "a < b > (c,)"),
