@@ -25,8 +25,8 @@ pub mod lists;
 
 use lists::{
     ADDED, ASKED, ASKED_EACH, ASKED_EACH_WHY, Added, BY_CODE, BY_HAND, CRATES, DROP_BOUND, FREE_ATTRIBUTES, HEADS,
-    KNOWN_NAMES, LAWS, LEFT_OUT, ORDERS, PLACES, PROVE, Place, REQUIRED, REWRITES, Required, Rewrite, SAFE, Safe, Then,
-    UNSAFE_BLOCK, UNSAFE_FN, USES, Uses, WALK,
+    KNOWN_NAMES, LAWS, LEFT_OUT, Law, ORDERS, PLACES, PROVE, Place, REQUIRED, REWRITES, Required, Rewrite, SAFE, Safe,
+    Then, UNSAFE_BLOCK, UNSAFE_FN, USES, Uses, WALK,
 };
 
 // ---- Tokens ----
@@ -42,7 +42,7 @@ fn fault<T>(line: usize, why: impl Into<String>) -> Result<T, Fault> {
     Err(Fault { line, why: why.into() })
 }
 
-#[derive(Clone, Copy, PartialEq, Eq, Debug)]
+#[derive(Clone, Copy, PartialEq, Debug)]
 pub enum Kind {
     Word,
     Number,
@@ -207,7 +207,7 @@ impl Lexer<'_> {
             ch => return fault(self.line, format!("`{ch}` is no character of a program")),
         };
         self.push(kind, from);
-        if kind == Kind::Word { self.ghost(from) } else { Ok(()) }
+        self.ghost(from)
     }
 
     /// Passes a word. One with a quote behind it would be the prefix of a text or a character for some, and `r#` that of a word.
@@ -274,7 +274,7 @@ impl Lexer<'_> {
         self.pass_while(is_inside_word);
         let mut next = self.rest().chars();
         if !is_field && next.next() == Some('.') && next.next().is_some_and(|ch| ch.is_ascii_digit()) {
-            self.pass(1);
+            self.pass_character();
             self.pass_while(is_inside_word);
         }
         Kind::Number
@@ -286,30 +286,26 @@ impl Lexer<'_> {
             self.pass(1);
             return self.pass_quote().map(Some);
         }
-        let letters = self.rest().find(|ch| !matches!(ch, 'b' | 'c' | 'r')).unwrap_or(0);
-        let prefix = self.rest()[..letters].to_string();
-        let behind = &self.rest()[letters..];
-        let marks = behind.find(|ch| ch != '#').unwrap_or(0);
-        let is_quoted = behind[marks..].starts_with('"');
-        match prefix.as_str() {
-            "b" | "c" if behind.starts_with('"') => {
-                self.pass(1);
-                self.pass_text().map(Some)
-            }
-            "r" | "br" | "cr" if is_quoted => {
-                let end = format!("\"{}", "#".repeat(marks));
-                let line = self.line;
-                self.pass(letters + marks + 1);
-                let Some(found) = self.rest().find(&end) else { return fault(line, "a raw text without its end") };
-                self.pass(found + end.len());
-                Ok(Some(Kind::Text))
-            }
-            _ => Ok(None),
+        if self.starts("b\"") || self.starts("c\"") {
+            self.pass(1);
+            return self.pass_text().map(Some);
         }
+        let Some(behind) = ["r", "br", "cr"].iter().find_map(|prefix| self.rest().strip_prefix(prefix)) else {
+            return Ok(None);
+        };
+        let Some((marks, _)) = behind.split_once('"').filter(|(marks, _)| marks.chars().all(|ch| ch == '#')) else {
+            return Ok(None);
+        };
+        let (line, end) = (self.line, format!("\"{marks}"));
+        self.pass_while(|ch| ch != '"');
+        self.pass(1);
+        let Some(found) = self.rest().find(&end) else { return fault(line, "a raw text without its end") };
+        self.pass(found + end.len());
+        Ok(Some(Kind::Text))
     }
 }
 
-/// The index behind a group of brackets that begins at an index, or `None` if it has no end.
+/// The index behind the token at an index, or behind the group of brackets that it opens. `None` if that has no end.
 pub fn behind_group(tokens: &[Token], from: usize) -> Option<usize> {
     let mut open = Vec::new();
     for (index, token) in tokens.iter().enumerate().skip(from) {
@@ -400,8 +396,10 @@ impl Lexer<'_> {
         }
         let mut open = Vec::new();
         loop {
-            if let Some(sign) = UNCLEAR.iter().find(|sign| self.starts(sign)) {
-                return fault(self.line, format!("`{sign}` in a ghost part: its end would not be clear"));
+            for sign in UNCLEAR {
+                if self.starts(sign) {
+                    return fault(self.line, format!("`{sign}` in a ghost part: its end would not be clear"));
+                }
             }
             let ch = self.peek();
             match ch {
@@ -440,14 +438,13 @@ fn is_ghost_path(text: &str) -> bool {
     if text.contains(['\n', '"']) || UNCLEAR.iter().any(|sign| text.contains(sign)) {
         return false;
     }
-    match text.trim().split_once('{') {
-        Some((path, names)) => {
-            is_path(path) && names.strip_suffix('}').is_some_and(|names| !names.contains(['{', '}']))
-        }
-        None => {
-            let (path, alias) = text.trim().split_once(" as ").unwrap_or((text.trim(), ""));
-            is_path(path) && is_path(alias)
-        }
+    match text.trim().split('{').collect::<Vec<_>>()[..] {
+        [path, names] => is_path(path) && names.strip_suffix('}').is_some_and(|names| !names.contains('}')),
+        [path] => match path.split(" as ").collect::<Vec<_>>()[..] {
+            [path, alias] => is_path(path) && is_path(alias),
+            _ => is_path(path),
+        },
+        _ => false,
     }
 }
 
@@ -556,17 +553,18 @@ const WORDS_OF_ITEMS: &[&str] = &[
 ];
 
 impl Items<'_> {
+    /// The line of the next token, or of the last one at the end. It is asked where there is a token.
     fn line(&self) -> usize {
-        self.tokens.get(self.at).or(self.tokens.last()).map_or(1, |token| token.line)
+        self.tokens[self.at.min(self.tokens.len() - 1)].line
     }
 
     fn is(&self, ahead: usize, text: &str) -> bool {
         self.tokens.get(self.at + ahead).is_some_and(|token| token.is(text))
     }
 
-    /// The index behind the group that begins at an index.
+    /// The index behind the token at an index, or behind the group that it opens.
     fn behind(&self, from: usize) -> Result<usize, Fault> {
-        let line = self.tokens.get(from).map_or(1, |token| token.line);
+        let line = self.tokens.get(from).map_or(self.line(), |token| token.line);
         behind_group(&self.tokens, from).map_or_else(|| fault(line, "brackets that do not match"), Ok)
     }
 
@@ -599,13 +597,13 @@ impl Items<'_> {
             let is_inner = self.is(1, "!");
             let start = self.at + 1 + usize::from(is_inner);
             let end = self.behind(start)?;
-            if !self.tokens[start].is("[") || self.tokens[start..end].iter().any(|token| token.kind == Kind::Ghost) {
-                return fault(self.line(), "`#` that begins no attribute");
-            }
-            let words: String = self.tokens[start + 1..end - 1].iter().map(|token| token.text.as_str()).collect();
-            let is_tactic = self.origin.language == Language::Rattle
-                && position(&self.tokens[start..end], &pattern("tactic(")) == Some(1);
-            if is_tactic && !self.tokens[start + 1..end - 1].iter().all(is_of_tactic) {
+            let inner = match &self.tokens[start..end] {
+                [open, inner @ .., _] if open.is("[") && inner.iter().all(|token| token.kind != Kind::Ghost) => inner,
+                _ => return fault(self.line(), "`#` that begins no attribute"),
+            };
+            let words: String = inner.iter().map(|token| token.text.as_str()).collect();
+            let is_tactic = self.origin.language == Language::Rattle && words.starts_with("tactic(");
+            if is_tactic && !inner.iter().all(is_of_tactic) {
                 return fault(self.line(), "a tactic that is more than paths: its end would not be clear");
             }
             if is_inner && around.is_order {
@@ -718,8 +716,7 @@ impl Items<'_> {
         let mut at = word;
         let ends = |token: &Token| token.kind == Kind::Ghost || token.is("{") || token.is(";");
         while self.tokens.get(at).is_some_and(|token| !ends(token)) {
-            let is_group = self.tokens[at].is("(") || self.tokens[at].is("[");
-            at = if is_group { self.behind(at)? } else { at + 1 };
+            at = self.behind(at)?;
         }
         let clauses = at;
         while self.tokens.get(at).is_some_and(|token| token.kind == Kind::Ghost && !token.text.starts_with("prove")) {
@@ -734,8 +731,10 @@ impl Items<'_> {
                 return fault(line, format!("`{name}`: what is behind the clauses is no body"));
             }
         };
-        let uses = self.tokens[start..body].iter().filter(|token| token.is("use"));
-        let items = self.tokens[body..self.at].iter().filter(|token| WORDS_OF_ITEMS.iter().any(|word| token.is(word)));
+        let (head, clauses) = (self.tokens[start..clauses].to_vec(), self.tokens[clauses..body].to_vec());
+        let body = self.tokens[body..self.at].to_vec();
+        let uses = head.iter().filter(|token| token.is("use"));
+        let items = body.iter().filter(|token| WORDS_OF_ITEMS.iter().any(|word| token.is(word)));
         if let Some(token) = uses.chain(items).next() {
             return fault(
                 token.line,
@@ -747,8 +746,6 @@ impl Items<'_> {
         if around.is_order {
             may_be_moved(&self.tokens[start..self.at])?;
         }
-        let (head, clauses) = (self.tokens[start..clauses].to_vec(), self.tokens[clauses..body].to_vec());
-        let body = self.tokens[body..self.at].to_vec();
         if let Some(item) = self.found.last_mut() {
             *item = Item { head, clauses, body, is_function: true, ..item.clone() };
         }
@@ -786,27 +783,26 @@ impl Items<'_> {
     /// Takes a module that has a file of its own, or one in this file, and what is in it.
     fn module(&mut self, around: &Around, attributes: Vec<String>, word: usize) -> Result<(), Fault> {
         let name = self.tokens.get(word + 1).map(|token| token.text.clone()).unwrap_or_default();
-        let has_body = self.tokens.get(word + 2).is_some_and(|token| token.is("{"));
-        if !has_body {
-            let key = format!("mod {name}");
-            self.push(around, &key, &key, self.at..word + 2, attributes);
-            self.at = word + 3;
-            return match self.tokens.get(word + 2) {
-                Some(token) if token.is(";") => Ok(()),
-                _ => fault(self.line(), format!("`mod {name}` without `;`")),
-            };
+        let key = format!("mod {name}");
+        match self.tokens.get(word + 2) {
+            Some(token) if token.is("{") => {}
+            Some(token) if token.is(";") => {
+                self.push(around, &key, &key, self.at..word + 2, attributes);
+                self.at = word + 3;
+                return Ok(());
+            }
+            _ => return fault(self.line(), format!("`{key}` without `;`")),
         }
         let is_order = self.origin.orders.contains(&name.as_str()) && around.key.is_empty();
         if is_order && (word != self.at || !attributes.is_empty()) {
             return fault(self.line(), "a module of the order with a visibility or an attribute");
         }
-        let key = format!("mod {name}");
+        let below = if is_order { Around { is_order, ..around.clone() } } else { around.below(&key, &name) };
         if !is_order {
             self.push(around, &key, &key, self.at..word + 3, attributes);
         }
         self.at = word + 3;
-        let below = if is_order { around.clone() } else { around.below(&key, &name) };
-        self.all(&Around { is_order: is_order || around.is_order, ..below })?;
+        self.all(&below)?;
         self.close()
     }
 
@@ -836,7 +832,7 @@ fn names_what_is_around(tokens: &[Token]) -> bool {
 
 /// How the lists name an impl: by its type, or as `<Type as Trait>`.
 fn name_of_impl(head: &[Token]) -> String {
-    let mut at = usize::from(head.get(1).is_some_and(|token| token.is("<")));
+    let mut at = usize::from(matches!(head, [_, open, ..] if open.is("<")));
     let mut depth = 0;
     loop {
         match head.get(at).map(|token| token.text.as_str()) {
@@ -850,7 +846,7 @@ fn name_of_impl(head: &[Token]) -> String {
             break;
         }
     }
-    let rest = &head[at.max(1).min(head.len())..];
+    let rest = &head[at..];
     let name = |tokens: &[Token]| tokens.first().map(|token| token.text.clone()).unwrap_or_default();
     match rest.iter().position(|token| token.is("for")) {
         Some(found) => {
@@ -897,8 +893,7 @@ fn resolved(tokens: Vec<Token>, origin: Origin) -> Vec<Token> {
         is_use = token.is("use") || is_use && !token.is(";");
         let is_path = tokens.get(index + 1).is_some_and(|next| next.is("::"));
         let is_first = !made.last().is_some_and(|last| last.is("::") || last.is("."));
-        let found = if token.kind == Kind::Word { first_of_path(&token.text, origin.krate) } else { None };
-        match found.filter(|_| is_path && is_first && !is_use) {
+        match first_of_path(&token.text, origin.krate).filter(|_| is_path && is_first && !is_use) {
             Some(names) => {
                 for (count, name) in names.iter().enumerate() {
                     if count > 0 {
@@ -938,9 +933,9 @@ impl Items<'_> {
             let here = self.path_here(&names);
             let shown_alias = if Some(&alias) == names.last() { String::new() } else { format!(" as {alias}") };
             let key = format!("use {here}{shown_alias}");
-            self.push(around, &key, &key, start..word + 1, attributes.clone());
+            self.push(around, &key, &key, start..self.at, attributes.clone());
             if let Some(item) = self.found.last_mut() {
-                item.head.truncate(0);
+                item.head.clear();
                 item.attributes.push(format!("visibility {visibility}"));
             }
         }
@@ -967,9 +962,8 @@ fn take_tree(tree: &[Token], before: &[String], paths: &mut Vec<(Vec<String>, St
     loop {
         match tree.get(at) {
             Some(token) if token.is("{") => {
-                let inner = &tree[at + 1..tree.len().max(at + 2) - 1];
                 return behind_group(tree, at) == Some(tree.len())
-                    && between_commas(inner).iter().all(|part| take_tree(part, &names, paths));
+                    && between_commas(&tree[at + 1..tree.len() - 1]).iter().all(|part| take_tree(part, &names, paths));
             }
             Some(token) if token.kind == Kind::Word || token.is("*") => {
                 names.push(token.text.clone());
@@ -994,7 +988,9 @@ fn take_tree(tree: &[Token], before: &[String], paths: &mut Vec<(Vec<String>, St
 
 /// What stands between the commas that are in no brackets.
 pub fn between_commas(tokens: &[Token]) -> Vec<&[Token]> {
-    let (mut parts, mut start, mut at) = (Vec::new(), 0, 0);
+    let mut parts = Vec::new();
+    let mut start = 0;
+    let mut at = 0;
     while at < tokens.len() {
         if tokens[at].is(",") {
             parts.push(&tokens[start..at]);
@@ -1078,8 +1074,7 @@ fn end_of_part(tokens: &[Token], from: usize, next: Option<&Token>) -> usize {
         if is_end || at > from && Some(token) == next {
             break;
         }
-        let is_group = ["(", "[", "{"].iter().any(|open| token.is(open));
-        at = if is_group { behind_group(tokens, at).unwrap_or(tokens.len()) } else { at + 1 };
+        at = behind_group(tokens, at).unwrap_or(tokens.len());
     }
     at
 }
@@ -1087,22 +1082,15 @@ fn end_of_part(tokens: &[Token], from: usize, next: Option<&Token>) -> usize {
 /// Whether tokens are names with points between, each a field or, where that is allowed, a call without an argument. A macro may
 /// have fields in another order among its operands than the source; calls are evaluated in the same.
 fn is_path_of_fields(tokens: &[Token], may_call: bool) -> bool {
-    let mut at = 0;
-    loop {
-        if !tokens.get(at).is_some_and(|token| is_name(token) || token.kind == Kind::Number && at > 0) {
-            return false;
-        }
-        at += 1;
-        let is_call = matches!(&tokens[at..], [open, close, ..] if open.is("(") && close.is(")"));
-        if may_call && is_call {
-            at += 2;
-        }
-        match tokens.get(at) {
-            None => return true,
-            Some(token) if token.is(".") => at += 1,
+    let is_part = |(count, part): (usize, &[Token])| {
+        let name = match part {
+            [name] => name,
+            [name, open, close] if may_call && open.is("(") && close.is(")") => name,
             _ => return false,
-        }
-    }
+        };
+        is_name(name) || name.kind == Kind::Number && count > 0
+    };
+    tokens.split(|token| token.is(".")).enumerate().all(is_part)
 }
 
 fn filled(pattern: &[Token], bound: &Bound) -> Vec<Token> {
@@ -1166,7 +1154,7 @@ fn without_unsafe_blocks(mut body: Vec<Token>, reading: &mut Reading) -> Vec<Tok
 /// Takes `unsafe { }` away that begins at an index, if one call of a function that is `unsafe` is in it, or one access without a test,
 /// and nothing else. (rustc refuses an access that stands in none.)
 fn without_unsafe(tokens: &mut Vec<Token>, start: usize, reading: &mut Reading) {
-    if !tokens.get(start).is_some_and(|token| token.is("unsafe")) {
+    if !tokens[start].is("unsafe") {
         return;
     }
     let Some(end) = behind_group(tokens, start + 1) else { return };
@@ -1206,9 +1194,9 @@ fn called(tokens: &[Token]) -> Option<&str> {
 /// Whether tokens are one macro of an access, as the list of rewrites has it, and nothing else.
 fn is_access(tokens: &[Token]) -> bool {
     let [name, sign, ..] = tokens else { return false };
-    let is_of_list = |made: &str| made.split_once('!').is_some_and(|(of, _)| name.is(of));
+    let call = format!("{}!(", name.text);
     sign.is("!")
-        && REWRITES.iter().any(|rewrite| is_of_list(rewrite.made))
+        && REWRITES.iter().any(|rewrite| rewrite.made.starts_with(&call))
         && behind_group(tokens, 2) == Some(tokens.len())
 }
 
@@ -1217,18 +1205,16 @@ fn without_commas(tokens: Vec<Token>, is_head: bool) -> Vec<Token> {
     let mut made: Vec<Token> = Vec::new();
     let mut may_be_tuple = Vec::new();
     for token in tokens {
-        if token.kind == Kind::Sign {
-            let is_free = match token.text.as_str() {
-                "(" | "[" | "{" => {
-                    may_be_tuple.push(token.is("(") && !is_call(&made, is_head));
-                    false
-                }
-                ")" | "]" | "}" => may_be_tuple.pop() == Some(false),
-                sign => sign == ">" && is_head,
-            };
-            if is_free && made.last().is_some_and(|last| last.is(",")) {
-                made.pop();
+        let is_free = match token.text.as_str() {
+            "(" | "[" | "{" => {
+                may_be_tuple.push(token.is("(") && !is_call(&made, is_head));
+                false
             }
+            ")" | "]" | "}" => may_be_tuple.pop() == Some(false),
+            sign => sign == ">" && is_head,
+        };
+        if is_free && matches!(made.last(), Some(last) if last.is(",")) {
+            made.pop();
         }
         made.push(token);
     }
@@ -1248,7 +1234,11 @@ fn is_call(before: &[Token], is_head: bool) -> bool {
 fn before_generics(tokens: &[Token]) -> Option<&Token> {
     let mut depth = 0;
     let open = tokens.iter().rposition(|token| {
-        depth += i32::from(token.is(">")) - i32::from(token.is("<"));
+        match token.text.as_str() {
+            ">" => depth += 1,
+            "<" => depth -= 1,
+            _ => {}
+        }
         depth == 0
     })?;
     tokens[..open].last()
@@ -1288,7 +1278,7 @@ fn undo_asked(head: &mut Vec<Token>, body: &mut Vec<Token>, reading: &mut Readin
         let name = head[at - 1].text.clone();
         let line = pattern(&format!("let {name} = {name}.as_ref();"));
         if body.get(1..1 + line.len()) != Some(&line[..]) {
-            continue;
+            return;
         }
         put(body, 1..1 + line.len(), Vec::new());
         put(head, at + 1..at + 2, pattern(asked.source));
@@ -1309,14 +1299,8 @@ fn undo_asked_each(head: &mut Vec<Token>, body: &mut Vec<Token>, reading: &mut R
     }
     put(head, at..at + here.len(), there);
     reading.note(ASKED_EACH.0);
-    let (walk, plain) = (pattern(WALK.0), pattern(WALK.1));
-    for start in (0..body.len()).rev() {
-        let mut bound = Bound::new();
-        if let Some(end) = matched(&walk, body, start, &mut bound) {
-            put(body, start..end, filled(&plain, &bound));
-            reading.note(WALK.0);
-        }
-    }
+    let walk = Rewrite { made: WALK.0, source: WALK.1, then: Then::Anything, within: "", why: ASKED_EACH_WHY };
+    *body = undone(std::mem::take(body), &[walk], "", reading);
 }
 
 /// Where the `unsafe` of a function stands in its head, and not that of the type of a parameter.
@@ -1383,7 +1367,8 @@ fn without_proofs(body: &[Token], reading: &mut Reading) -> Result<Vec<Token>, F
             continue;
         }
         let is_whole = tokens.next_if(|next| next.is(";")).is_some();
-        if !token.text.starts_with("prove") || !made.last().is_some_and(is_before_statement) || !is_whole {
+        let is_statement = matches!(made.last(), Some(last) if is_before_statement(last)) && is_whole;
+        if !token.text.starts_with("prove") || !is_statement {
             return fault(token.line, format!("`{}` in a body", token.text));
         }
         reading.note(PROVE);
@@ -1396,18 +1381,24 @@ fn is_before_statement(token: &Token) -> bool {
 }
 
 /// The body of a source without calls of these laws, each of which is a statement with one name in its brackets.
-fn without_laws(mut body: Vec<Token>, laws: &[&str], reading: &mut Reading) -> Vec<Token> {
-    for law in laws {
-        let call = pattern(&format!("{law}($item);"));
-        for start in (1..body.len()).rev() {
-            let found = matched(&call, &body, start, &mut Bound::new());
-            if let Some(end) = found.filter(|_| is_before_statement(&body[start - 1])) {
-                body.drain(start..end);
+fn without_laws(body: &[Token], laws: &[&str], reading: &mut Reading) -> Vec<Token> {
+    let calls: Vec<_> = laws.iter().map(|law| (law, pattern(&format!("{law}($item);")))).collect();
+    let (mut made, mut at): (Vec<Token>, usize) = (Vec::new(), 0);
+    while let Some(token) = body.get(at) {
+        let is_statement = matches!(made.last(), Some(last) if is_before_statement(last));
+        let found = calls.iter().filter(|_| is_statement);
+        match found.filter_map(|(law, call)| Some((law, matched(call, body, at, &mut Bound::new())?))).next() {
+            Some((law, end)) => {
                 reading.note(&format!("law {law}"));
+                at = end;
+            }
+            None => {
+                made.push(token.clone());
+                at += 1;
             }
         }
     }
-    body
+    made
 }
 
 /// An item of a source without what Rattle alone has. `laws` are those that its file uses, by their names.
@@ -1418,7 +1409,7 @@ fn without_ghosts(source: &Item, laws: &[&str], reading: &mut Reading) -> Result
         reading.note(DROP_BOUND);
     }
     names_are_of_calls(source)?;
-    let body = without_laws(without_proofs(&source.body, reading)?, laws, reading);
+    let body = without_laws(&without_proofs(&source.body, reading)?, laws, reading);
     let (head, body) = (without_commas(with_single_closings(head), true), without_commas(body, false));
     Ok(Item { head, body: without_unsafe_blocks(body, reading), ..source.clone() })
 }
@@ -1501,9 +1492,10 @@ impl Comparison {
         if !made.text.lines().take(2).any(|line| line.starts_with(&named)) {
             self.differences.push(format!("{}:1: it does not name {} as its source", made.path, source.path));
         }
-        let orders = self.lists.orders.iter().find(|(path, _)| *path == module).map_or(&[][..], |(_, names)| names);
+        let orders = self.lists.orders.iter().filter(|(path, _)| *path == module);
+        let orders: Vec<&str> = orders.flat_map(|(_, names)| *names).copied().collect();
         let rattle = Origin { language: Language::Rattle, krate, module, orders: &[] };
-        let rust = Origin { language: Language::Rust, krate, module, orders };
+        let rust = Origin { language: Language::Rust, krate, module, orders: &orders };
         let there = self.read(items(source.text, rattle), source.path);
         let here = self.read(items(made.text, rust), made.path);
         let (Some(there), Some(here)) = (there, here) else { return };
@@ -1542,9 +1534,10 @@ impl Comparison {
             expected.push(match self.lists.places.iter().find(|place| place.path == source.path) {
                 Some(place) => self.in_its_place(place, file, source, said_at)?,
                 None => {
-                    let item = without_ghosts(&source, &names, &mut self.reading)?;
-                    let required = self.lists.required.iter().find(|required| required.path == source.path);
-                    let item = required.map_or(Ok(item.clone()), |required| with_required(item, required))?;
+                    let mut item = without_ghosts(&source, &names, &mut self.reading)?;
+                    for required in self.lists.required.iter().filter(|required| required.path == source.path) {
+                        item = with_required(item, required)?;
+                    }
                     Expected { item, source: Some(source), said_at }
                 }
             });
@@ -1666,27 +1659,27 @@ impl Comparison {
         let path = source.path.as_str();
         if unsafe_of(&made.head).is_some() {
             let is_public = made.head[0].is("pub") && !made.head[1].is("(");
-            match self.lists.required.iter().find(|required| required.path == path) {
-                Some(required) if required.requires == texts => self.reading.note(&format!("required {path}")),
-                None if !is_public => {}
-                _ => self.differences.push(format!(
+            let listed: Vec<_> = self.lists.required.iter().filter(|required| required.path == path).collect();
+            if listed.iter().any(|required| required.requires == texts) {
+                self.reading.note(&format!("required {path}"));
+            } else if is_public || !listed.is_empty() {
+                self.differences.push(format!(
                     "{places}: `{path}` is a public `unsafe fn`, and the list does not say how it tests what it requires: {texts:?}"
-                )),
+                ));
             }
-            return;
-        }
-        match self.lists.safe.iter().find(|safe| safe.functions.contains(&path) && safe.requires == texts) {
-            Some(_) => self.reading.note(&format!("safe {path}")),
-            None => self.differences.push(format!(
+        } else if self.lists.safe.iter().any(|safe| safe.functions.contains(&path) && safe.requires == texts) {
+            self.reading.note(&format!("safe {path}"));
+        } else {
+            self.differences.push(format!(
                 "{places}: `{path}` is no `unsafe fn`, and the list does not say why, for what it requires: {texts:?}"
-            )),
+            ));
         }
     }
 }
 
 /// Whether an attribute is one of the list, in which `".."` stands for any text.
 fn is_free(words: &str, free: &str) -> bool {
-    let Some((before, behind)) = free.split_once("\"..\"") else { return words == free };
+    let [before, behind] = free.split("\"..\"").collect::<Vec<_>>()[..] else { return words == free };
     let text = words.strip_prefix(before).and_then(|rest| rest.strip_suffix(behind));
     let is_one = |found: Vec<Token>| matches!(&found[..], [one] if one.kind == Kind::Text);
     text.is_some_and(|text| tokens(text, Language::Rust).is_ok_and(is_one))
@@ -1703,10 +1696,7 @@ fn is_misleading(item: &Item) -> bool {
     let name = key.trim_end_matches("::self").rsplit([':', ' ']).next().unwrap_or_default();
     let is_use = key.starts_with("use ");
     let has_alias = key.contains(" as ");
-    let is_known = match KNOWN_NAMES.iter().find(|(known, _)| name == *known) {
-        Some((_, path)) => item.path != *path,
-        None => known_names().contains(name),
-    };
+    let is_known = known_names().contains(name) && !KNOWN_NAMES.contains(&(name, item.path.as_str()));
     let is_of_std = key.starts_with("use core::") && !has_alias;
     (!is_use || has_alias) && is_known || is_reserved(name) && !is_of_std
 }
@@ -1727,7 +1717,7 @@ fn first_difference(has_to_be: &[Token], is: &[Token]) -> Option<String> {
     if has_to_be == is {
         return None;
     }
-    let same = has_to_be.iter().zip(is).take_while(|(one, other)| one == other).count();
+    let same = has_to_be.iter().zip(is).take_while(|pair| pair.0 == pair.1).count();
     let around = |tokens: &[Token]| shown(&tokens[same.saturating_sub(4)..tokens.len().min(same + 8)]);
     let line = |tokens: &[Token]| tokens.get(same).or(tokens.last()).map_or(0, |token| token.line);
     let (there, here) = (around(has_to_be), around(is));
@@ -1772,15 +1762,12 @@ fn unsafe_names(files: &Files) -> BTreeSet<String> {
 fn compare(files: &Files, lists: &'static Lists) -> Comparison {
     let mut comparison = Comparison::new(lists, unsafe_names(files));
     let mut left: BTreeSet<&str> = files.keys().filter(|path| path.starts_with(MADE)).map(String::as_str).collect();
-    for (path, text) in files {
-        let Some((krate, module)) = module_of(path) else { continue };
-        if is_left_out(lists, &module) {
-            continue;
-        }
+    let sources = files.iter().filter_map(|(path, text)| Some((File { path, text }, module_of(path)?)));
+    for (source, (krate, module)) in sources.filter(|(_, (_, module))| !is_left_out(lists, module)) {
         let made = path_of_made(&module);
         match files.get(&made) {
-            Some(here) => comparison.file(File { path, text }, File { path: &made, text: here }, krate, &module),
-            None => comparison.differences.push(format!("{path}: it has no made file {made}")),
+            Some(text) => comparison.file(source, File { path: &made, text }, krate, &module),
+            None => comparison.differences.push(format!("{}: it has no made file {made}", source.path)),
         }
         left.remove(made.as_str());
     }
@@ -1797,27 +1784,26 @@ fn compare(files: &Files, lists: &'static Lists) -> Comparison {
 
 /// Whether a module is left out, or one that it is in.
 fn is_left_out(lists: &Lists, module: &str) -> bool {
-    lists.left_out.iter().any(|(path, _)| {
-        let Some((around, name)) = path.split_once("mod ") else { return false };
-        module == format!("{around}{name}") || module.starts_with(&format!("{around}{name}::"))
+    lists.left_out.iter().filter(|(path, _)| path.contains("mod ")).any(|(path, _)| {
+        let whole = path.replace("mod ", "");
+        module == whole || is_in_module(module, &whole)
     })
 }
 
-/// Each law that a body calls still has the parameters and the body that were read.
+/// Each law that a body calls is one function, and still has the parameters and the body that were read.
 fn laws_do_nothing(files: &Files, comparison: &mut Comparison) {
-    for law in LAWS {
-        let path = law.path.trim_start_matches("crate::");
-        let found = files.iter().find_map(|(file, text)| {
+    for Law { path, head, body, .. } in LAWS {
+        let found = files.iter().filter_map(|(file, text)| {
             let (krate, module) = module_of(file)?;
-            let name = path.strip_prefix(&format!("{module}::"))?;
+            let key = format!("fn {}", path.strip_prefix(&format!("crate::{module}::"))?);
             let origin = Origin { language: Language::Rattle, krate, module: &module, orders: &[] };
-            items(text, origin).ok()?.into_iter().find(|item| item.key == format!("fn {name}"))
+            Some(items(text, origin).ok()?.into_iter().filter(move |item| item.key == key))
         });
-        if found.is_none_or(|item| item.head != pattern(law.head) || item.body != pattern(law.body)) {
-            let (path, head, body) = (law.path, law.head, law.body);
-            comparison.differences.push(format!(
+        match &found.flatten().collect::<Vec<_>>()[..] {
+            [law] if law.head == pattern(head) && law.body == pattern(body) => {}
+            _ => comparison.differences.push(format!(
                 "`{path}` is no function with the body `{body}` behind `{head}`: calls of it are left out"
-            ));
+            )),
         }
     }
 }
@@ -1847,10 +1833,14 @@ fn entries(lists: &'static Lists) -> Vec<(String, &'static str)> {
     entries
 }
 
-/// What is wrong with the lists: an entry that nothing uses is wider than it has to be, and one without a reason is refused.
+/// What is wrong with the lists: an entry that nothing uses is wider than it has to be, of two of a name one would not be looked at,
+/// and one without a reason is refused.
 fn faults_of_lists(comparison: &Comparison) -> Vec<String> {
-    let mut faults = Vec::new();
+    let (mut faults, mut met) = (Vec::new(), BTreeSet::new());
     for (entry, why) in entries(comparison.lists) {
+        if !met.insert(entry.clone()) {
+            faults.push(format!("the entry `{entry}` of a list is there twice"));
+        }
         if !comparison.reading.used.contains(&entry) {
             faults.push(format!("nothing uses the entry `{entry}` of a list"));
         }
@@ -1888,15 +1878,14 @@ pub fn read_all(root: &Path) -> Result<Files, String> {
 }
 
 fn main() -> ExitCode {
-    let words: Vec<String> = std::env::args().skip(1).collect();
-    told(outcome(&words))
+    told(outcome(&std::env::args().collect::<Vec<_>>()))
 }
 
-/// The status and what is told, for these arguments.
+/// The status and what is told, for the words that it is called with: its own name, and the arguments.
 fn outcome(words: &[String]) -> (u8, String) {
     let root = match words {
-        [] => ".",
-        [word, root] if word == "--root" => root,
+        [_] => ".",
+        [_, word, root] if word == "--root" => root,
         _ => return (2, "compare: the arguments are [--root FOLDER]\n".to_string()),
     };
     match read_all(Path::new(root)) {

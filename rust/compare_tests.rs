@@ -230,16 +230,28 @@ fn what_is_made_of_no_source_is_seen() {
     let mut other = files.clone();
     other.insert("crates/arraystring_base/src/more.rt".to_string(), "pub fn more() {}\n".to_string());
     seen(&other, "it has no made file");
-    let mut law = files;
+}
+
+#[test]
+fn a_law_is_the_function_that_was_read_and_no_other() {
+    let files = tree();
     let path = "crates/arraystring_core/src/laws.rt";
-    let text = law[path].replace("let _ = string.len();", "let _ = string.len(); loop {}");
-    let text_before = law.insert(path.to_string(), text).expect("the laws");
-    seen(&law, "is no function with the body");
-    law.insert(
-        path.to_string(),
-        text_before.replace("text_fits<const N: usize>(string: &", "text_fits<const N: usize>(string: "),
-    );
-    seen(&law, "is no function with the body");
+    let law = &files[path][files[path].find("pub fn text_fits").expect("a law")..];
+    let law = &law[..law.find("\n}").expect("its end") + 2];
+    let wanted = "`crate::arraystring_core::laws::text_fits` is no function with the body `{ let _ = string.len(); }` behind \
+                  `pub fn text_fits<const N: usize>(string: &ArrayString<N>)`: calls of it are left out";
+    for other in [
+        law.replace("let _ = string.len();", "let _ = string.len(); loop {}"),
+        law.replace("text_fits<const N: usize>(string: &", "text_fits<const N: usize>(string: "),
+        law.replace("text_fits", "text_fits_not"),
+        format!("{law}\n#[cfg(test)]\n{law}"),
+        String::new(),
+    ] {
+        let mut changed = files.clone();
+        changed.insert(path.to_string(), files[path].replace(law, &other));
+        let found = compare(&changed, &LISTS).differences;
+        assert!(found.iter().any(|difference| difference == wanted), "{other}: {found:?}");
+    }
 }
 
 #[test]
@@ -318,6 +330,8 @@ fn a_ghost_item_ends_at_its_own_sign() {
     let made = "pub const A: u8 = 1;\n";
     same("ghost use Rattle.a.B.{◌≡◌, c};\npub const A: u8 = 1;\n", made);
     same("ghost use Rattle.a as b;\npub const A: u8 = 1;\n", made);
+    same("ghost use Rattle.a;pub const A: u8 = 1;\n", made);
+    same("ghost a={ b } ;pub const A: u8 = 1; ghost c = { \"\" ++ \"d e::f_1\" };", made);
     for uses in
         ["Rattle.a\n", "Rattle.a.{b,\nc};\n", "Rattle.a.{b, pub use c::{d};\n", "Rattle.a.{b} c;\n", "Rattle.a.{b;\n"]
     {
@@ -345,6 +359,8 @@ fn an_attribute_takes_nothing_of_its_line_along() {
     differs("#[tactic::more]\nfn f() {}\n", "fn f() {}\n", "[] for [\"tactic::more\"]");
     differs("fn f() {}\n", "#[cold]\nfn f() {}\n", "[\"cold\"] for []");
     differs("#[derive(Clone)]\nstruct A;\n", "#[derive(Clone, Copy)]\nstruct A;\n", "derive(Clone,Copy)");
+    differs("#[a]\n#[b]\nstruct A;\n", "#[b]\n#[a]\nstruct A;\n", "[\"b\", \"a\"] for [\"a\", \"b\"]");
+    differs("fn f() {}\n", "#[tactic(a)]\nfn f() {}\n", "[\"tactic(a)\"] for []");
 }
 
 #[test]
@@ -387,6 +403,7 @@ fn a_path_is_compared_as_what_it_means_here() {
         differs(item, item, "as the name of a parameter");
     }
     differs("pub use b::c;\n", "use b::c;\n", "visibility");
+    differs("use b::c as _;\n", "use b::c;\n", "::use b::c as _` is missing");
     differs("use super::b::*;\n", "use super::b::*;\n", "a `use` of all names");
     differs("pub use std::marker::Model;\n", "", "use core::marker::Model` is missing");
     same("use std::marker::Model;\n", "");
@@ -528,6 +545,22 @@ fn a_place_is_of_one_source_and_of_one_path() {
 }
 
 #[test]
+fn of_two_places_of_a_path_the_first_counts_and_the_other_is_a_fault() {
+    static TWICE: Lists = Lists {
+        places: &[
+            Place { ..LISTED.places[0] },
+            Place { here: "pub fn peek() -> u8 { 3 }", why: "a test", ..LISTED.places[0] },
+        ],
+        ..NONE
+    };
+    assert_eq!(pair(&TWICE, PEEK, "pub fn peek() -> u8 { 2 }\n"), [""; 0]);
+    assert!(pair(&TWICE, PEEK, "pub fn peek() -> u8 { 3 }\n")[0].contains("for `"));
+    let faults = faults_of_lists(&Comparison::new(&TWICE, BTreeSet::new()));
+    let twice: Vec<_> = faults.iter().filter(|fault| fault.contains("twice")).collect();
+    assert_eq!(twice, ["the entry `place arraystring_base::a::peek` of a list is there twice"]);
+}
+
+#[test]
 fn an_access_is_of_the_same_operand_at_the_same_index() {
     let source = |text: &str| format!("fn f(&self) {{ g({text}); }}\n");
     let test = |there: &str, here: &str| pair(&NONE, &source(there), &source(here));
@@ -626,6 +659,11 @@ fn what_is_required_makes_a_function_unsafe() {
         ..NONE
     };
     assert_eq!(pair(&SAFE, source, "fn f(a: u8) {\n    g(a);\n}\n"), [""; 0]);
+    let public = pair(&SAFE, &format!("pub {source}"), "pub unsafe fn f(a: u8) {\n    g(a);\n}\n");
+    assert!(
+        public.len() == 1 && public[0].contains("is a public `unsafe fn`, and the list does not say"),
+        "{public:?}"
+    );
 }
 
 #[test]
@@ -750,6 +788,33 @@ fn a_parameter_is_asked_once_and_first() {
 }
 
 #[test]
+fn what_is_asked_is_the_first_parameter_and_one_of_its_type() {
+    for (kind, letter, of) in [("&str", "S", "str"), ("&[u8]", "B", "[u8]"), ("&[u16]", "B", "[u16]")] {
+        let ask = |generics: &str| format!("fn f<{generics}>(a: C, b: {letter}) {{ let b = b.as_ref(); g(b) }}\n");
+        same(&format!("fn f(a: C, b: {kind}) {{ g(b) }}\n"), &ask(&format!("{letter}: AsRef<{of}>")));
+        let source = format!("fn f<C>(a: C, b: {kind}) {{ g(b) }}\n");
+        same(&source, &ask(&format!("{letter}: AsRef<{of}>, C")));
+        differs(&source, &ask(&format!("C, {letter}: AsRef<{of}>")), "for `");
+    }
+    for (source, made) in [
+        ("fn f(a: &str, b: S) { g(a) }", "fn f<S: AsRef<str>>(a: S, b: S) { let a = a.as_ref(); g(a) }"),
+        ("fn f(a: &str, b: &str) { g(a) }", "fn f<S: AsRef<str>>(a: S, b: S) { let a = a.as_ref(); g(a) }"),
+        (
+            "fn f(a: &str, b: &[u8]) { g(a, b) }",
+            "fn f<S: AsRef<str>, B: AsRef<[u8]>>(a: S, b: B) { let a = a.as_ref(); let b = b.as_ref(); g(a, b) }",
+        ),
+        (
+            "fn f<'a, I: IntoIterator<Item = &'a str>>(all: I, other: U) {}",
+            "fn f<U: AsRef<str>, I: IntoIterator<Item = U>>(all: I, other: U) {}",
+        ),
+        // (it is done in functions alone)
+        ("struct A<'a, I: IntoIterator<Item = &'a str>>(I);", "struct A<U: AsRef<str>, I: IntoIterator<Item = U>>(I);"),
+    ] {
+        differs(source, made, "for `");
+    }
+}
+
+#[test]
 fn a_name_that_is_known_is_that_of_a_call() {
     let uses = "use crate::laws::only_reading;\n";
     let source = |body: &str| format!("{uses}fn f(a: u8) {{\n    {body}\n    g(a);\n}}\n");
@@ -786,10 +851,41 @@ fn a_name_that_is_known_is_that_of_a_call() {
 }
 
 #[test]
+fn a_name_that_is_known_is_named_where_it_stands_first() {
+    for (source, line, name) in [
+        ("fn f(\n    look: u8,\n    prove: u8,\n) {\n    required + 1;\n}\n", 2, "look"),
+        ("fn f() {\n    let a = look;\n    let b = prove;\n}\n", 2, "look"),
+        ("fn f() {\n    look\n}\n", 2, "look"),
+        ("fn f()\n    -> look;\n", 2, "look"),
+    ] {
+        let why = format!("a.rt:{line}: `{name}` is the name of a call that is known, and of none here");
+        differs(source, source, &why);
+    }
+    for source in ["struct A {\n    look: u8,\n}\n", "const A: u8 = look;\n"] {
+        same(source, source);
+    }
+}
+
+#[test]
 fn a_checksum_is_that_of_the_definition() {
     // (the values that are published with FNV-1a)
     let sums = [("", 0xCBF2_9CE4_8422_2325), ("a", 0xAF63_DC4C_8601_EC8C), ("foobar", 0x8594_4171_F739_67E8)];
     assert_eq!(sums.map(|(text, _)| checksum(text)), sums.map(|(_, sum)| sum));
+}
+
+#[test]
+fn each_side_is_compared_without_its_free_commas() {
+    let plain = "fn f<T>(a: T) { g(a < b > (c,)) }";
+    let commas = "fn f<T,>(a: T,) { g(a < b > (c,),) }";
+    static LISTED: Lists = Lists {
+        added: &[Added { module: "arraystring_base::a", items: "fn f<T,>(a: T,) { g(a < b > (c,),) }", why: "a test" }],
+        ..NONE
+    };
+    for made in [plain, commas] {
+        same(plain, made);
+        same(commas, made);
+        assert_eq!(pair(&LISTED, "", made), [""; 0]);
+    }
 }
 
 #[test]
@@ -827,6 +923,42 @@ fn each_item_is_there_once_and_no_other() {
     differs("fn f() {}\n", "#![allow(unused)]\nfn f() {}\n", "attribute #![allow(unused)]");
     differs("fn f() {}\n", "fn f() {}\nmod more {\n}\n", "mod more");
     differs("pub(crate) fn f() {}\n", "pub fn f() {}\n", "for `pub ( crate )");
+}
+
+#[test]
+fn each_difference_names_its_places() {
+    let (there, here) = ("crates/arraystring_base/src/a.rt", "rust/arraystring/src/arraystring_base/a.rs");
+    for (source, made, wanted) in [
+        (
+            "fn e() {}\nfn f() { g(a) }\n",
+            "\n\nfn f() { g(b) }\nfn e() {}\n",
+            format!(
+                "{there}:2, {here}:4: `arraystring_base::a::f`: `{{ g ( b ) }}` (line 4) for `{{ g ( a ) }}` (line 2)"
+            ),
+        ),
+        (
+            "\nstruct A {}\n",
+            "#[a]\n\nstruct A {}\n",
+            format!("{there}:2, {here}:4: `arraystring_base::a::struct A`: [\"a\"] for []"),
+        ),
+        (
+            "fn f() {}\nstruct A;\n",
+            "fn f() {}\n",
+            format!("{there}:2: `arraystring_base::a::struct A` is missing in {here}"),
+        ),
+        ("", "\nstruct A;\n", format!("{here}:3: `arraystring_base::a::struct A` is in no source and in no list")),
+        ("struct A;\n", "struct A;\nstruct A;\n", format!("{here}:3: `arraystring_base::a::struct A` is there twice")),
+        (
+            "\nfn str() {}\n",
+            "fn str() {}\n",
+            format!("{there}:2: `arraystring_base::a::str` has the name of a crate, or of what a rewrite knows"),
+        ),
+        ("fn f() {}\n}\n", "fn f() {}\n", format!("{there}:2: `}}` closes nothing")),
+        ("fn f() {}\n", "fn f() {}\n}\n", format!("{here}:3: `}}` closes nothing")),
+        ("fn f() {\n    prove!(a)\n}\n", "fn f() {}\n", format!("{there}:2: `prove!(a)` in a body")),
+    ] {
+        assert_eq!(pair(&NONE, source, made), [wanted]);
+    }
 }
 
 // ---- One function after the other ----
@@ -913,10 +1045,13 @@ fn each_literal_is_one_token() {
         ("1..5", &["1", "..", "5"]),
         ("1.max(2)", &["1", ".", "max", "(", "2", ")"]),
         ("1.5.0", &["1.5", ".", "0"]),
+        ("1.", &["1", "."]),
+        ("r\"a\"b\"c\"", &["r\"a\"", "b\"c\""]),
         ("'a'b", &["'a'", "b"]),
         ("'a,'b'", &["'a", ",", "'b'"]),
         ("a/*/ b */c", &["a", "c"]),
         ("a/* /* */* */c", &["a", "c"]),
+        ("a/***/c", &["a", "c"]),
         ("a/**/b//c\nd", &["a", "b", "d"]),
     ] {
         assert_eq!(shown_tokens(text), wanted, "{text}");
@@ -967,6 +1102,7 @@ fn what_is_no_program_is_refused_at_its_line() {
         ("fn f() {}\n// a\u{2028}\n", "2: a character that may end a line, and may not"),
         ("fn f() {}\n// a\u{2029}\n", "2: a character that may end a line, and may not"),
         ("fn f() {}\n// a\t\n", "2: a character that may end a line, and may not"),
+        ("fn f() {}\n// a\t\n// b\t\n", "2: a character that may end a line, and may not"),
         ("fn f() {}\né\n", "2: `é` is no character of a program"),
         ("fn f() {}\nrequires {}\n", "2: `requires` of a proof"),
         ("fn f() {}\nensures {}\n", "2: `ensures` of a proof"),
@@ -976,6 +1112,8 @@ fn what_is_no_program_is_refused_at_its_line() {
         ("fn f() {}\n#[a]\n", "2: an attribute of nothing"),
         ("fn f() {}\nimpl A {\n#[a]\n}\n", "4: an attribute of nothing"),
         ("fn f() {}\n#(a)\nfn g() {}\n", "2: `#` that begins no attribute"),
+        ("fn f() {}\n#a\nfn g() {}\n", "2: `#` that begins no attribute"),
+        ("fn f() {}\n#\n", "2: brackets that do not match"),
         ("fn f() {}\n#[a\nfn g() {}\n", "2: brackets that do not match"),
         ("fn f() {}\n#[a)]\nfn g() {}\n", "2: brackets that do not match"),
         ("fn f() {}\n;\n", "2: no item"),
@@ -983,16 +1121,22 @@ fn what_is_no_program_is_refused_at_its_line() {
         ("fn f() {}\npub(a\n", "2: brackets that do not match"),
         ("fn f() {}\nstruct A\n", "2: an item without its end"),
         ("fn f() {}\nstruct A)\n;\n", "2: an item without its end"),
+        ("fn f() {}\nstruct A]\n;\n", "2: an item without its end"),
+        ("fn f() {}\nstruct A}\n;\n", "2: an item without its end"),
         ("fn f() {}\nconst A: u8 = 1\n}\n", "2: an item without its end"),
         ("fn f() {}\nuse a::b\n", "2: an item without its end"),
         ("fn f() {}\nfn g()\n", "2: `g`: what is behind the clauses is no body"),
+        ("fn f() {}\nfn g)\n{}\n", "2: brackets that do not match"),
         ("fn f() {}\nfn g() {\n", "2: brackets that do not match"),
         ("fn f() {}\nimpl A\n", "2: an impl without its body"),
         ("fn f() {}\nimpl A;\nfn g() {}\n", "2: an impl without its body"),
+        ("fn f() {}\nimpl A\n;\n", "3: an impl without its body"),
         ("fn f() {}\nimpl A {\n    fn g() {}\n", "3: an item without its closing brace"),
         ("fn f() {}\nmod a {\n    fn g() {}\n", "3: an item without its closing brace"),
         ("fn f() {}\nmod a\n", "2: `mod a` without `;`"),
+        ("fn f() {}\nmod a\nfn g() {}\n", "2: `mod a` without `;`"),
         ("fn f() {}\nuse a b;\n", "2: a `use` that is no tree of names"),
+        ("fn f() {}\nuse a b c;\n", "2: a `use` that is no tree of names"),
         ("fn f() {}\nuse ::a;\n", "2: a `use` that is no tree of names"),
         ("fn f() {}\nuse a::;\n", "2: a `use` that is no tree of names"),
         ("fn f() {}\nuse a::{b} c;\n", "2: a `use` that is no tree of names"),
@@ -1000,14 +1144,46 @@ fn what_is_no_program_is_refused_at_its_line() {
         ("fn f() {}\nuse a as 1;\n", "2: a `use` that is no tree of names"),
         ("fn f() {}\nuse 1;\n", "2: a `use` that is no tree of names"),
         ("fn f() {}\nfn g(str: u8) {}\n", "2: `str` as the name of a parameter"),
+        ("fn f(\n    str: u8,\n    core: u8,\n) {}\n", "2: `str` as the name of a parameter"),
+        ("fn f() {}\nfn g(str:", "2: `str` as the name of a parameter"),
         (
             "fn f() {}\npub static A: u8 = 1;\n",
             "2: `static` begins no item that a file may have: write it as functions, types and constants",
         ),
         ("fn f() {}\nimpl Model for A {}\n", "2: an impl of `Model` with what is not ghost"),
+        ("fn f() {}\nimpl\nModel for A {}\n", "2: an impl of `Model` with what is not ghost"),
     ] {
         refuses(Language::Rust, text, sentence);
     }
+}
+
+#[test]
+fn what_no_module_of_the_order_has_is_refused_at_its_line() {
+    let attributes = "a module of the order with a visibility or an attribute";
+    let function = "a function that means something else in a module of the order";
+    let scope = "an impl that means something else in a module of the order";
+    let alone = "in a module of the order, which has functions of a type alone";
+    for (text, line, why) in [
+        ("pub mod first {}\n", 1, attributes),
+        ("#[a]\nmod first {}\n", 2, attributes),
+        ("mod first {\n    #![a]\n}\n", 2, "an attribute of a module of the order"),
+        ("mod first {\n    use a::b;\n}\n", 2, "a `use` in a module of the order"),
+        ("mod first {\n    pub use super::*;\n}\n", 2, "a `use` in a module of the order"),
+        ("mod first {\n    #[a]\n    use super::*;\n}\n", 3, "a `use` in a module of the order"),
+        ("mod first {\n    fn f() {}\n}\n", 2, &format!("`fn` {alone}")),
+        ("mod first {\n    impl A {\n        const B: u8 = 1;\n    }\n}\n", 3, &format!("`const` {alone}")),
+        ("mod first {\n    impl\n    super::A {}\n}\n", 2, scope),
+        ("mod first {\n    impl A {\n        fn f() {}\n    }\n}\n", 3, function),
+        ("mod first {\n    impl A {\n        pub\n        fn f() { self::g() }\n    }\n}\n", 3, function),
+        ("mod first {\n    impl A {\n        pub fn f() {}\n        pub fn g() { self::h() }\n    }\n}\n", 4, function),
+        ("mod first {\n    impl A {\n        pub fn f() {}\n", 3, "an item without its closing brace"),
+    ] {
+        refuses(Language::Rust, text, &format!("{line}: {why}"));
+    }
+    let allowed =
+        "mod first {\n    use super::*;\n    #[a]\n    impl A {\n        #[a]\n        pub fn f() {}\n    }\n}\n";
+    let elsewhere = "fn g() { self::h() }\nimpl super::A {\n    fn i() { self::h() }\n}\n";
+    assert_eq!(fault_of(&format!("{elsewhere}{allowed}{elsewhere}"), Language::Rust), "5 items");
 }
 
 #[test]
@@ -1020,6 +1196,7 @@ fn what_is_no_ghost_part_is_refused_at_its_line() {
         ("fn f() {\n    prove! { a };\n}\n", "2: a ghost part without `(`"),
         ("fn f() {\n    prove!(a;\n", "3: a ghost part without its end"),
         ("fn f()\n    requires { \"a\" }\n{}\n", "2: a text in a ghost part: its end would not be clear"),
+        ("fn f() {\n    prove!(\"a\");\n}\n", "2: a text in a ghost part: its end would not be clear"),
         ("fn f()\n    requires { (a] }\n{}\n", "2: `]` in a ghost part closes nothing"),
         ("fn f()\n    requires { [a) }\n{}\n", "2: `)` in a ghost part closes nothing"),
         ("fn f()\n    requires { a }\n    prove!(b)\n{}\n", "3: `f`: what is behind the clauses is no body"),
@@ -1033,8 +1210,11 @@ fn what_is_no_ghost_part_is_refused_at_its_line() {
         ),
         ("fn f() {}\n#[tactic(a - b)]\nfn g() {}\n", "2: a tactic that is more than paths: its end would not be clear"),
         ("fn f() {}\n#[tactic(\"a\")]\nfn g() {}\n", "2: a tactic that is more than paths: its end would not be clear"),
+        ("fn f() {}\n#[tactic(a) -]\nfn g() {}\n", "2: a tactic that is more than paths: its end would not be clear"),
         ("fn f() {}\nuse a::*;\n", "2: a `use` of all names: one of them could take the place of what is left out"),
         ("fn f() {}\nimpl A requires { b } {}\n", "2: an impl without its body"),
+        ("fn f() {}\nstruct A\n    requires { b };\n", "2: an item without its end"),
+        ("fn f() {}\n#[a]\nghost use b;\n", "3: no item"),
         ("fn f() {}\n#[a ghost use b;]\nfn g() {}\n", "2: `#` that begins no attribute"),
         ("fn f() {}\nimpl Model for A {\n    fn g() {}\n}\n", "2: an impl of `Model` with what is not ghost"),
     ] {
@@ -1058,6 +1238,7 @@ fn each_form_of_an_item_is_read() {
         ("const A: [u8; 2] = { [1; 2] }; type B = C;", &["const A", "type B"]),
         ("struct A; struct B(u8); struct C { d: u8 } enum D { E }", &["struct A", "struct B", "struct C", "enum D"]),
         ("fn f(a: [u8; { 1 }]) -> u8 { 1 }", &["fn f"]),
+        ("fn f(a: A<{ 1 }>) -> [u8; 2] { g() }", &["fn f"]),
         ("compile_error!(\"a\"); compile_error! { \"b\" } fn f() {}", &["compile_error!", "compile_error!", "fn f"]),
         ("mod a; mod b { fn f() {} }", &["mod a", "mod b", "mod b / fn f"]),
         ("impl A { fn f() {} }", &["impl A / fn f"]),
@@ -1067,9 +1248,11 @@ fn each_form_of_an_item_is_read() {
             &["impl < T > B for A < T >", "impl < T > B for A < T > / const C"],
         ),
         ("#![a(b)] #[c] fn f() {}", &["attribute #![a(b)]", "fn f"]),
+        ("fn f() {} #![a]", &["fn f", "attribute #![a]"]),
         ("use a; use a::b; use a as c;", &["use a", "use a::b", "use a as c"]),
         ("use a::{b, c::{d as e, self}, *};", &["use a::b", "use a::c::d as e", "use a::c::self", "use a::*"]),
         ("mod first { use super::*; impl A { pub fn f() {} } }", &["impl A / fn f"]),
+        ("mod a { mod first { fn f() {} } }", &["mod a", "mod a / mod first", "mod a / mod first / fn f"]),
         ("impl<T: B<C<D>>> A<T> { fn f() {} }", &["impl < T : B < C < D >> > A < T > / fn f"]),
     ] {
         let origin = Origin { language: Language::Rust, krate: "arraystring_base", module: "a", orders: &["first"] };
@@ -1107,6 +1290,8 @@ fn an_item_is_named_in_lists_by_its_path() {
         ("impl B for A", "<A as B>"),
         ("impl<'a, const N: usize> B<C<u8>> for A<'a, N>", "<A as B<C<u8>>>"),
         ("impl a::B for A", "<A as a::B>"),
+        ("impl<T A", ""),
+        ("impl B for for<'a> A<'a>", "<for as B>"),
     ] {
         assert_eq!(name_of_impl(&with_single_closings(rust_tokens(head))), name, "{head}");
     }
@@ -1119,6 +1304,7 @@ fn an_item_is_named_in_lists_by_its_path() {
         ("crates/arraystring_core/src/a/b.rt", Some(("arraystring_core", "arraystring_core::a::b"))),
         ("crates/arraystring/src/lib.rt", Some(("arraystring", ""))),
         ("crates/arraystring/src/a/b.rt", Some(("arraystring", "a::b"))),
+        ("crates/arraystring/src/a/src/b.rt", Some(("arraystring", "a::src::b"))),
         ("crates/bounded_records/src/a.rt", None),
         ("crates/arraystring/src/a.rs", None),
         ("crates/arraystring/out/a.rt", None),
@@ -1156,6 +1342,7 @@ fn brackets_and_commas_are_those_around() {
         (", a", &["", "a"]),
         ("a(b, c), [d, e], {f, g}, h", &["a ( b , c )", "[ d , e ]", "{ f , g }", "h"]),
         ("a, (b, c", &["a", "( b , c"]),
+        ("a ) b, c", &["a ) b", "c"]),
     ] {
         let tokens = rust_tokens(text);
         assert_eq!(between_commas(&tokens).into_iter().map(shown).collect::<Vec<_>>(), wanted, "{text}");
@@ -1179,6 +1366,9 @@ fn a_call_and_a_path_of_fields_are_known() {
         ("f::<A>(b > c)", Some("f")),
         ("f::<A(c)", None),
         ("a + f(b)", None),
+        ("a.0 > (b)", None),
+        ("::f(b)", None),
+        ("f;", None),
         ("<A>(b)", None),
         ("", None),
     ] {
@@ -1187,6 +1377,7 @@ fn a_call_and_a_path_of_fields_are_known() {
     for (text, is_path, is_of_calls) in [
         ("a", true, true),
         ("self.a", true, true),
+        ("a.0", true, true),
         ("a.b.0", true, true),
         ("a.b()", false, true),
         ("a().b()", false, true),
@@ -1213,9 +1404,23 @@ fn a_ghost_use_is_a_path() {
     for text in [" a", " a.b.c", " a.b as c", " a.{b, c}", " a.b.{◌≡◌, c} ", " a.{}"] {
         assert!(is_ghost_path(text), "{text}");
     }
-    for text in
-        [" a\n.b", " a\"b", " a b", " a-b", " a as b c", " a as b-c", " a.{b}{c}", " a.{b} c", " a-b.{c}", " a.{b"]
-    {
+    for text in [
+        " a\n.b",
+        " a\"b",
+        " a b",
+        " a-b",
+        " a as b c",
+        " a as b-c",
+        " a-b as c",
+        " a as b as c",
+        " a.{b}{c}",
+        " a.{b} c",
+        " a-b.{c}",
+        " a.{b",
+        " a.{b\"}",
+        " a.{b}c}",
+        " a.{b\n}",
+    ] {
         assert!(!is_ghost_path(text), "{text}");
     }
 }
@@ -1228,6 +1433,7 @@ fn a_difference_is_shown_with_what_is_around() {
         ("x b c", Some("`x b c` (line 1) for `a b c d e f g h` (line 1)")),
         ("a b c d e x\ng h", Some("`b c d e x g h` (line 1) for `b c d e f g h i j k l m` (line 1)")),
         ("a b\nc", Some("`a b c` (line 2) for `a b c d e f g h i j k` (line 1)")),
+        ("a b\nx", Some("`a b x` (line 2) for `a b c d e f g h i j` (line 1)")),
         ("", Some("`` (line 0) for `a b c d e f g h` (line 1)")),
     ] {
         assert_eq!(first_difference(&rust_tokens(text), &rust_tokens(other)).as_deref(), wanted, "{other}");
@@ -1264,6 +1470,13 @@ fn a_rewrite_is_undone_where_what_is_around_allows_it() {
 }
 
 #[test]
+fn what_a_rewrite_makes_is_not_rewritten_again() {
+    let rewrite = |made, source| Rewrite { made, source, then: Then::Anything, within: "", why: "a test" };
+    let list = [rewrite("a", "b b"), rewrite("b", "c")];
+    assert_eq!(shown(&undone(rust_tokens("a d b"), &list, "", &mut Reading::default())), "b b d c");
+}
+
+#[test]
 fn what_a_rewrite_makes_stands_in_its_line() {
     let made = |lines: usize| format!("fn f() {{{}g(*get_unchecked!(a, 1)) }}\n", "\n".repeat(lines));
     for lines in 0..=9 {
@@ -1285,6 +1498,8 @@ fn a_pattern_matches_what_it_says() {
         ("f($a)", "f(g(b, c), )", 0, None),
         ("f($a, $b)", "f([b, c], {d, e})", 0, Some(14)),
         ("f($a", "f(b}", 0, Some(3)),
+        ("f($a", "f(b)", 0, Some(3)),
+        ("f[$a", "f[b]", 0, Some(3)),
         ("$a = $a;", "b + 1 = b + 1;", 0, Some(8)),
         ("$a = $a;", "b = c;", 0, None),
         ("f($item)", "f(b)", 0, Some(4)),
@@ -1301,15 +1516,44 @@ fn a_pattern_matches_what_it_says() {
     ] {
         assert_eq!(matched(&pattern(text), &rust_tokens(of), from, &mut Bound::new()), wanted, "{text} {of}");
     }
+    assert_eq!(position(&rust_tokens("a b c b c"), &rust_tokens("b c")), Some(1));
     let known = "copy_from_slice_unchecked get_unchecked get_unchecked_mut look look_unchecked only_reading prove required \
                  required_of_each text_fits unreachable unreachable_unchecked";
     assert_eq!(known_names().into_iter().collect::<Vec<_>>().join(" "), known);
+}
+
+/// The strict keywords of the Rust Reference, and `yield`, which it reserves.
+const STRICT: &str = "as async await break const continue crate dyn else enum extern false fn for if impl in let loop match mod \
+                      move mut pub ref return self Self static struct super trait true type unsafe use where while yield";
+
+#[test]
+fn a_keyword_is_a_name_where_it_begins_a_path_or_an_item_that_is_refused() {
+    let names = ["crate", "self", "Self", "super"];
+    let items = ["enum", "extern", "fn", "mod", "struct", "trait", "type", "use"];
+    assert!(items.iter().all(|word| WORDS_OF_ITEMS.contains(word)));
+    for word in STRICT.split(' ') {
+        assert_eq!(is_name(&rust_tokens(word)[0]), names.contains(&word) || items.contains(&word), "{word}");
+    }
+    for (word, wanted) in [("a", true), ("unions", true), ("1", false), ("\"a\"", false), ("'a", false), ("+", false)] {
+        assert_eq!(is_name(&rust_tokens(word)[0]), wanted, "{word}");
+    }
+}
+
+#[test]
+fn a_function_is_unsafe_by_the_word_before_it() {
+    let text = "unsafe { f() } fn g() {} pub unsafe fn h() {} impl A { unsafe fn i() {} const unsafe fn j() {} }";
+    let last = "unsafe fn l";
+    let files = [("a.rs", text), ("b/c.rs", last)].map(|(name, text)| (format!("{MADE}{name}"), text.to_string()));
+    let other = ("crates/arraystring/src/a.rt".to_string(), "unsafe fn m() {}".to_string());
+    let names = unsafe_names(&files.into_iter().chain([other]).collect());
+    assert_eq!(names.iter().map(String::as_str).collect::<Vec<_>>(), ["h", "i", "j", "l"]);
 }
 
 #[test]
 fn a_comma_is_free_where_it_makes_no_tuple() {
     for (text, is_head, wanted) in [
         ("f(a, b,)", false, "f(a, b)"),
+        ("f(a, (b), [c], {})", false, "f(a, (b), [c], {})"),
         ("f!(a,)", false, "f!(a)"),
         ("[a,]", false, "[a]"),
         ("A { b, }", false, "A { b }"),
@@ -1318,6 +1562,9 @@ fn a_comma_is_free_where_it_makes_no_tuple() {
         ("f((a,),)", false, "f((a,))"),
         ("f<A,>(b,)", true, "f<A>(b)"),
         ("f<A, B<C>,>(d: (E,),)", true, "f<A, B<C> >(d: (E,))"),
+        ("pub fn f<A>(b,)", true, "pub fn f<A>(b)"),
+        ("for<A> (b,)", true, "for<A> (b,)"),
+        ("for<A<B> > (c,)", true, "for<A<B> > (c,)"),
         ("A<B>,>", true, "A<B> >"),
         ("a < b,>", false, "a < b,>"),
         ("a < b > (c,)", false, "a < b > (c,)"),
@@ -1346,6 +1593,9 @@ fn a_comma_is_free_where_it_makes_no_tuple() {
     ] {
         assert_eq!(is_left_out(&LISTS, module), wanted, "{module}");
     }
+    // (a function that is left out is no module)
+    static FUNCTION: Lists = Lists { left_out: &[("arraystring_base::a::f", "a test")], ..NONE };
+    assert!(!is_left_out(&FUNCTION, "arraystring_base::a::f"));
 }
 
 #[test]
@@ -1361,7 +1611,8 @@ fn each_entry_that_is_used_has_its_reason() {
 fn what_is_told_has_its_status() {
     let root = std::env::current_dir().expect("a folder");
     let root = root.ancestors().find(|it| it.join("crates/arraystring_base").is_dir()).expect("the repository");
-    let with = |words: &[&str]| outcome(&words.iter().map(|word| word.to_string()).collect::<Vec<_>>());
+    let with =
+        |words: &[&str]| outcome(&["compare"].iter().chain(words).map(|word| word.to_string()).collect::<Vec<_>>());
     let (status, text) = with(&["--root", root.to_str().expect("a path")]);
     let Comparison { functions, items, .. } = compare(&tree(), &LISTS);
     let all =
@@ -1370,6 +1621,8 @@ fn what_is_told_has_its_status() {
     for words in [&["--other", "a"][..], &["--root"], &["--root", "a", "b"]] {
         assert_eq!(with(words), (2, "compare: the arguments are [--root FOLDER]\n".to_string()));
     }
+    assert_eq!(outcome(&[]), with(&["--root"]));
+    assert_eq!(with(&[]), with(&["--root", "."]));
     let (status, text) = with(&["--root", "/nowhere"]);
     assert!(status == 2 && text.starts_with("compare: /nowhere/crates/arraystring_base/src: "), "{text}");
     let mut files = tree();
@@ -1380,6 +1633,27 @@ fn what_is_told_has_its_status() {
     let wanted =
         format!("compare: {MADE}a.rs: {no_source}\ncompare: {MADE}b.rs: {no_source}\ncompare: 2 differences\n");
     assert_eq!((status, text), (1, wanted));
+}
+
+/// Runs as a program of its own below, which tells on its own streams.
+#[test]
+fn the_program_tells() {
+    if std::env::var_os("COMPARE_TELLS").is_some() {
+        let statuses = [told((0, "all is well\n".to_string())), told((7, "all is lost\n".to_string())), main()];
+        println!("{statuses:?}");
+    }
+}
+
+#[test]
+fn what_is_told_stands_on_its_stream() {
+    let mut program = std::process::Command::new(std::env::current_exe().expect("a program"));
+    program.args(["--exact", "tests::the_program_tells", "--nocapture"]).env("COMPARE_TELLS", "");
+    let output = program.output().expect("a program that runs");
+    let [out, error] = [output.stdout, output.stderr].map(|bytes| String::from_utf8(bytes).expect("a text"));
+    // (the arguments of tests are none of the program)
+    assert_eq!(error, "all is lost\ncompare: the arguments are [--root FOLDER]\n");
+    assert!(out.contains("all is well\n") && !out.contains("all is lost"), "{out}");
+    assert!(out.contains(&format!("{:?}", [0, 7, 2].map(ExitCode::from))), "{out}");
 }
 
 #[test]
@@ -1475,6 +1749,12 @@ fn the_sources_and_what_is_made_are_read_and_no_other_file() {
         .into_iter()
         .for_each(write);
     let files = read_all(&root).expect("the files");
+    for path in read_files {
+        std::fs::write(root.join(path), b"\xFF").expect("a file");
+        let why = read_all(&root).expect_err("no text");
+        assert!(why.starts_with(&format!("{}: ", root.join(path).display())), "{why}");
+        write(path);
+    }
     std::fs::remove_dir_all(&root).expect("a folder");
     assert_eq!(files.keys().collect::<Vec<_>>(), read_files);
     assert!(files.iter().all(|(path, text)| text.ends_with(path)));
@@ -1515,8 +1795,9 @@ fn a_path_of_a_source_is_resolved_where_it_begins() {
         ("pub use b;", &["visibility pub"]),
         ("#[c(d)] pub(crate) use b;", &["c(d)", "visibility pub ( crate )"]),
     ] {
-        let found = items(text, origin(Language::Rust)).expect("items").remove(0);
+        let found = items(&format!("\n{text}\nfn f() {{}}"), origin(Language::Rust)).expect("items").remove(0);
         assert!(found.attributes == attributes && found.head.is_empty(), "{text}: {found:?}");
+        assert_eq!((found.line, found.at), (2, (1, 1 + text.len())), "{text}");
     }
 }
 
@@ -1537,10 +1818,11 @@ fn an_item_has_its_parts() {
         ("pub mod c;", "pub mod c"),
         ("pub mod c {}", "pub mod c {"),
         ("impl B for C {}", "impl B for C"),
+        ("compile_error!(\"c\");", "compile_error ! ( \"c\" ) ;"),
     ] {
-        let found = items(&format!("{text} fn next() {{}}"), origin).expect("items").remove(0);
+        let found = items(&format!("fn before() {{}}\n{text} fn next() {{}}"), origin).expect("items").remove(1);
         assert!(shown(&found.head) == head && !found.is_function && found.body.is_empty(), "{text}: {found:?}");
-        assert_eq!(found.at.0, 0, "{text}");
+        assert_eq!((found.line, found.at.0), (2, "fn before() {}\n".len()), "{text}");
     }
     same("#[tactic(a::b(c, d), e)]\nfn f() {}\n", "fn f() {}\n");
 }
@@ -1556,6 +1838,7 @@ fn a_function_may_be_moved_that_names_nothing_around() {
         ("pub fn f() { self::g() }", false),
         ("pub fn f() { super::g() }", false),
         ("pub fn f(a: super::A) {}", false),
+        ("pub fn f() -> super::", false),
     ] {
         assert_eq!(may_be_moved(&rust_tokens(function)).is_ok(), wanted, "{function}");
     }
