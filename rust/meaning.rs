@@ -46,15 +46,17 @@ impl Part {
         self.item.key.rsplit("fn ").next().unwrap_or_default()
     }
 
+    /// What it is and its name, without what is around it.
+    fn last(&self) -> &str {
+        self.item.key.rsplit_once(" / ").map_or(&self.item.key, |(_, last)| last)
+    }
+
     /// The type whose impl it is in, or none.
     fn owner(&self) -> Option<String> {
         let around = self.around();
-        let impl_at = around.iter().position(|token| token.is("impl"))?;
-        let behind = impl_at
-            + 1
-            + if around.get(impl_at + 1)?.is("<") { between_angles(&around, impl_at + 1).len() + 2 } else { 0 };
-        let of = around[behind..].iter().position(|token| token.is("for")).map_or(behind, |found| behind + found + 1);
-        around[of..].iter().find(|token| token.kind == Kind::Word).map(|token| token.text.clone())
+        let head = without_angles(&around[position(&around, &pattern("impl"))? + 1..]);
+        let of = position(&head, &pattern("for")).map_or(0, |found| found + 1);
+        head[of..].iter().find(|token| token.kind == Kind::Word).map(|token| token.text.clone())
     }
 
     /// The tokens of the impl around it, and of the modules in its file.
@@ -75,24 +77,27 @@ impl Access {
     /// Reads them off the file that has them.
     fn new(text: &str) -> Result<Self, Fault> {
         let tokens = tokens(text, Language::Rust)?;
-        let is = |at: usize, texts: &[&str]| texts.iter().zip(&tokens[at..]).all(|(text, token)| token.is(text));
-        let behind = |texts: &'static [&str]| {
-            (0..tokens.len().saturating_sub(3)).filter(move |at| is(*at, texts)).map(move |at| at + texts.len())
+        // What is named behind each such place, and the tokens behind the name.
+        let behind = |of: &str| {
+            let of = pattern(of);
+            let rests = (0..tokens.len()).filter_map(|at| tokens[at..].strip_prefix(&of[..]));
+            rests.filter_map(|rest| rest.split_first()).collect::<Vec<_>>()
         };
-        let name = |at: usize| tokens[at].text.clone();
         // (what of std is `unsafe` there has such a name, or is of pointers)
         let is_unsafe = |token: &Token| token.is("unsafe") || token.is("ptr") || token.text.contains("unchecked");
-        let has_unsafe = |at: &usize| {
-            let end = behind_group(&tokens, at + 1).unwrap_or(tokens.len());
-            tokens[at + 1..end].iter().any(is_unsafe)
-        };
-        let macros = || behind(&["macro_rules", "!"]);
-        let methods: BTreeSet<String> = behind(&["$", "of", "."]).map(name).collect();
+        let has_unsafe = |rest: &[Token]| rest[..behind_group(rest, 0).unwrap_or(rest.len())].iter().any(is_unsafe);
+        let methods: BTreeSet<String> = behind("$of.").into_iter().map(|(name, _)| name.text.clone()).collect();
         if methods.is_empty() {
             return Err(Fault { line: 1, why: "no macro calls anything on its operand, `$of`".to_string() });
         }
-        let untested = macros().filter(has_unsafe).map(name).collect();
-        Ok(Access { macros: macros().map(name).collect(), untested, methods })
+        let (mut macros, mut untested) = (BTreeSet::new(), BTreeSet::new());
+        for (name, rest) in behind("macro_rules!") {
+            macros.insert(name.text.clone());
+            if has_unsafe(rest) {
+                untested.insert(name.text.clone());
+            }
+        }
+        Ok(Access { macros, untested, methods })
     }
 
     /// The name of the macro without a test that begins at an index.
@@ -135,10 +140,27 @@ struct Program {
 const ACCESS: &str = "rust/arraystring/src/by_hand/access.rs";
 const UNWINDING: &str = "rust/arraystring/tests/unwinding.rs";
 
+/// A source that has a made file, and that.
+struct Pair<'a> {
+    /// The path and the text of the source.
+    source: (&'a str, &'a str),
+    made: (String, &'a str),
+    krate: &'a str,
+    module: String,
+}
+
+fn pairs(files: &Files) -> impl Iterator<Item = Pair<'_>> {
+    files.iter().filter_map(|(path, text)| {
+        let (krate, module) = module_of(path)?;
+        let here = path_of_made(&module);
+        let made = files.get(&here)?;
+        Some(Pair { source: (path, text), made: (here, made), krate, module })
+    })
+}
+
 /// Reads a file, or says why not.
-fn parts(files: &Files, path: &str, language: Language, krate: &str, module: &str) -> Result<Vec<Part>, String> {
-    let text = files.get(path).ok_or(format!("{path}: it is not there"))?;
-    let found = items(text, Origin { language, krate, module, orders: &[] });
+fn parts((path, text): (&str, &str), language: Language, pair: &Pair) -> Result<Vec<Part>, String> {
+    let found = items(text, Origin { language, krate: pair.krate, module: &pair.module, orders: &[] });
     let found = found.map_err(|fault| format!("{path}:{}: {}", fault.line, fault.why))?;
     let part = |item: Item| Part {
         file: path.to_string(),
@@ -151,14 +173,11 @@ impl Program {
     fn new(files: &Files) -> Result<Self, String> {
         let text = files.get(ACCESS).ok_or(format!("{ACCESS}: it is not there"))?;
         let access = Access::new(text).map_err(|fault| format!("{ACCESS}:{}: {}", fault.line, fault.why))?;
-        let (mut sources, mut made) = (Vec::new(), Vec::new());
-        for path in files.keys() {
-            let Some((krate, module)) = module_of(path) else { continue };
-            let here = path_of_made(&module);
-            if files.contains_key(&here) {
-                sources.extend(parts(files, path, Language::Rattle, krate, &module)?);
-                made.extend(parts(files, &here, Language::Rust, krate, &module)?);
-            }
+        let mut sources = Vec::new();
+        let mut made = Vec::new();
+        for pair in pairs(files) {
+            sources.extend(parts(pair.source, Language::Rattle, &pair)?);
+            made.extend(parts((&pair.made.0, pair.made.1), Language::Rust, &pair)?);
         }
         let names = Names::new(&sources);
         let guarded = guarded(files, &sources)?;
@@ -173,10 +192,9 @@ impl Program {
     /// The functions and other items of the sources that have their like in what is made. (A module that only keeps an order
     /// stands in the path of what is made.)
     fn in_both(&self) -> impl Iterator<Item = &Part> {
-        let last = |part: &Part| part.item.key.rsplit(" / ").next().unwrap_or_default().to_string();
         let file = |part: &Part| module_of(&part.file).map_or(part.file.clone(), |(_, module)| path_of_made(&module));
-        let made: BTreeSet<_> = self.made.iter().map(|part| (part.file.clone(), last(part))).collect();
-        self.sources.iter().filter(move |part| made.contains(&(file(part), last(part))))
+        let made: BTreeSet<_> = self.made.iter().map(|part| (part.file.clone(), part.last())).collect();
+        self.sources.iter().filter(move |part| made.contains(&(file(part), part.last())))
     }
 
     fn is_guarded(&self, name: &str) -> bool {
@@ -193,7 +211,7 @@ fn members(head: &[Token]) -> Vec<String> {
     let open = group_of_type(head);
     let Some(end) = behind_group(head, open) else { return Vec::new() };
     let inside = without_angles(&head[open + 1..end - 1]);
-    let is_struct = head[..open].iter().any(|token| token.is("struct"));
+    let is_struct = head.iter().any(|token| token.is("struct"));
     let name = |(count, part): (usize, &[Token])| match position(part, &pattern(":")) {
         _ if head[open].is("(") => count.to_string(),
         Some(at) if is_struct => part[at - 1].text.clone(),
@@ -216,36 +234,34 @@ fn without_angles(tokens: &[Token]) -> Vec<Token> {
 
 /// Where the group of a type's fields or variants begins, behind its name and its generics.
 fn group_of_type(head: &[Token]) -> usize {
-    let word = head.iter().position(|token| ["struct", "enum"].iter().any(|word| token.is(word))).unwrap_or(0);
-    let group = head[word..].iter().position(|token| token.is("{") || token.is("("));
-    group.map_or(head.len(), |group| word + group)
+    let is_word = |at: &usize| head[*at].is("struct") || head[*at].is("enum");
+    let mut behind = (0..head.len()).skip_while(|at| !is_word(at));
+    behind.find(|at| head[*at].is("{") || head[*at].is("(")).unwrap_or(head.len())
 }
 
 impl Names {
     fn new(sources: &[Part]) -> Self {
         let mut names = Names::default();
         for part in sources {
-            let last = part.item.key.rsplit(" / ").next().unwrap_or_default();
-            let Some((kind, name)) = last.split_once(' ') else { continue };
-            let name = name.to_string();
-            if position(&part.item.head, &pattern("mut self")).is_some() {
-                names.changing.insert(name.clone());
+            let head = &part.item.head;
+            let words: Vec<&str> = part.last().split(' ').collect();
+            let [kind, name] = words[..] else { continue };
+            if position(head, &pattern("mut self")).is_some() {
+                names.changing.insert(name.to_string());
             }
             match kind {
-                "fn" if part.item.head.iter().any(|token| token.is("self")) => names.methods.insert(name),
-                "fn" => names.functions.insert(name),
-                "struct" => {
-                    names.fields.extend(members(&part.item.head));
-                    names.types.insert(name)
-                }
-                "enum" => {
-                    names.types.extend(members(&part.item.head));
-                    names.types.insert(name)
-                }
-                "const" | "type" => names.types.insert(name),
-                "mod" => names.modules.insert(name),
-                _ => false,
+                "struct" => names.fields.extend(members(head)),
+                "enum" => names.types.extend(members(head)),
+                _ => {}
+            }
+            let of_kind = match kind {
+                "fn" if head.iter().any(|token| token.is("self")) => &mut names.methods,
+                "fn" => &mut names.functions,
+                "struct" | "enum" | "const" | "type" => &mut names.types,
+                "mod" => &mut names.modules,
+                _ => continue,
             };
+            of_kind.insert(name.to_string());
         }
         names
             .modules
@@ -257,25 +273,32 @@ impl Names {
 /// The types whose models have an invariant, with their fields.
 fn guarded(files: &Files, sources: &[Part]) -> Result<Vec<Guarded>, String> {
     let mut found = Vec::new();
-    let is_made = |path: &str| module_of(path).is_some_and(|(_, module)| files.contains_key(&path_of_made(&module)));
-    for (path, text) in files.iter().filter(|(path, _)| is_made(path)) {
+    for (path, text) in pairs(files).map(|pair| pair.source) {
         let tokens = tokens(text, Language::Rattle).map_err(|fault| format!("{path}:{}: {}", fault.line, fault.why))?;
         let mut of = None;
         for (at, token) in tokens.iter().enumerate() {
-            if token.is("Model") && tokens.get(at + 1).is_some_and(|next| next.is("for")) {
-                of = tokens.get(at + 2).map(|token| token.text.clone());
+            if let Some([name, ..]) = tokens[at..].strip_prefix(&pattern("Model for")[..]) {
+                of = Some(name.text.as_str());
             }
             if is_ghost_item(token, "invariant") {
-                let name = of.clone().ok_or(format!("{path}:{}: an invariant of no type", token.line))?;
-                let is_it =
-                    |part: &&Part| ["struct", "enum"].iter().any(|kind| part.item.key == format!("{kind} {name}"));
-                let item = sources.iter().find(is_it);
-                let item = item.ok_or(format!("{path}:{}: an invariant of `{name}`, which is no type", token.line))?;
-                found.push(Guarded { name, fields: members(&item.item.head) });
+                let place = format!("{path}:{}: an invariant", token.line);
+                let name = of.ok_or(format!("{place} of no type"))?;
+                let of_name = guarded_of(name, sources);
+                if of_name.is_empty() {
+                    return Err(format!("{place} of `{name}`, which is no type"));
+                }
+                found.extend(of_name);
             }
         }
     }
     Ok(found)
+}
+
+/// The types of a name, in whichever file.
+fn guarded_of(name: &str, sources: &[Part]) -> Vec<Guarded> {
+    let keys = ["struct", "enum"].map(|kind| format!("{kind} {name}"));
+    let types = sources.iter().filter(|part| keys.contains(&part.item.key));
+    types.map(|part| Guarded { name: name.to_string(), fields: members(&part.item.head) }).collect()
 }
 
 /// Whether a token is `ghost NAME = ..;`.

@@ -665,6 +665,7 @@ fn a_function_has_the_type_of_its_impl() {
         ("impl A { fn f() {} }", Some("A")),
         ("mod b { impl A { fn f() {} } }", Some("A")),
         ("impl<T: B<C>> A<T> { fn f() {} }", Some("A")),
+        ("impl<T: for<'b> B<'b>> A<T> { fn f() {} }", Some("A")),
         ("impl B<C> for A { fn f() {} }", Some("A")),
         ("impl<'a, T: Ord> B for &'a A<T> { fn f() {} }", Some("A")),
     ] {
@@ -1081,9 +1082,15 @@ fn what_an_access_calls_is_read_off_its_file() {
         let text = format!("macro_rules! m {{ ($of:expr) => {{ {body} }}; }}\nfn f() {{ unsafe {{ g() }} }}\n");
         assert_eq!(Access::new(&text).expect("a macro").untested.contains("m"), is_untested, "{body}");
     }
+    // What its body has says it, and not its name; and a place at the end of the file names nothing.
+    let named = "macro_rules! m_unchecked { ($of:expr) => { $of.a(b) }; }\n$of. macro_rules!";
+    let access = Access::new(named).expect("a macro");
+    assert_eq!((names(&access.macros).as_str(), names(&access.untested).as_str()), ("m_unchecked", ""));
+    assert_eq!(names(&access.methods), "a macro_rules");
     let fault = Access::new("macro_rules! m { ($a:expr) => { $a.b() }; }\n").err().expect("a fault");
     assert_eq!((fault.line, fault.why.as_str()), (1, "no macro calls anything on its operand, `$of`"));
-    let tokens = pattern("m!(a); get_unchecked!(b); get_unchecked(c); required!(d)");
+    let access = Access::new(include_str!("arraystring/src/by_hand/access.rs")).expect("macros");
+    let tokens = pattern("m!(a); get_unchecked!(b); get_unchecked(c); required!(d); get_unchecked");
     let found = (0..tokens.len()).filter_map(|at| Some((at, access.macro_at(&tokens, at)?)));
     assert_eq!(found.collect::<Vec<_>>(), [(6, "get_unchecked")]);
 }
@@ -1091,6 +1098,9 @@ fn what_an_access_calls_is_read_off_its_file() {
 #[test]
 fn the_names_of_the_sources_are_known_by_their_kind() {
     let source = "
+#![o]
+use p::q as r;
+use p::s;
 pub struct A { b: u8 }
 pub enum C { D, E }
 const F: u8 = 1;
@@ -1135,6 +1145,12 @@ fn an_invariant_is_of_the_type_of_its_model() {
     assert_eq!(program.guarded.len(), 1);
     assert!(program.is_guarded("B") && !program.is_guarded("A"));
     assert!(program.is_guarded_field("c") && program.is_guarded_field("d") && !program.is_guarded_field("0"));
+    // Types of one name in two files are no less guarded for that.
+    let mut files = pair(two, "");
+    files.insert(SOURCE.replace("a.rt", "b.rt"), "pub struct B { e: u8 }\n".to_string());
+    files.insert(HERE.replace("a.rs", "b.rs"), String::new());
+    let program = Program::new(&files).expect("a program");
+    assert!(["c", "d", "e"].iter().all(|field| program.is_guarded_field(field)));
     stops("ghost invariant = { a };\n", "", "a.rt:1: an invariant of no type");
     let model = "impl Model for B {\n    ghost invariant = { λ b. IsIt b };\n}\n";
     stops(&format!("\n{model}"), "", "a.rt:3: an invariant of `B`, which is no type");
