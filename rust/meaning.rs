@@ -329,9 +329,9 @@ fn between_angles(tokens: &[Token], open: usize) -> &[Token] {
 /// The type parameters behind a word, each by its name and its bounds. A lifetime and a number are none: neither has code.
 fn type_parameters(tokens: &[Token], behind: usize) -> Vec<(&str, &[Token])> {
     let Some(open) = tokens.get(behind).filter(|token| token.is("<")).map(|_| behind) else { return Vec::new() };
-    let parts = between_commas(between_angles(tokens, open)).into_iter();
-    let is_type = |part: &&[Token]| part.first().is_some_and(|first| first.kind == Kind::Word && !first.is("const"));
-    parts.filter(is_type).map(|part| (part[0].text.as_str(), &part[1..])).collect()
+    let parts = between_commas(between_angles(tokens, open)).into_iter().filter_map(|part| part.split_first());
+    let types = parts.filter(|(name, _)| name.kind == Kind::Word && !name.is("const"));
+    types.map(|(name, bounds)| (name.text.as_str(), bounds)).collect()
 }
 
 /// Whether a type parameter has the form of `ASKED_ONCE`: it is asked by the first statement, whose result takes its name.
@@ -341,8 +341,8 @@ fn is_asked_once(parameter: (&str, &[Token]), item: &Item, check: &mut Check) ->
         return false;
     };
     let uses = |tokens: &[Token]| tokens.iter().filter(|token| token.is(name)).count();
-    let given = item.head.windows(3).find(|three| three[0].kind == Kind::Word && three[1].is(":") && three[2].is(name));
-    let Some(given) = given.map(|three| three[0].text.as_str()) else { return false };
+    let Some(colon) = position(&item.head, &pattern(&format!(": {name}"))) else { return false };
+    let given = &item.head[colon - 1].text;
     let first = pattern(&format!("{{ let {given} = {given}.as_ref();"));
     let is_it = uses(&item.head) == 2 && uses(&item.body) == 0 && item.body.starts_with(&first);
     if is_it {
@@ -356,14 +356,13 @@ fn is_asked_once(parameter: (&str, &[Token]), item: &Item, check: &mut Check) ->
 fn takes_code(part: &Part, check: &mut Check) -> bool {
     let (around, head) = (part.around(), &part.item.head);
     let behind = |tokens: &[Token], word: &str, more: usize| {
-        tokens.iter().position(|token| token.is(word)).map_or(tokens.len(), |at| at + more)
+        position(tokens, &pattern(word)).map_or(tokens.len(), |at| at + more)
     };
     let own = type_parameters(head, behind(head, "fn", 2));
     let of_impl = type_parameters(&around, behind(&around, "impl", 1));
     let has_type = own.into_iter().chain(of_impl).any(|parameter| !is_asked_once(parameter, &part.item, check));
-    let is_word = |token: &Token| ["impl", "dyn", "where", "Formatter"].iter().any(|word| token.is(word));
-    let has_pointer = head.windows(2).any(|two| two[0].is("fn") && two[1].is("("));
-    has_type || has_pointer || head.iter().any(is_word)
+    let is_word = |token: &Token| ["impl", "dyn", "Formatter"].iter().any(|word| token.is(word));
+    has_type || position(head, &pattern("fn(")).is_some() || head.iter().any(is_word)
 }
 
 /// Whether a word at an index is called, or handed on to be called.
@@ -852,14 +851,12 @@ const OWN_PLACES: &str = "makes an index, or a method behind a point, mean this 
 
 // ---- Words ----
 
-const KEYWORDS: &[&str] = &[
-    "as", "break", "const", "continue", "crate", "dyn", "else", "enum", "fn", "for", "if", "impl", "in", "let", "loop",
-    "match", "mod", "move", "mut", "pub", "ref", "return", "self", "Self", "static", "struct", "super", "trait",
-    "type", "union", "unsafe", "use", "where", "while", "async", "await", "extern",
-];
+const KEYWORDS: &str = "as async await break const continue crate dyn else enum extern fn for if impl in let loop match \
+                        mod move mut pub ref return self Self static struct super trait type union unsafe use where \
+                        while";
 
 fn is_keyword(token: &Token) -> bool {
-    token.kind == Kind::Word && KEYWORDS.contains(&token.text.as_str())
+    KEYWORDS.split(' ').any(|word| token.is(word))
 }
 
 /// The names that an item gives to values, types and numbers of its own: what stands before a `:` in its head, what its generics

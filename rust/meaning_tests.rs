@@ -223,6 +223,7 @@ fn a_text_that_is_asked_once_is_a_text() {
         ("AsRef<str>", "AsRef<u8>"),
         ("AsRef<str>", "AsRef<str> + Ord"),
         ("(a: S)", "(a: S, b: S)"),
+        ("(a: S)", "(a: [S; 1])"),
         ("unreachable", "g::<S>(); unreachable"),
     ] {
         stops(source, &made.replace(from, to), RUNS);
@@ -717,7 +718,7 @@ fn a_type_parameter_is_no_lifetime_and_no_number() {
 
 #[test]
 fn a_name_is_called_or_handed_on() {
-    for text in ["f(a)", "f::<A>(b)", "g(f)", "g(a, f)", "g(f, a)", "a::f;", "let b = f;", "g(&f)"] {
+    for text in ["f(a)", "f::<A>(b)", "g(f)", "g(a, f)", "g(f, a)", "a::f;", "let b = f;", "g(&f)", "(f)"] {
         let tokens = pattern(text);
         let at = tokens.iter().position(|token| token.is("f")).expect("it");
         assert!(is_call(&tokens, at), "{text}");
@@ -960,6 +961,23 @@ fn each_word_and_sign_is_listed_by_what_it_is() {
     }
     assert_eq!(attribute("derive(A,B)"), ["#[derive(A)]", "#[derive(B)]"]);
     assert_eq!(attribute("inline(always)"), ["#[inline(always)]"]);
+}
+
+/// The words that the reference of Rust calls keywords, strict ones and `union`. (`true` and `false` are values.)
+const WORDS_OF_RUST: &str = "as async await break const continue crate dyn else enum extern fn for if impl in let loop \
+                             match mod move mut pub ref return self Self static struct super trait type union unsafe \
+                             use where while";
+
+#[test]
+fn a_keyword_is_no_name() {
+    let names = Names::default();
+    for word in WORDS_OF_RUST.split_whitespace() {
+        let bound = [word.to_string()].into();
+        let tokens = pattern(&format!("{word} (a)"));
+        let spelling = Spelling { tokens: &tokens, names: &names, bound: &bound };
+        assert_eq!(spelling.listed(0).as_deref(), Some(word));
+        assert_eq!(is_behind_operand(&tokens[0]), word == "self", "{word}");
+    }
 }
 
 #[test]
