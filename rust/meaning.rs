@@ -15,6 +15,7 @@
 //! place and with what to do. Status 2: it was called wrongly, or a file can't be read. Its tests are in `meaning_tests.rs`.
 
 use std::collections::{BTreeMap, BTreeSet};
+use std::ops::Range;
 use std::path::Path;
 use std::process::ExitCode;
 
@@ -51,12 +52,19 @@ impl Part {
         self.item.key.rsplit_once(" / ").map_or(&self.item.key, |(_, last)| last)
     }
 
+    /// What it is and its name, of what has a name of one word.
+    fn kind_and_name(&self) -> Option<(&str, &str)> {
+        let words: Vec<&str> = self.last().split(' ').collect();
+        if let [kind, name] = words[..] { Some((kind, name)) } else { None }
+    }
+
     /// The type whose impl it is in, or none.
     fn owner(&self) -> Option<String> {
         let around = self.around();
         let head = without_angles(&around[position(&around, &pattern("impl"))? + 1..]);
         let of = position(&head, &pattern("for")).map_or(0, |found| found + 1);
-        head[of..].iter().find(|token| token.kind == Kind::Word).map(|token| token.text.clone())
+        let of_type = head[of..].split(|token| token.is("where")).next()?;
+        of_type.iter().rfind(|token| token.kind == Kind::Word).map(|token| token.text.clone())
     }
 
     /// The tokens of the impl around it, and of the modules in its file.
@@ -80,7 +88,7 @@ impl Access {
         // What is named behind each such place, and the tokens behind the name.
         let behind = |of: &str| {
             let of = pattern(of);
-            let rests = (0..tokens.len()).filter_map(|at| tokens[at..].strip_prefix(&of[..]));
+            let rests = tokens.iter().enumerate().filter_map(|(at, _)| tokens[at..].strip_prefix(&of[..]));
             rests.filter_map(|rest| rest.split_first()).collect::<Vec<_>>()
         };
         // (what of std is `unsafe` there has such a name, or is of pointers)
@@ -90,7 +98,8 @@ impl Access {
         if methods.is_empty() {
             return Err(Fault { line: 1, why: "no macro calls anything on its operand, `$of`".to_string() });
         }
-        let (mut macros, mut untested) = (BTreeSet::new(), BTreeSet::new());
+        let mut macros = BTreeSet::new();
+        let mut untested = BTreeSet::new();
         for (name, rest) in behind("macro_rules!") {
             macros.insert(name.text.clone());
             if has_unsafe(rest) {
@@ -209,8 +218,7 @@ impl Program {
 /// The names of the fields of a struct, or the variants of an enum, by its tokens.
 fn members(head: &[Token]) -> Vec<String> {
     let open = group_of_type(head);
-    let Some(end) = behind_group(head, open) else { return Vec::new() };
-    let inside = without_angles(&head[open + 1..end - 1]);
+    let inside = without_angles(inside(&head[open..]));
     let is_struct = head.iter().any(|token| token.is("struct"));
     let name = |(count, part): (usize, &[Token])| match position(part, &pattern(":")) {
         _ if head[open].is("(") => count.to_string(),
@@ -218,6 +226,14 @@ fn members(head: &[Token]) -> Vec<String> {
         _ => part.iter().find(|token| token.kind == Kind::Word).map(|token| token.text.clone()).unwrap_or_default(),
     };
     between_commas(&inside).into_iter().enumerate().map(name).collect()
+}
+
+/// What stands in the brackets that tokens begin with.
+fn inside(tokens: &[Token]) -> &[Token] {
+    match behind_group(tokens, 0).map(|end| &tokens[..end]) {
+        Some([_, inside @ .., _]) => inside,
+        _ => &[],
+    }
 }
 
 /// Tokens without what stands in angles, where a comma is none between fields.
@@ -244,8 +260,7 @@ impl Names {
         let mut names = Names::default();
         for part in sources {
             let head = &part.item.head;
-            let words: Vec<&str> = part.last().split(' ').collect();
-            let [kind, name] = words[..] else { continue };
+            let Some((kind, name)) = part.kind_and_name() else { continue };
             if position(head, &pattern("mut self")).is_some() {
                 names.changing.insert(name.to_string());
             }
@@ -337,16 +352,15 @@ fn type_parameters(tokens: &[Token], behind: usize) -> Vec<(&str, &[Token])> {
 /// Whether a type parameter has the form of `ASKED_ONCE`: it is asked by the first statement, whose result takes its name.
 fn is_asked_once(parameter: (&str, &[Token]), item: &Item, check: &mut Check) -> bool {
     let (name, bounds) = parameter;
-    let Some((bound, _)) = check.lists.asked_once.iter().find(|(bound, _)| pattern(bound) == bounds) else {
-        return false;
-    };
+    let bound: String = bounds.iter().map(|token| token.text.as_str()).collect();
+    let is_listed = check.lists.asked_once.iter().any(|(listed, _)| *listed == bound);
     let uses = |tokens: &[Token]| tokens.iter().filter(|token| token.is(name)).count();
     let Some(colon) = position(&item.head, &pattern(&format!(": {name}"))) else { return false };
     let given = &item.head[colon - 1].text;
     let first = pattern(&format!("{{ let {given} = {given}.as_ref();"));
-    let is_it = uses(&item.head) == 2 && uses(&item.body) == 0 && item.body.starts_with(&first);
+    let is_it = is_listed && uses(&item.head) == 2 && uses(&item.body) == 0 && item.body.starts_with(&first);
     if is_it {
-        check.note(bound);
+        check.note(&bound);
     }
     is_it
 }
@@ -365,27 +379,31 @@ fn takes_code(part: &Part, check: &mut Check) -> bool {
     has_type || position(head, &pattern("fn(")).is_some() || head.iter().any(is_word)
 }
 
+/// The token before an index.
+fn before(tokens: &[Token], at: usize) -> Option<&Token> {
+    tokens[..at].last()
+}
+
 /// Whether a word at an index is called, or handed on to be called.
 fn is_call(tokens: &[Token], at: usize) -> bool {
     let next = |ahead: usize, text: &str| tokens.get(at + ahead).is_some_and(|token| token.is(text));
-    let before = |texts: &[&str]| at > 0 && texts.iter().any(|text| tokens[at - 1].is(text));
-    let is_handed = before(&["(", ",", "::", "=", "&"]) && [")", ",", ";"].iter().any(|end| next(1, end));
+    let is_behind = |text: &&str| before(tokens, at).is_some_and(|token| token.is(text));
+    let is_handed = ["(", ",", "::", "=", "&"].iter().any(is_behind) && [")", ",", ";"].iter().any(|end| next(1, end));
     next(1, "(") || next(1, "::") && next(2, "<") || is_handed
 }
 
 /// Whether a function calls another one, by its name, and by its type where that is said.
 fn calls(part: &Part, other: &Part, names: &Names) -> bool {
     let body = &part.item.body;
-    (1..body.len()).filter(|at| body[*at].is(other.name()) && is_call(body, *at)).any(|at| {
-        match body[at - 1].text.as_str() {
-            "." => other.owner().is_some(),
-            "::" => match head_of_path(body, at - 1) {
-                "Self" => other.owner() == part.owner(),
-                head if names.types.contains(head) => other.owner().as_deref() == Some(head),
-                _ => true,
-            },
-            _ => other.owner().is_none(),
-        }
+    let mut called = body.iter().enumerate().filter(|(at, token)| token.is(other.name()) && is_call(body, *at));
+    called.any(|(at, _)| match body[at - 1].text.as_str() {
+        "." => other.owner().is_some(),
+        "::" => match head_of_path(body, at - 1) {
+            "Self" => other.owner() == part.owner(),
+            head if names.types.contains(head) => other.owner().as_deref() == Some(head),
+            _ => true,
+        },
+        _ => other.owner().is_none(),
     })
 }
 
@@ -407,21 +425,32 @@ fn with_callers(functions: &[&Part], seed: BTreeSet<usize>, names: &Names) -> BT
 /// The index of the first word in a body that may write a field of an invariant: one that is assigned, lent to be written, or that
 /// a method is called on; or what a reference is to.
 fn writes(body: &[Token], program: &Program) -> Option<usize> {
-    let is_assigned = |at: usize| body.get(at).is_some_and(is_assignment);
-    let groups = (0..body.len()).filter(|at| body[*at].is("(") || body[*at].is("["));
-    let unpacked = groups.filter_map(|at| Some(at..behind_group(body, at)?)).filter(|group| is_assigned(group.end));
-    let unpacked: Vec<_> = unpacked.collect();
-    (1..body.len()).find(|at| {
-        let (before, word) = (&body[at - 1], &body[*at]);
-        let is_field = before.is(".") && program.is_guarded_field(&word.text);
-        let is_part = body.get(at + 1).is_some_and(|next| next.is("["));
-        let end = if is_part { behind_group(body, at + 1).unwrap_or(body.len()) } else { at + 1 };
-        let is_called = body.get(end).is_some_and(|next| next.is("."));
-        let is_through = before.is("*") && word.kind == Kind::Word;
-        let is_unpacked = unpacked.iter().any(|group| group.contains(at));
-        is_field && (is_called || is_unpacked || is_lent_to_write(body, *at))
-            || (is_field || is_through) && is_assigned(end)
-    })
+    let unpacked = unpacked(body);
+    let is_write = |two: &[Token], at: usize| {
+        let next = behind_part(body, at).first();
+        let is_assigned = next.is_some_and(is_assignment);
+        let is_called = next.is_some_and(|next| next.is("."));
+        let is_unpacked = unpacked.iter().any(|group| group.contains(&at));
+        let is_field = two[0].is(".") && program.is_guarded_field(&two[1].text);
+        let is_through = two[0].is("*") && is_assigned;
+        is_through || is_field && (is_assigned || is_called || is_unpacked || is_lent_to_write(body, at))
+    };
+    let mut places = body.windows(2).zip(1..);
+    places.find(|(two, at)| is_write(two, *at)).map(|(_, at)| at)
+}
+
+/// What stands behind a name, and behind the brackets in which a part of it is named.
+fn behind_part(body: &[Token], at: usize) -> &[Token] {
+    let behind = &body[at + 1..];
+    let end = if behind.starts_with(&pattern("[")) { behind_group(behind, 0) } else { None };
+    &behind[end.unwrap_or(0)..]
+}
+
+/// The groups to which something is assigned, member by member.
+fn unpacked(body: &[Token]) -> Vec<Range<usize>> {
+    let groups = body.iter().enumerate().filter(|(_, token)| token.is("(") || token.is("["));
+    let ranges = groups.filter_map(|(at, _)| Some(at..behind_group(body, at)?));
+    ranges.filter(|group| body.get(group.end).is_some_and(is_assignment)).collect()
 }
 
 fn is_assignment(token: &Token) -> bool {
@@ -432,35 +461,42 @@ fn is_assignment(token: &Token) -> bool {
 /// Whether the path that ends at an index stands behind `&mut`, or is what a macro writes to.
 fn is_lent_to_write(body: &[Token], end: usize) -> bool {
     let is_of_path = |token: &Token| token.kind == Kind::Word && !token.is("mut") || token.is(".");
-    let start = (0..=end).rev().take_while(|at| is_of_path(&body[*at])).last().unwrap_or(end);
-    let before = |back: usize| start.checked_sub(back).map(|at| &body[at]);
     let is_macro = |name: &Token| name.text.starts_with("copy_") || name.text.contains("_mut");
-    let is_written = before(1).is_some_and(|token| token.is("(")) && before(2).is_some_and(|token| token.is("!"));
-    before(1).is_some_and(|token| token.is("mut")) || is_written && before(3).is_some_and(is_macro)
+    let mut front = &body[..end];
+    while let Some((_, rest)) = front.split_last().filter(|(last, _)| is_of_path(last)) {
+        front = rest;
+    }
+    match front {
+        [.., word] if word.is("mut") => true,
+        [.., name, sign, open] => sign.is("!") && open.is("(") && is_macro(name),
+        _ => false,
+    }
 }
 
 /// Whether a value of a type with an invariant is made at an index, by whatever name of the type.
 fn is_value(part: &Part, at: usize, program: &Program) -> bool {
-    let body = &part.item.body;
-    let is = |text: &str| body.get(at + 1).is_some_and(|next| next.is(text));
-    let inside = || behind_group(body, at + 1).map_or(&body[..0], |end| &body[at + 2..end - 1]);
-    let is_field = |part: &[Token]| part.first().is_some_and(|first| program.is_guarded_field(&first.text));
-    let is_type = body[at].kind == Kind::Word && body[at].text.starts_with(|ch: char| ch.is_ascii_uppercase());
-    let is_here = || body[at].is("Self") && part.owner().is_some_and(|owner| program.is_guarded(&owner));
-    let has_field = || between_commas(inside()).into_iter().any(is_field);
-    is_type && (is("{") && has_field() || is("(") && (program.is_guarded(&body[at].text) || is_here()))
+    let (word, behind) = (&part.item.body[at], &part.item.body[at + 1..]);
+    let is_before = |open: &str| behind.starts_with(&pattern(open));
+    let mut names = between_commas(inside(behind)).into_iter().filter_map(|field| field.first());
+    let mut has_field = || names.any(|name| program.is_guarded_field(&name.text));
+    let is_here = || word.is("Self") && part.owner().is_some_and(|owner| program.is_guarded(&owner));
+    let is_type = word.text.starts_with(|ch: char| ch.is_ascii_uppercase());
+    is_type && (is_before("{") && has_field() || is_before("(") && (program.is_guarded(&word.text) || is_here()))
 }
 
 /// What a body has that a wrong answer would make undefined, or the start of a broken value: at which line, and what.
 fn needs_facts(part: &Part, program: &Program) -> Option<(usize, String)> {
     let body = &part.item.body;
-    let found = (0..body.len()).find_map(|at| match program.access.macro_at(body, at) {
-        Some(name) => Some((at, format!("`{name}!`"))),
-        None if body[at].is("unsafe") => Some((at, "`unsafe`".to_string())),
-        None => is_value(part, at, program).then(|| (at, format!("a new `{}`", body[at].text))),
+    let found = body.iter().enumerate().find_map(|(at, token)| {
+        let what = match program.access.macro_at(body, at) {
+            Some(name) => format!("`{name}!`"),
+            None if token.is("unsafe") => "`unsafe`".to_string(),
+            None if is_value(part, at, program) => format!("a new `{}`", token.text),
+            None => return None,
+        };
+        Some((token.line, what))
     });
-    let found = found.or_else(|| writes(body, program).map(|at| (at, format!("a write of `{}`", body[at].text))));
-    found.map(|(at, what)| (body[at].line, what))
+    found.or_else(|| writes(body, program).map(|at| (body[at].line, format!("a write of `{}`", body[at].text))))
 }
 
 // ---- What is refused ----
@@ -524,9 +560,10 @@ impl Check {
         let running = with_callers(&functions, takes, &program.names);
         for part in running.iter().map(|at| functions[*at]) {
             let Some((line, what)) = needs_facts(part, program) else { continue };
-            match self.lists.bounded.iter().find(|(path, _)| *path == part.item.path) {
-                Some((path, _)) => self.note(path),
-                None => self.refused.push(part.refused(line, &format!("{NEEDS_FACTS} {what}: {NEEDS_FACTS_DO}"))),
+            if self.lists.bounded.iter().any(|(path, _)| *path == part.item.path) {
+                self.note(&part.item.path);
+            } else {
+                self.refused.push(part.refused(line, &format!("{NEEDS_FACTS} {what}: {NEEDS_FACTS_DO}")));
             }
         }
         let writes = all.filter(|at| writes(&functions[*at].item.body, program).is_some()).collect();
@@ -538,40 +575,44 @@ impl Check {
 
     fn unwinding(&mut self, part: &Part, files: &Files) {
         let path = part.item.path.as_str();
-        let Some(played) = self.lists.played.iter().find(|played| played.functions.contains(&path)) else {
+        let is_played = |played: &&Played| played.functions.contains(&path);
+        let calls: Vec<_> = self.lists.played.iter().filter(is_played).map(|played| played.calls).collect();
+        if calls.is_empty() {
             return self.refused.push(part.refused(part.item.line, MAY_UNWIND));
-        };
+        }
         self.note(&format!("played {path}"));
-        if played.calls.is_empty() && is_open(part, files) && takes_code(part, self) {
+        let calls = calls.concat();
+        if calls.is_empty() && is_open(part, files) && takes_code(part, self) {
             self.refused.push(part.refused(part.item.line, HANDED_IN));
         }
         let tests = files.get(UNWINDING).map_or("", String::as_str);
         let tests = tokens(tests, Language::Rust).unwrap_or_default();
-        for call in played.calls {
-            let is_made = (1..tests.len()).any(|at| {
-                tests[at].is(call) && is_call(&tests, at) && (tests[at - 1].is(".") || tests[at - 1].is("::"))
-            });
-            if !is_made {
-                self.refused.push(
-                    part.refused(part.item.line, &format!("is played by `{call}`, and {UNWINDING} calls it nowhere")),
-                );
-            }
+        for call in calls.into_iter().filter(|call| !is_made(call, &tests)) {
+            let why = format!("is played by `{call}`, and {UNWINDING} calls it nowhere");
+            self.refused.push(part.refused(part.item.line, &why));
         }
     }
 
     /// A field that an invariant is about is seen by the module of its type alone.
     fn fields(&mut self, program: &Program) {
         for part in program.sources.iter().chain(&program.made) {
-            let last = part.item.key.rsplit(" / ").next().unwrap_or_default();
-            let Some((kind, _)) = last.split_once(' ').filter(|(_, name)| program.is_guarded(name)) else { continue };
-            let public = part.item.head[group_of_type(&part.item.head)..].iter().find(|token| token.is("pub"));
-            match (kind, public) {
-                ("struct", Some(token)) => self.refused.push(part.refused(token.line, PUBLIC_FIELD)),
-                ("enum", _) => self.refused.push(part.refused(part.item.line, PUBLIC_VARIANT)),
+            let fields = &part.item.head[group_of_type(&part.item.head)..];
+            let public = fields.iter().find(|token| token.is("pub"));
+            match part.kind_and_name().filter(|(_, name)| program.is_guarded(name)) {
+                Some(("struct", _)) => {
+                    self.refused.extend(public.map(|token| part.refused(token.line, PUBLIC_FIELD)));
+                }
+                Some(("enum", _)) => self.refused.push(part.refused(part.item.line, PUBLIC_VARIANT)),
                 _ => {}
             }
         }
     }
+}
+
+/// Whether tests call a function of a type.
+fn is_made(call: &str, tests: &[Token]) -> bool {
+    let is_of_type = |at: usize| before(tests, at).is_some_and(|sign| sign.is(".") || sign.is("::"));
+    tests.iter().enumerate().any(|(at, token)| token.is(call) && is_call(tests, at) && is_of_type(at))
 }
 
 /// Whether what no list has may call a function: another crate, or a file by hand. (Who calls it in the sources is listed, too.)
@@ -586,8 +627,11 @@ fn is_open(part: &Part, files: &Files) -> bool {
 /// can.
 fn may_write(part: &Part, program: &Program) -> bool {
     let head = &part.item.head;
-    let is_own =
-        |tokens: &[Token]| (0..tokens.len()).any(|at| tokens[at].is("mut") && !is_of_others(&tokens[at + 1..], head));
+    let is_own = |tokens: &[Token]| {
+        let mut behind =
+            tokens.iter().enumerate().filter(|(_, token)| token.is("mut")).map(|(at, _)| &tokens[at + 1..]);
+        behind.any(|of| !is_of_others(of, head))
+    };
     let lends = |part: &Part| !part.item.is_function && part.item.head.iter().any(|token| token.is("mut"));
     is_own(head) || is_own(&part.item.body) || program.made.iter().any(lends)
 }
@@ -614,8 +658,8 @@ const PUBLIC_VARIANT: &str = "has an invariant, and whoever sees an enum can mak
 const ASKED: &str = "it is asked by the first statement, once, and what it gives is a text or a slice as any other: \
                      the proof is of that";
 
-/// Bounds of a parameter that is asked once.
-const ASKED_ONCE: &[(&str, &str)] = &[(": AsRef<str>", ASKED), (": AsRef<[u8]>", ASKED), (": AsRef<[u16]>", ASKED)];
+/// Bounds of a parameter that is asked once, without blanks.
+const ASKED_ONCE: &[(&str, &str)] = &[(":AsRef<str>", ASKED), (":AsRef<[u8]>", ASKED), (":AsRef<[u16]>", ASKED)];
 
 const ENDS: &str = "the two ends are numbers that were copied out of the range, and they are tested here";
 const PIECES: &str = "what the iterator gives is a text or a character in Rust whatever it does; each is bound once, \

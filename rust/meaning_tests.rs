@@ -284,6 +284,10 @@ fn a_field_of_an_invariant_is_private() {
             assert!(found[0].starts_with(SOURCE) && found[1].starts_with(HERE), "{found:#?}");
         }
     }
+    // Behind another item, the first of two, and a field by the name of the word.
+    let two = made(GUARDED).replace("    start", "    pub start").replace("    size", "    pub size");
+    let behind = format!("fn f() {{}}\nmod g {{}}\n{GUARDED}");
+    stops(&behind, &format!("fn f() {{}}\nmod g {{}}\n{two}"), "a.rs:5: `arraystring_base::a::struct A` has");
     // In a made file alone, a tuple, an enum, and a type without an invariant.
     stops(
         GUARDED,
@@ -390,6 +394,39 @@ fn what_may_unwind_is_played_by_the_tests() {
         files.insert(by_hand, "fn g(a: &mut A) -> bool {\n    a.f(&1, &2)\n}\n".to_string());
         assert_eq!(refused(&files, &OWN).len(), usize::from(!visibility.is_empty()), "{visibility}");
     }
+}
+
+#[test]
+fn what_plays_a_call_is_of_a_type() {
+    for (text, is_it) in [
+        (".retain(f)", true),
+        ("a.retain(f)", true),
+        ("A::retain(f)", true),
+        ("g(A::retain)", true),
+        ("a.retain::<F>(f)", true),
+        ("retain(f)", false),
+        ("g(retain)", false),
+        ("a.retain", false),
+        ("A::retain + f", false),
+        ("a.retained(f)", false),
+        ("a.retain.f(); retain(f)", false),
+    ] {
+        assert_eq!(is_made("retain", &pattern(text)), is_it, "{text}");
+    }
+}
+
+/// Who is played twice is played by all of these calls.
+#[test]
+fn each_call_that_plays_a_function_is_made() {
+    let source = guarded("    pub fn f<T: Ord>(&mut self, a: &T) -> bool {\n        self.size = 0; a < a\n    }");
+    const fn playing(calls: &'static [&'static str]) -> Played {
+        Played { functions: &["arraystring_base::a::A::f"], calls, why: "a test" }
+    }
+    static THREE: Lists = Lists { played: &[playing(&["retain", "drain"]), playing(&["other"])], ..ANY };
+    let nowhere = |call: &str| {
+        format!("{HERE}:7: `arraystring_base::a::A::f` is played by `{call}`, and {UNWINDING} calls it nowhere")
+    };
+    assert_eq!(refused(&pair(&source, &made(&source)), &THREE), ["drain", "other"].map(nowhere));
 }
 
 // ---- Words ----
@@ -669,9 +706,10 @@ fn a_function_has_the_type_of_its_impl() {
         ("impl<T: for<'b> B<'b>> A<T> { fn f() {} }", Some("A")),
         ("impl B<C> for A { fn f() {} }", Some("A")),
         ("impl<'a, T: Ord> B for &'a A<T> { fn f() {} }", Some("A")),
+        ("impl<T: Ord> B for &mut c::A<T> where T: D { fn f() {} }", Some("A")),
     ] {
         let part = part_of(text, "fn f");
-        assert_eq!((part.owner().as_deref(), part.name()), (owner, "f"), "{text}");
+        assert_eq!((part.owner().as_deref(), part.name(), part.last()), (owner, "f", "fn f"), "{text}");
     }
     let part = part_of("mod b { impl<T: C<D<E>>> A { fn f() {} } }", "fn f");
     assert_eq!(compare::shown(&part.around()), "mod b / impl < T : C < D < E > > > A");
@@ -755,6 +793,7 @@ fn what_writes_a_field_of_an_invariant_is_known() {
         "{ get_unchecked_mut!(self.size, 1); }",
         "{ *self = b; }",
         "{ *a += 1; }",
+        "&mut self.size",
     ] {
         assert!(writes(&pattern(body), &program).is_some(), "{body}");
     }
@@ -770,6 +809,15 @@ fn what_writes_a_field_of_an_invariant_is_known() {
         "{ g!(a, self.size); }",
         "{ *a == b }",
         "{ (a, self.size) == b }",
+        "{ g(self.size); (a, b) = c; }",
+        "{ (a, b) = c; g(self.size); }",
+        "{ required!(self.size); }",
+        "{ copy_bytes(self.size); }",
+        "{ copy_bytes![self.size]; }",
+        "self.size",
+        "self.size[1]",
+        "self.size[",
+        "(a, self.size)",
     ] {
         assert!(writes(&pattern(body), &program).is_none(), "{body}");
     }
@@ -794,6 +842,9 @@ fn a_new_value_of_a_type_with_an_invariant_is_known() {
         ("let a = b { size: 1 };", None),
         ("if a { size }", None),
         ("let a = A::new();", None),
+        ("let a = Alias { b, size };", Some("a new `Alias`")),
+        ("let a = match b { 1 => B { other: 1 }, size => 2 };", None),
+        ("return A", None),
         ("unsafe { g() }", Some("`unsafe`")),
         ("get_unchecked!(a, 1);", Some("`get_unchecked!`")),
         ("self.size = 1;", Some("a write of `size`")),
