@@ -63,7 +63,7 @@ impl Part {
         let around = self.around();
         let head = without_angles(&around[position(&around, &pattern("impl"))? + 1..]);
         let of = position(&head, &pattern("for")).map_or(0, |found| found + 1);
-        let of_type = head[of..].split(|token| token.is("where")).next()?;
+        let of_type = first_part(&head[of..], &["where"]);
         of_type.iter().rfind(|token| token.kind == Kind::Word).map(|token| token.text.clone())
     }
 
@@ -85,22 +85,17 @@ impl Access {
     /// Reads them off the file that has them.
     fn new(text: &str) -> Result<Self, Fault> {
         let tokens = tokens(text, Language::Rust)?;
-        // What is named behind each such place, and the tokens behind the name.
-        let behind = |of: &str| {
-            let of = pattern(of);
-            let rests = tokens.iter().enumerate().filter_map(|(at, _)| tokens[at..].strip_prefix(&of[..]));
-            rests.filter_map(|rest| rest.split_first()).collect::<Vec<_>>()
-        };
         // (what of std is `unsafe` there has such a name, or is of pointers)
         let is_unsafe = |token: &Token| token.is("unsafe") || token.is("ptr") || token.text.contains("unchecked");
         let has_unsafe = |rest: &[Token]| rest[..behind_group(rest, 0).unwrap_or(rest.len())].iter().any(is_unsafe);
-        let methods: BTreeSet<String> = behind("$of.").into_iter().map(|(name, _)| name.text.clone()).collect();
+        let methods: BTreeSet<String> =
+            named_behind(&tokens, "$of.").into_iter().map(|(name, _)| name.text.clone()).collect();
         if methods.is_empty() {
             return Err(Fault { line: 1, why: "no macro calls anything on its operand, `$of`".to_string() });
         }
         let mut macros = BTreeSet::new();
         let mut untested = BTreeSet::new();
-        for (name, rest) in behind("macro_rules!") {
+        for (name, rest) in named_behind(&tokens, "macro_rules!") {
             macros.insert(name.text.clone());
             if has_unsafe(rest) {
                 untested.insert(name.text.clone());
@@ -109,11 +104,22 @@ impl Access {
         Ok(Access { macros, untested, methods })
     }
 
+    fn has(&self, name: &Token) -> bool {
+        self.macros.contains(&name.text) || self.methods.contains(&name.text)
+    }
+
     /// The name of the macro without a test that begins at an index.
     fn macro_at<'a>(&self, tokens: &'a [Token], at: usize) -> Option<&'a str> {
         let is_macro = tokens.get(at + 1).is_some_and(|next| next.is("!")) && self.untested.contains(&tokens[at].text);
         is_macro.then_some(tokens[at].text.as_str())
     }
+}
+
+/// Each token that stands behind some others, and what is behind it.
+fn named_behind<'a>(tokens: &'a [Token], others: &str) -> Vec<(&'a Token, &'a [Token])> {
+    let others = pattern(others);
+    let rests = tokens.iter().enumerate().filter_map(|(at, _)| tokens[at..].strip_prefix(&others[..]));
+    rests.filter_map(<[Token]>::split_first).collect()
 }
 
 /// The names that the sources define.
@@ -349,6 +355,12 @@ fn type_parameters(tokens: &[Token], behind: usize) -> Vec<(&str, &[Token])> {
     types.map(|(name, bounds)| (name.text.as_str(), bounds)).collect()
 }
 
+/// The type parameters of an impl or of a function, by its head.
+fn generics_of(head: &[Token]) -> Vec<(&str, &[Token])> {
+    let behind = |word: &str, more: usize| position(head, &pattern(word)).map_or(head.len(), |at| at + more);
+    [type_parameters(head, behind("impl", 1)), type_parameters(head, behind("fn", 2))].concat()
+}
+
 /// Whether a type parameter has the form of `ASKED_ONCE`: it is asked by the first statement, whose result takes its name.
 fn is_asked_once(parameter: (&str, &[Token]), item: &Item, check: &mut Check) -> bool {
     let (name, bounds) = parameter;
@@ -369,12 +381,8 @@ fn is_asked_once(parameter: (&str, &[Token]), item: &Item, check: &mut Check) ->
 /// function.
 fn takes_code(part: &Part, check: &mut Check) -> bool {
     let (around, head) = (part.around(), &part.item.head);
-    let behind = |tokens: &[Token], word: &str, more: usize| {
-        position(tokens, &pattern(word)).map_or(tokens.len(), |at| at + more)
-    };
-    let own = type_parameters(head, behind(head, "fn", 2));
-    let of_impl = type_parameters(&around, behind(&around, "impl", 1));
-    let has_type = own.into_iter().chain(of_impl).any(|parameter| !is_asked_once(parameter, &part.item, check));
+    let mut parameters = generics_of(head).into_iter().chain(generics_of(&around));
+    let has_type = parameters.any(|parameter| !is_asked_once(parameter, &part.item, check));
     let is_word = |token: &Token| ["impl", "dyn", "Formatter"].iter().any(|word| token.is(word));
     has_type || position(head, &pattern("fn(")).is_some() || head.iter().any(is_word)
 }
@@ -382,6 +390,11 @@ fn takes_code(part: &Part, check: &mut Check) -> bool {
 /// The token before an index.
 fn before(tokens: &[Token], at: usize) -> Option<&Token> {
     tokens[..at].last()
+}
+
+/// Each token but the last, with the next one.
+fn neighbours(tokens: &[Token]) -> impl Iterator<Item = (&Token, &Token)> {
+    tokens.iter().zip(tokens.iter().skip(1))
 }
 
 /// Whether a word at an index is called, or handed on to be called.
@@ -398,9 +411,9 @@ fn calls(part: &Part, other: &Part, names: &Names) -> bool {
     let mut called = body.iter().enumerate().filter(|(at, token)| token.is(other.name()) && is_call(body, *at));
     called.any(|(at, _)| match body[at - 1].text.as_str() {
         "." => other.owner().is_some(),
-        "::" => match head_of_path(body, at - 1) {
-            "Self" => other.owner() == part.owner(),
-            head if names.types.contains(head) => other.owner().as_deref() == Some(head),
+        "::" => match head_of_path(body, at) {
+            Some("Self") => other.owner() == part.owner(),
+            Some(head) if names.types.contains(head) => other.owner().as_deref() == Some(head),
             _ => true,
         },
         _ => other.owner().is_none(),
@@ -853,36 +866,27 @@ const LISTS: Lists =
 
 // ---- Names ----
 
-const TRAITS_OF_PLACES: &[&str] = &["Index", "IndexMut", "Deref", "DerefMut"];
+/// How an impl of a trait begins that says what an index or a point means.
+const TRAITS_OF_PLACES: &[&str] = &["Index<", "IndexMut<", "Deref for", "DerefMut for"];
 
 impl Check {
     /// No name of the sources stands for what an access macro is called or calls.
     fn names(&mut self, program: &Program, files: &Files) {
-        let access = &program.access;
-        let is_taken = |name: &str| access.macros.contains(name) || access.methods.contains(name);
         for part in program.sources.iter().chain(&program.made) {
-            let last = part.item.key.rsplit(" / ").next().unwrap_or_default();
-            let name = last.rsplit([' ', ':']).next().unwrap_or_default();
-            let line = part.item.line;
-            let of_trait = last.starts_with("impl").then(|| pattern(last)).unwrap_or_default();
-            let is_place = |two: &[Token]| {
-                TRAITS_OF_PLACES.iter().any(|name| two[0].is(name)) && (two[1].is("<") || two[1].is("for"))
-            };
-            if is_taken(name) {
-                self.refused.push(part.refused(line, TAKEN_NAME));
-            } else if of_trait.windows(2).any(is_place) {
-                self.refused.push(part.refused(line, OWN_PLACES));
+            let words = pattern(part.last());
+            if words.last().is_some_and(|name| program.access.has(name)) {
+                self.refused.push(part.refused(part.item.line, TAKEN_NAME));
+            } else if TRAITS_OF_PLACES.iter().any(|head| position(&words, &pattern(head)).is_some()) {
+                self.refused.push(part.refused(part.item.line, OWN_PLACES));
             }
         }
         let is_made = |path: &str| program.made.iter().any(|part| part.file == path);
         let is_by_hand = |path: &str| path.starts_with(MADE) && path != ACCESS && !is_made(path);
         for (path, text) in files.iter().filter(|(path, _)| is_by_hand(path)) {
             let tokens = tokens(text, Language::Rust).unwrap_or_default();
-            let is_named =
-                |three: &&[Token]| three[0].is("macro_rules") && three[1].is("!") && is_taken(&three[2].text);
-            let function = |three: &&[Token]| three[0].is("fn") && is_taken(&three[1].text);
-            for three in tokens.windows(3).filter(|three| is_named(three) || function(three)) {
-                self.refused.push(format!("{path}:{}: {TAKEN_NAME}", three[0].line));
+            let names = ["fn", "macro_rules!"].into_iter().flat_map(|word| named_behind(&tokens, word));
+            for (name, _) in names.filter(|(name, _)| program.access.has(name)) {
+                self.refused.push(format!("{path}:{}: {TAKEN_NAME}", name.line));
             }
         }
     }
@@ -909,35 +913,35 @@ fn bound_names(part: &Part) -> BTreeSet<String> {
     let (head, body, around) = (&part.item.head, &part.item.body, part.around());
     let mut names: BTreeSet<String> = BTreeSet::new();
     for tokens in [head, &around] {
-        let named = tokens.windows(2).filter(|two| two[0].kind == Kind::Word && two[1].is(":"));
-        names.extend(named.map(|two| two[0].text.clone()));
-        let is_of_item = |at: usize| at > 0 && tokens[at - 1].is("impl") || at > 1 && tokens[at - 2].is("fn");
-        let generics = (0..tokens.len()).filter(|at| is_of_item(*at)).flat_map(|at| type_parameters(tokens, at));
-        names.extend(generics.map(|(name, _)| name.to_string()));
+        let named = neighbours(tokens).filter(|(name, sign)| name.kind == Kind::Word && sign.is(":"));
+        names.extend(named.map(|(name, _)| name.text.clone()));
+        names.extend(generics_of(tokens).into_iter().map(|(name, _)| name.to_string()));
     }
-    for pattern in (0..body.len()).map(|at| pattern_at(body, at)) {
+    for pattern in body.iter().enumerate().map(|(at, _)| pattern_at(body, at)) {
         let is_bound = |token: &Token| token.text.starts_with(|ch: char| ch.is_ascii_lowercase()) && !is_keyword(token);
         let is_head = |at: usize| pattern.get(at + 1).is_some_and(|next| next.is("::"));
-        let bound = (0..pattern.len()).filter(|at| is_bound(&pattern[*at]) && !is_head(*at));
-        names.extend(bound.map(|at| pattern[at].text.clone()));
+        let bound = pattern.iter().enumerate().filter(|(at, token)| is_bound(token) && !is_head(*at));
+        names.extend(bound.map(|(_, token)| token.text.clone()));
     }
     names
 }
 
 /// The pattern that begins at a `let`, a `for` or a `|`, or that stands before a `=>`, without its type and its condition.
 fn pattern_at(body: &[Token], at: usize) -> &[Token] {
-    let is = |at: usize, texts: &[&str]| body.get(at).is_some_and(|token| texts.iter().any(|text| token.is(text)));
-    let up_to = |ends: &[&str]| &body[at + 1..(at + 1..body.len()).find(|end| is(*end, ends)).unwrap_or(body.len())];
+    let up_to = |ends: &[&str]| first_part(&body[at + 1..], ends);
+    let is_closure = || before(body, at).is_some_and(|token| ["(", ",", "=", "move"].iter().any(|word| token.is(word)));
     match body[at].text.as_str() {
         "let" => up_to(&["=", ";", ":"]),
         "for" => up_to(&["in"]),
-        "|" if at > 0 && is(at - 1, &["(", ",", "=", "move"]) => up_to(&["|", ":"]),
-        "=>" => {
-            let arm = &body[start_of_arm(body, at)..at];
-            arm.split(|token| token.is("if")).next().unwrap_or_default()
-        }
+        "|" if is_closure() => up_to(&["|", ":"]),
+        "=>" => first_part(&body[start_of_arm(body, at)..at], &["if"]),
         _ => &[],
     }
+}
+
+/// What stands before the first of some words and signs.
+fn first_part<'a>(tokens: &'a [Token], ends: &[&str]) -> &'a [Token] {
+    tokens.split(|token| ends.iter().any(|end| token.is(end))).next().unwrap_or_default()
 }
 
 /// Where the pattern of a match arm begins, by the `=>` behind it.
@@ -956,25 +960,17 @@ fn start_of_arm(body: &[Token], arrow: usize) -> usize {
     at
 }
 
-/// What stands before a `::` at an index: a word, or the word before its generics.
-fn head_of_path(tokens: &[Token], colons: usize) -> &str {
-    let mut at = colons;
+/// What stands before the `::` before an index: a word, or the word before its generics.
+fn head_of_path(tokens: &[Token], at: usize) -> Option<&str> {
+    let colons = pattern("::");
+    let front = tokens[..at].strip_suffix(&colons[..])?;
     let mut depth = 0;
-    while at > 0 {
-        at -= 1;
-        match tokens[at].text.as_str() {
-            ">" => depth += 1,
-            "<" => depth -= 1,
-            "::" => {}
-            word if depth == 0 && tokens[at].kind == Kind::Word => return word,
-            _ if depth == 0 => return "",
-            _ => {}
-        }
-        if depth == 0 && tokens[at].is("<") && !(at > 0 && tokens[at - 1].is("::")) {
-            return "";
-        }
-    }
-    ""
+    let open = front.iter().rposition(|token| {
+        depth += i32::from(token.is(">")) - i32::from(token.is("<"));
+        depth == 0
+    })?;
+    let head = if front[open].is("<") { front[..open].strip_suffix(&colons[..])?.last()? } else { &front[open] };
+    (head.kind == Kind::Word).then_some(&head.text)
 }
 
 /// What an item takes of the language and of std: words and signs as `WORDS` has them, each with its line.
@@ -990,7 +986,7 @@ impl Spelling<'_> {
     }
 
     fn before(&self, at: usize, text: &str) -> bool {
-        at > 0 && self.is(at - 1, text)
+        before(self.tokens, at).is_some_and(|token| token.is(text))
     }
 
     /// How a token is listed, or `None` if it is a name of the sources, or no more than a value.
@@ -1045,7 +1041,7 @@ impl Spelling<'_> {
 
     /// A word behind `::`.
     fn member(&self, at: usize, word: &str) -> Option<String> {
-        let (head, names) = (head_of_path(self.tokens, at - 1), self.names);
+        let (head, names) = (head_of_path(self.tokens, at).unwrap_or_default(), self.names);
         let is_of_own =
             head == "Self" || names.types.contains(head) || names.modules.contains(head) || self.bound.contains(head);
         let is_known =
@@ -1053,28 +1049,16 @@ impl Spelling<'_> {
         (!is_of_own || !is_known).then(|| format!("{head}::{word}"))
     }
 
-    /// The words and signs before an index, from the last one on, up to the brackets that are open there, and those.
-    fn outside(&self, at: usize) -> impl Iterator<Item = usize> {
-        let mut depth = 0;
-        (0..at).rev().filter(move |before| {
-            let is = |texts: [&str; 3]| texts.iter().any(|text| self.is(*before, text));
-            depth += i32::from(is([")", "]", "}"]));
-            let is_outside = depth == 0;
-            depth = (depth - i32::from(is(["(", "[", "{"]))).max(0);
-            is_outside
-        })
-    }
-
     /// Whether a range is what a `for` walks over, or a part of that.
     fn is_walked(&self, at: usize) -> bool {
-        let ends = |at: &usize| ["in", ";", "{", "["].iter().any(|end| self.is(*at, end));
-        self.outside(at).find(ends).is_some_and(|found| self.is(found, "in"))
+        let ends = |token: &&Token| ["in", ";", "{", "["].iter().any(|end| token.is(end));
+        outside(self.tokens, at).map(|(_, token)| token).find(ends).is_some_and(|token| token.is("in"))
     }
 
     /// Whether a range is a pattern of `matches!`.
     fn is_matched(&self, at: usize) -> bool {
-        let open = self.outside(at).find(|at| self.is(*at, "(") || self.is(*at, "[") || self.is(*at, "{"));
-        open.is_some_and(|open| open > 1 && self.is(open - 1, "!") && self.is(open - 2, "matches"))
+        let mut opens = outside(self.tokens, at).filter(|(_, token)| ["(", "[", "{"].iter().any(|open| token.is(open)));
+        opens.next().is_some_and(|(open, _)| self.tokens[..open].ends_with(&pattern("matches!")))
     }
 
     fn range(&self, at: usize) -> &'static str {
@@ -1089,6 +1073,18 @@ impl Spelling<'_> {
             _ => "..",
         }
     }
+}
+
+/// The words and signs before an index, from the last one on, up to the brackets that are open there, and those.
+fn outside(tokens: &[Token], at: usize) -> impl Iterator<Item = (usize, &Token)> {
+    let mut depth = 0;
+    tokens.iter().enumerate().take(at).rev().filter(move |(_, token)| {
+        let is = |signs: [&str; 3]| signs.iter().any(|sign| token.is(sign));
+        depth += i32::from(is([")", "]", "}"]));
+        let is_outside = depth == 0;
+        depth = (depth - i32::from(is(["(", "[", "{"]))).max(0);
+        is_outside
+    })
 }
 
 /// A range of numbers without an end.

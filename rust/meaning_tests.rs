@@ -217,6 +217,12 @@ fn a_text_that_is_asked_once_is_a_text() {
     let source = "pub fn f(a: &str) {\n    unreachable!()\n}\n";
     let made = "pub fn f<S: AsRef<str>>(a: S) {\n    let a = a.as_ref();\n    unreachable_unchecked!()\n}\n";
     passes(source, made);
+    let uses = |made: &str| {
+        let mut check = Check::new(&RULES);
+        check.all(&pair(source, made));
+        check.used.contains(":AsRef<str>")
+    };
+    assert!(uses(made));
     for (from, to) in [
         ("let a = a.as_ref();", "let b = a.as_ref();"),
         ("let a = a.as_ref();", "g(); let a = a.as_ref();"),
@@ -227,6 +233,7 @@ fn a_text_that_is_asked_once_is_a_text() {
         ("unreachable", "g::<S>(); unreachable"),
     ] {
         stops(source, &made.replace(from, to), RUNS);
+        assert!(!uses(&made.replace(from, to)), "{to}");
     }
 }
 
@@ -534,13 +541,15 @@ fn a_name_of_the_access_macros_is_taken() {
             "pub struct A(u8);\nimpl A {{\n    pub fn {name}(&self, at: usize) -> &u8 {{\n        &self.0\n    }}\n}}\n"
         );
         let found = refused(&pair(&method, &method), &RULES);
-        assert!(found.len() >= 2 && found.iter().all(|found| found.contains(taken)), "{name}: {found:#?}");
-        let uses = format!("use crate::b as {name};\n");
-        assert!(refused(&pair(&uses, &uses), &RULES).iter().all(|found| found.contains(taken)));
+        let told: Vec<_> = found.into_iter().filter(|why| why.contains(taken)).collect();
+        assert_eq!(told, [SOURCE, HERE].map(|file| format!("{file}:3: `arraystring_base::a::A::{name}` {taken}")));
+        for path in [format!("crate::b as {name}"), format!("crate::b::{name}")] {
+            let found = refused(&pair(&format!("use {path};\n"), &format!("use {path};\n")), &RULES);
+            assert_eq!(found.iter().filter(|why| why.contains(taken)).count(), 2, "{found:#?}");
+        }
         let mut files = pair("", "");
-        files.insert(format!("{MADE}by_hand/b.rs"), format!("macro_rules! {name} {{ () => {{}}; }}\n"));
-        let found = refused(&files, &RULES);
-        assert!(found.len() == 1 && found[0].contains("by_hand/b.rs:1: ") && found[0].contains(taken), "{found:#?}");
+        files.insert(format!("{MADE}by_hand/b.rs"), format!("\nmacro_rules! {name} {{ () => {{}}; }}\n"));
+        assert_eq!(refused(&files, &RULES), [format!("{MADE}by_hand/b.rs:2: {taken}")]);
     }
     let other = "pub struct A(u8);\nimpl A {\n    pub fn first_of(&self) -> &u8 {\n        &self.0\n    }\n}\n";
     passes(other, other);
@@ -873,6 +882,8 @@ fn a_pattern_is_what_it_binds() {
         ("a | b", "|", ""),
         ("match a { B(c) => d, _ => e }", "=>", "B ( c )"),
         ("match a { _ => e, B(c) if f(c) => d }", "=>", "_"),
+        ("g(| | a)", "|", ""),
+        ("| a", "|", ""),
         ("a", "a", ""),
     ] {
         let tokens = pattern(body);
@@ -890,18 +901,17 @@ fn a_pattern_is_what_it_binds() {
         assert_eq!(compare::shown(&tokens[start_of_arm(&tokens, arrow)..arrow]), wanted, "{body}");
     }
     for (text, wanted) in [
-        ("A::b", "A"),
-        ("a::b::c", "b"),
-        ("A::<B, C>::d", "A"),
-        ("A::<B<C>>::d", "A"),
-        ("<A as B>::c", ""),
-        ("(a)::b", ""),
-        ("::b", ""),
-        ("c < A::d", "A"),
+        ("A::b", Some("A")),
+        ("a::b::c", Some("b")),
+        ("A::<B, C>::d", Some("A")),
+        ("A::<B<C>>::d", Some("A")),
+        ("<A as B>::c", None),
+        ("(a)::b", None),
+        ("::b", None),
+        ("c < A::d", Some("A")),
     ] {
         let tokens = with_single_closings(pattern(text));
-        let at = tokens.iter().rposition(|token| token.is("::")).expect("the sign");
-        assert_eq!(head_of_path(&tokens, at), wanted, "{text}");
+        assert_eq!(head_of_path(&tokens, tokens.len() - 1), wanted, "{text}");
     }
 }
 
@@ -973,6 +983,11 @@ fn each_word_and_sign_is_listed_by_what_it_is() {
         ("g(..)", "..", Some("..")),
         ("g(.., a)", "..", Some("..")),
         ("matches!(a, b..)", "..", Some("matches!(a..)")),
+        ("c && matches!(a(b), c..)", "..", Some("matches!(a..)")),
+        ("c && matches![a[b], c..]", "..", Some("matches!(a..)")),
+        ("c && matches! { a {b}, c.. }", "..", Some("matches!(a..)")),
+        ("matches!(a, b) && c(..)", "..", Some("..")),
+        ("in b..c", "..", Some("in:a..b")),
         ("matches!(a, b..=c)", "..=", Some("matches!(a..=b)")),
         ("other!(a, b..=c)", "..=", Some("..=")),
         ("matches(a, b..=c)", "..=", Some("..=")),
