@@ -392,6 +392,23 @@ fn before(tokens: &[Token], at: usize) -> Option<&Token> {
     tokens[..at].last()
 }
 
+fn opens(token: &Token) -> bool {
+    ["(", "[", "{"].iter().any(|sign| token.is(sign))
+}
+
+fn closes(token: &Token) -> bool {
+    [")", "]", "}"].iter().any(|sign| token.is(sign))
+}
+
+/// Where the group of brackets begins that ends some tokens, or their last token.
+fn start_of_last(tokens: &[Token], opens: fn(&Token) -> bool, closes: fn(&Token) -> bool) -> Option<usize> {
+    let mut depth = 0;
+    tokens.iter().rposition(|token| {
+        depth += i32::from(closes(token)) - i32::from(opens(token));
+        depth == 0
+    })
+}
+
 /// Each token but the last, with the next one.
 fn neighbours(tokens: &[Token]) -> impl Iterator<Item = (&Token, &Token)> {
     tokens.iter().zip(tokens.iter().skip(1))
@@ -439,17 +456,16 @@ fn with_callers(functions: &[&Part], seed: BTreeSet<usize>, names: &Names) -> BT
 /// a method is called on; or what a reference is to.
 fn writes(body: &[Token], program: &Program) -> Option<usize> {
     let unpacked = unpacked(body);
-    let is_write = |two: &[Token], at: usize| {
+    let is_write = |sign: &Token, word: &Token, at: usize| {
         let next = behind_part(body, at).first();
         let is_assigned = next.is_some_and(is_assignment);
         let is_called = next.is_some_and(|next| next.is("."));
         let is_unpacked = unpacked.iter().any(|group| group.contains(&at));
-        let is_field = two[0].is(".") && program.is_guarded_field(&two[1].text);
-        let is_through = two[0].is("*") && is_assigned;
+        let is_field = sign.is(".") && program.is_guarded_field(&word.text);
+        let is_through = sign.is("*") && is_assigned;
         is_through || is_field && (is_assigned || is_called || is_unpacked || is_lent_to_write(body, at))
     };
-    let mut places = body.windows(2).zip(1..);
-    places.find(|(two, at)| is_write(two, *at)).map(|(_, at)| at)
+    neighbours(body).zip(1..).find(|((sign, word), at)| is_write(sign, word, *at)).map(|(_, at)| at)
 }
 
 /// What stands behind a name, and behind the brackets in which a part of it is named.
@@ -481,7 +497,7 @@ fn is_lent_to_write(body: &[Token], end: usize) -> bool {
     }
     match front {
         [.., word] if word.is("mut") => true,
-        [.., name, sign, open] => sign.is("!") && open.is("(") && is_macro(name),
+        [.., name, sign, _] => sign.is("!") && is_macro(name),
         _ => false,
     }
 }
@@ -939,36 +955,33 @@ fn pattern_at(body: &[Token], at: usize) -> &[Token] {
     }
 }
 
-/// What stands before the first of some words and signs.
+/// What stands before the first of some words and signs that is in no brackets.
 fn first_part<'a>(tokens: &'a [Token], ends: &[&str]) -> &'a [Token] {
-    tokens.split(|token| ends.iter().any(|end| token.is(end))).next().unwrap_or_default()
+    let mut depth = 0;
+    let is_end = |token: &Token| {
+        depth += i32::from(opens(token)) - i32::from(closes(token));
+        depth == 0 && ends.iter().any(|end| token.is(end))
+    };
+    tokens.split(is_end).next().unwrap_or_default()
 }
 
-/// Where the pattern of a match arm begins, by the `=>` behind it.
+/// Where the pattern of a match arm begins, by the `=>` behind it. (A `}` before that may be of the pattern.)
 fn start_of_arm(body: &[Token], arrow: usize) -> usize {
-    let (mut at, mut depth) = (arrow, 0);
-    while at > 0 {
-        let token = &body[at - 1];
-        let closes = [")", "]", "}"].iter().any(|sign| token.is(sign));
-        let is_end = depth == 0 && (token.is(",") || token.is("{") || token.is("}") && at < arrow);
-        if is_end {
-            break;
-        }
-        depth += i32::from(closes) - i32::from(["(", "[", "{"].iter().any(|sign| token.is(sign)));
-        at -= 1;
-    }
-    at
+    let mut depth = 0;
+    let end = body[..arrow].iter().enumerate().rposition(|(at, token)| {
+        let is_end = token.is(",") || token.is("{") || token.is("}") && at + 1 < arrow;
+        let is_outside = depth == 0;
+        depth += i32::from(closes(token)) - i32::from(opens(token));
+        is_outside && is_end
+    });
+    end.map_or(0, |end| end + 1)
 }
 
 /// What stands before the `::` before an index: a word, or the word before its generics.
 fn head_of_path(tokens: &[Token], at: usize) -> Option<&str> {
     let colons = pattern("::");
     let front = tokens[..at].strip_suffix(&colons[..])?;
-    let mut depth = 0;
-    let open = front.iter().rposition(|token| {
-        depth += i32::from(token.is(">")) - i32::from(token.is("<"));
-        depth == 0
-    })?;
+    let open = start_of_last(front, |token| token.is("<"), |token| token.is(">"))?;
     let head = if front[open].is("<") { front[..open].strip_suffix(&colons[..])?.last()? } else { &front[open] };
     (head.kind == Kind::Word).then_some(&head.text)
 }
@@ -1057,8 +1070,8 @@ impl Spelling<'_> {
 
     /// Whether a range is a pattern of `matches!`.
     fn is_matched(&self, at: usize) -> bool {
-        let mut opens = outside(self.tokens, at).filter(|(_, token)| ["(", "[", "{"].iter().any(|open| token.is(open)));
-        opens.next().is_some_and(|(open, _)| self.tokens[..open].ends_with(&pattern("matches!")))
+        let open = outside(self.tokens, at).find(|(_, token)| opens(token));
+        open.is_some_and(|(open, _)| self.tokens[..open].ends_with(&pattern("matches!")))
     }
 
     fn range(&self, at: usize) -> &'static str {
@@ -1079,10 +1092,9 @@ impl Spelling<'_> {
 fn outside(tokens: &[Token], at: usize) -> impl Iterator<Item = (usize, &Token)> {
     let mut depth = 0;
     tokens.iter().enumerate().take(at).rev().filter(move |(_, token)| {
-        let is = |signs: [&str; 3]| signs.iter().any(|sign| token.is(sign));
-        depth += i32::from(is([")", "]", "}"]));
+        depth += i32::from(closes(token));
         let is_outside = depth == 0;
-        depth = (depth - i32::from(is(["(", "[", "{"]))).max(0);
+        depth = (depth - i32::from(opens(token))).max(0);
         is_outside
     })
 }
@@ -1116,8 +1128,8 @@ impl Check {
             for words in item.attributes.iter().filter(|words| !words.starts_with("visibility")) {
                 found.extend(attribute(words).into_iter().map(|word| (item.line, word)));
             }
-            if let Some(path) = item.key.rsplit(" / ").next().and_then(|last| last.strip_prefix("use ")) {
-                let is_own = path.split("::").next().is_some_and(|first| program.names.modules.contains(first));
+            if let Some(path) = part.last().strip_prefix("use ") {
+                let is_own = path.split_once("::").is_some_and(|(first, _)| program.names.modules.contains(first));
                 found.extend((!is_own).then(|| (item.line, format!("use:{}", path.replace(" as ", ":")))));
             }
             let mut around = part.around();
@@ -1160,30 +1172,29 @@ const NEW_WORD: &str = "which is in no list: read what Rattle and what Rust mean
 
 // ---- Order ----
 
-/// Calls that copy, and whose operand stands before a point.
-const COPIES: &[&str] = &["copy_from_slice"];
+/// A call that copies, and whose operand stands before the point.
+const COPY: &str = ".copy_from_slice";
 
-/// Where the operand begins that ends before an index, if it is a path of fields and of plain calls.
-fn start_of_path(tokens: &[Token], end: usize, changing: &BTreeSet<String>, check: &mut Check) -> Option<usize> {
-    let mut at = end;
+/// Where the operand begins that ends some tokens, if it is a path of fields and of plain calls.
+fn start_of_path(tokens: &[Token], changing: &BTreeSet<String>, check: &mut Check) -> Option<usize> {
+    let lists = check.lists;
+    let is_plain =
+        |name: &Token| lists.plain_calls.iter().any(|(plain, _)| name.is(plain)) && !changing.contains(&name.text);
+    let mut front = tokens;
     loop {
-        let last = at.checked_sub(1)?;
-        if tokens[last].is(")") {
-            let name = last.checked_sub(2).map(|before| &tokens[before])?;
-            let is_plain = |plain: &str| name.is(plain) && !changing.contains(plain);
-            let (plain, _) = check.lists.plain_calls.iter().find(|(plain, _)| is_plain(plain))?;
-            check.note(&format!("call {plain}"));
-            at = tokens[last - 1].is("(").then_some(last - 2)?;
-        } else if matches!(tokens[last].kind, Kind::Word | Kind::Number) && !is_operator(&tokens[last]) {
-            at = last;
-        } else {
-            return None;
-        }
-        match at.checked_sub(1).map(|before| &tokens[before]) {
-            Some(token) if token.is(".") => at -= 1,
-            Some(token) if token.is("::") || token.is("?") => return None,
-            _ => return Some(at),
-        }
+        front = match front {
+            [rest @ .., name, open, close] if open.is("(") && close.is(")") && is_plain(name) => {
+                check.note(&format!("call {}", name.text));
+                rest
+            }
+            [rest @ .., name] if matches!(name.kind, Kind::Word | Kind::Number) && !is_operator(name) => rest,
+            _ => return None,
+        };
+        front = match front {
+            [rest @ .., sign] if sign.is(".") => rest,
+            [.., sign] if sign.is("::") => return None,
+            _ => return Some(front.len()),
+        };
     }
 }
 
@@ -1198,36 +1209,36 @@ impl Check {
     fn operands(&mut self, program: &Program) {
         for part in program.in_both().filter(|part| part.item.is_function) {
             let body = &part.item.body;
-            for at in 1..body.len() {
-                let is_index = body[at].is("[") && is_behind_operand(&body[at - 1]);
-                let is_copy =
-                    body[at].is(".") && COPIES.iter().any(|name| body.get(at + 1).is_some_and(|next| next.is(name)));
-                if !is_index && !is_copy {
-                    continue;
-                }
-                let changing = &program.names.changing;
-                let is_path = start_of_path(body, operand_end(body, at), changing, self).is_some();
-                if !is_path || beside(body, at).iter().any(|part| changes(part, changing)) {
-                    self.refused.push(part.refused(body[at].line, ORDER));
+            for ((last, sign), at) in neighbours(body).zip(1..) {
+                let is_index = sign.is("[") && is_behind_operand(last);
+                let is_access = is_index || body[at..].starts_with(&pattern(COPY));
+                if is_access && !self.is_ordered(body, at, &program.names.changing) {
+                    self.refused.push(part.refused(sign.line, ORDER));
                 }
             }
         }
+    }
+
+    fn is_ordered(&mut self, body: &[Token], at: usize, changing: &BTreeSet<String>) -> bool {
+        let is_path = start_of_path(&body[..operand_end(body, at)], changing, self).is_some();
+        is_path && !beside(body, at).iter().any(|part| changes(part, changing))
     }
 }
 
 /// What stands beside the operand of an access: what is in its brackets, and what is assigned to it.
 fn beside(body: &[Token], at: usize) -> [&[Token]; 2] {
-    let open = if body[at].is("[") { at } else { at + 2 };
-    let end = behind_group(body, open).unwrap_or(body.len());
-    let is_assigned = body.get(end).is_some_and(is_assignment);
-    let behind = body[end..].iter().position(|token| token.is(";")).map_or(body.len(), |found| end + found);
-    [&body[open..end], if is_assigned { &body[end + 1..behind] } else { &[] }]
+    let group = &body[if body[at].is("[") { at } else { at + 2 }..];
+    let (brackets, behind) = group.split_at(behind_group(group, 0).unwrap_or(group.len()));
+    match behind.split_first().filter(|(sign, _)| is_assignment(sign)) {
+        Some((_, assigned)) => [brackets, first_part(assigned, &[";"])],
+        None => [brackets, &[]],
+    }
 }
 
 /// Whether something in an expression may change what others read.
 fn changes(tokens: &[Token], changing: &BTreeSet<String>) -> bool {
-    let is_call = |two: &[Token]| changing.contains(&two[0].text) && two[1].is("(");
-    tokens.iter().any(|token| token.is("mut") || is_assignment(token)) || tokens.windows(2).any(is_call)
+    let is_call = |(name, open): (&Token, &Token)| changing.contains(&name.text) && open.is("(");
+    tokens.iter().any(|token| token.is("mut") || is_assignment(token)) || neighbours(tokens).any(is_call)
 }
 
 /// Whether a bracket behind this token is an index.
@@ -1241,11 +1252,9 @@ fn is_behind_operand(before: &Token) -> bool {
 
 /// Where the operand ends before a `[` or a point: that of a copy into a part is the operand of the part.
 fn operand_end(body: &[Token], at: usize) -> usize {
-    if body[at].is(".") && body[at - 1].is("]") {
-        let open = (0..at).rev().find(|open| body[*open].is("[") && behind_group(body, *open) == Some(at));
-        return open.unwrap_or(at);
-    }
-    at
+    let front = &body[..at];
+    let is_part = body[at].is(".") && front.ends_with(&pattern("]"));
+    if is_part { start_of_last(front, opens, closes).unwrap_or(at) } else { at }
 }
 
 const ORDER: &str = "has an index, a part or a copy of what is no path of fields, or beside what changes something, and the two \

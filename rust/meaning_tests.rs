@@ -511,6 +511,7 @@ fn a_new_word_of_an_item_stops() {
         ("use core::mem::size_of;\n", "use:core::mem::size_of"),
         ("use core::mem as m;\n", "use:core::mem:m"),
         ("pub const A: usize = usize::MAX;\n", "usize::MAX"),
+        ("async fn f() {}\n", "async"),
     ] {
         let found = refused(&pair(item, item), &RULES);
         assert!(
@@ -800,6 +801,7 @@ fn what_writes_a_field_of_an_invariant_is_known() {
         "{ g(&mut a.b.size); }",
         "{ copy_bytes!(self.size, 1, b); }",
         "{ get_unchecked_mut!(self.size, 1); }",
+        "{ get_unchecked_mut![self.size, 1]; }",
         "{ *self = b; }",
         "{ *a += 1; }",
         "&mut self.size",
@@ -822,7 +824,6 @@ fn what_writes_a_field_of_an_invariant_is_known() {
         "{ (a, b) = c; g(self.size); }",
         "{ required!(self.size); }",
         "{ copy_bytes(self.size); }",
-        "{ copy_bytes![self.size]; }",
         "self.size",
         "self.size[1]",
         "self.size[",
@@ -830,6 +831,7 @@ fn what_writes_a_field_of_an_invariant_is_known() {
     ] {
         assert!(writes(&pattern(body), &program).is_none(), "{body}");
     }
+    assert_eq!(writes(&pattern("{ self.size = 1; self.start = 2; }"), &program), Some(3));
     for sign in "= += -= *= /= %= ^= &= |= <<= >>=".split(' ') {
         assert!(is_assignment(&pattern(sign)[0]), "{sign}");
     }
@@ -873,6 +875,7 @@ fn a_pattern_is_what_it_binds() {
     for (body, sign, wanted) in [
         ("let a = b;", "let", "a"),
         ("let (a, b): (u8, u8) = c;", "let", "( a , b )"),
+        ("let A { b: c } = d;", "let", "A { b : c }"),
         ("let a;", "let", "a"),
         ("for (a, b) in c {}", "for", "( a , b )"),
         ("g(|a, b| c)", "|", "a , b"),
@@ -894,6 +897,7 @@ fn a_pattern_is_what_it_binds() {
         ("match a { b => c, D(e, { f }) if g => h }", "D ( e , { f } ) if g"),
         ("match a { b => { c } D { e } => h }", "D { e }"),
         ("match a { D[e, f] => h }", "D [ e , f ]"),
+        ("match a { b => { c } d => h }", "d"),
         ("=> h", ""),
     ] {
         let tokens = pattern(body);
@@ -1062,7 +1066,7 @@ fn an_operand_ends_before_its_index() {
     ] {
         let tokens = pattern(text);
         let at = tokens.iter().position(|token| token.is(sign)).expect("the sign");
-        let found = start_of_path(&tokens, at, &BTreeSet::new(), &mut Check::new(&RULES));
+        let found = start_of_path(&tokens[..at], &BTreeSet::new(), &mut Check::new(&RULES));
         assert_eq!(found, wanted, "{text}");
     }
     for (text, wanted) in [("a.b", 1), ("a[1].b", 1), ("a[1][2].b", 4), ("a[b[1]].c", 1)] {
@@ -1088,6 +1092,7 @@ fn an_operand_ends_before_its_index() {
         ("a[b] += c + d; e", ["[ b ]", "c + d"]),
         ("a[b] + c;", ["[ b ]", ""]),
         ("a[b] = c", ["[ b ]", "c"]),
+        ("a[b] = { c; d }; e", ["[ b ]", "{ c ; d }"]),
         ("a.copy_from_slice(b) ; c", ["( b )", ""]),
     ] {
         let tokens = pattern(text);
