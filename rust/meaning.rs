@@ -14,7 +14,7 @@
 //! The folder is the repository, by default the one in which it runs. Status 1: something is refused, and each is printed with its
 //! place and with what to do. Status 2: it was called wrongly, or a file can't be read. Its tests are in `meaning_tests.rs`.
 
-use std::collections::{BTreeMap, BTreeSet};
+use std::collections::BTreeSet;
 use std::ops::Range;
 use std::path::Path;
 use std::process::ExitCode;
@@ -295,7 +295,8 @@ impl Names {
 fn guarded(files: &Files, sources: &[Part]) -> Result<Vec<Guarded>, String> {
     let mut found = Vec::new();
     for (path, text) in pairs(files).map(|pair| pair.source) {
-        let tokens = tokens(text, Language::Rattle).map_err(|fault| format!("{path}:{}: {}", fault.line, fault.why))?;
+        // (a file that can't be read was refused above)
+        let tokens = tokens(text, Language::Rattle).unwrap_or_default();
         let mut of = None;
         for (at, token) in tokens.iter().enumerate() {
             if let Some([name, ..]) = tokens[at..].strip_prefix(&pattern("Model for")[..]) {
@@ -968,7 +969,7 @@ fn first_part<'a>(tokens: &'a [Token], ends: &[&str]) -> &'a [Token] {
 /// Where the pattern of a match arm begins, by the `=>` behind it. (A `}` before that may be of the pattern.)
 fn start_of_arm(body: &[Token], arrow: usize) -> usize {
     let mut depth = 0;
-    let end = body[..arrow].iter().enumerate().rposition(|(at, token)| {
+    let end = body.iter().enumerate().take(arrow).rposition(|(at, token)| {
         let is_end = token.is(",") || token.is("{") || token.is("}") && at + 1 < arrow;
         let is_outside = depth == 0;
         depth += i32::from(closes(token)) - i32::from(opens(token));
@@ -1285,10 +1286,10 @@ impl Check {
 fn effect_of_step(text: &str) -> Option<String> {
     let inside = text.split_once('(').and_then(|(_, rest)| rest.strip_suffix(')')).unwrap_or(text);
     let words = tokens(inside, Language::Rust).unwrap_or_default();
-    let calls = |two: &[Token]| two[0].kind == Kind::Word && (two[1].is("(") || two[1].is("!"));
+    let is_call = |name: &Token, next: &Token| name.kind == Kind::Word && (next.is("(") || next.is("!"));
     let is_effect = |token: &Token| token.is("mut") || token.is(";") || token.is("{") || is_assignment(token);
-    let found =
-        words.iter().find(|token| is_effect(token)).or(words.windows(2).find(|two| calls(two)).map(|two| &two[0]));
+    let call = neighbours(&words).find(|(name, next)| is_call(name, next)).map(|(name, _)| name);
+    let found = words.iter().find(|token| is_effect(token)).or(call);
     if words.is_empty() {
         return Some(format!("`{text}` is no expression: {STEP_DO}"));
     }
@@ -1300,24 +1301,22 @@ fn effect_of_step(text: &str) -> Option<String> {
     })
 }
 
-/// Whether a clause has a `=` that stands neither behind `let` nor in a record.
+/// Whether a clause has a `=` that stands neither behind `let NAME` nor in a record.
 fn has_assignment(clause: &str) -> bool {
     let words: Vec<&str> = clause.split_whitespace().collect();
-    let mut in_record = 0;
+    let mut braces_of_record = 0_usize;
     words.iter().enumerate().any(|(at, word)| {
+        let before = &words[..at];
         match *word {
-            "{" if at > 0 && words[at - 1] == "record" => in_record += 1,
-            "{" if in_record > 0 => in_record += 1,
-            "}" if in_record > 0 => in_record -= 1,
+            "{" if braces_of_record > 0 || before.ends_with(&["record"]) => braces_of_record += 1,
+            "}" => braces_of_record = braces_of_record.saturating_sub(1),
             _ => {}
         }
-        let is_of_let =
-            at >= 2 && words[..at].iter().rev().take_while(|word| !LET_ENDS.contains(word)).any(|word| *word == "let");
-        word.contains('=') && *word != "==" && !(*word == "=" && (is_of_let || in_record > 0))
+        let is_binding = *word == "=" && (matches!(before, [.., "let", _]) || braces_of_record > 0);
+        word.contains('=') && *word != "==" && !is_binding
     })
 }
 
-const LET_ENDS: &[&str] = &["in", "=", "{", "}", ";"];
 const STEP_DO: &str = "a step has comparisons of names and numbers alone, so bind a call before by `let`";
 const ASSIGNS: &str = "a clause with a `=` that stands neither in `let .. in` nor in a record: what it changes in \
                        Rattle is not changed here, so write `≡`";
@@ -1341,7 +1340,7 @@ fn entries(lists: &'static Lists) -> Vec<(String, &'static str)> {
 /// What is wrong with the lists.
 fn faults_of_lists(check: &Check) -> Vec<String> {
     let mut faults = Vec::new();
-    let mut seen = BTreeMap::new();
+    let mut seen = BTreeSet::new();
     for (entry, why) in entries(check.lists) {
         if !check.used.contains(&entry) {
             faults.push(format!("nothing uses the entry `{entry}` of a list: take it out"));
@@ -1349,7 +1348,7 @@ fn faults_of_lists(check: &Check) -> Vec<String> {
         if why.trim().is_empty() {
             faults.push(format!("the entry `{entry}` of a list has no reason: write why"));
         }
-        if seen.insert(entry.clone(), why).is_some() {
+        if !seen.insert(entry.clone()) {
             faults.push(format!("the entry `{entry}` of a list is there twice: take one out"));
         }
     }
@@ -1372,21 +1371,24 @@ fn read(root: &Path) -> Result<Files, String> {
 }
 
 fn main() -> ExitCode {
-    let words: Vec<String> = std::env::args().skip(1).collect();
-    told(outcome(&words))
+    told(outcome(std::env::args()))
 }
 
-/// The status and what is told, for these arguments.
-fn outcome(words: &[String]) -> (u8, String) {
-    let root = match words {
-        [] => ".",
+/// The status and what is told, for the name of the program and its arguments.
+fn outcome(words: impl Iterator<Item = String>) -> (u8, String) {
+    let words: Vec<String> = words.skip(1).collect();
+    let root = match &words[..] {
+        [] => "",
         [word, root] if word == "--root" => root,
         _ => return (2, "meaning: the arguments are [--root FOLDER]\n".to_string()),
     };
-    let refused = match read(Path::new(root)) {
-        Ok(files) => check(&files, &LISTS),
-        Err(why) => return (2, format!("meaning: {why}\n")),
-    };
+    match read(Path::new(root)) {
+        Ok(files) => report(&check(&files, &LISTS)),
+        Err(why) => (2, format!("meaning: {why}\n")),
+    }
+}
+
+fn report(refused: &[String]) -> (u8, String) {
     if refused.is_empty() {
         let count = entries(&LISTS).len();
         return (0, format!("meaning: {count} entries of lists say why both languages mean the same\n"));

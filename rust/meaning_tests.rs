@@ -661,6 +661,8 @@ fn a_step_of_a_proof_changes_nothing() {
         ("y < 3; true", "`;`"),
         ("g(&mut y)", "`mut`"),
         ("f(x) < 3", "`f`"),
+        ("f(g(x)) < 3", "`f`"),
+        ("*x = (3)", "`=`"),
         ("x.len() < 3", "`len`"),
         ("g!(x)", "`g`"),
     ] {
@@ -758,6 +760,11 @@ fn a_type_parameter_is_no_lifetime_and_no_number() {
         let tokens = with_single_closings(pattern(head));
         let shown = |(name, bounds): (&str, &[Token])| format!("{name} {}", compare::shown(bounds));
         assert_eq!(type_parameters(&tokens, 2).into_iter().map(shown).collect::<Vec<_>>(), wanted, "{head}");
+    }
+    for (text, wanted) in
+        [("(a) b", "a"), ("{ a, (b) } c", "a , ( b )"), ("() a", ""), ("a (b)", ""), ("(a", ""), ("", "")]
+    {
+        assert_eq!(compare::shown(inside(&pattern(text))), wanted, "{text}");
     }
     for (text, wanted) in [("< a > b", "a"), ("< a < b > c > d", "a < b > c"), ("< >", ""), ("< a", "a")] {
         assert_eq!(compare::shown(between_angles(&pattern(text), 0)), wanted, "{text}");
@@ -1122,10 +1129,22 @@ fn a_clause_assigns_nothing() {
         ("requires { record { a = x } ≡ y }", false),
         ("requires { record { a = { b = x } } ≡ y }", false),
         ("requires { record { a = { b } } ≡ y = z }", true),
+        ("requires { record { a = { b = x } ; c = x } ≡ y }", false),
+        ("requires { { x } ≡ record { a = y } }", false),
+        ("requires { { x } y = z }", true),
         ("requires { { a = x } }", true),
         ("requires { x == 3 }", false),
         ("requires { x <= 3 }", true),
         ("requires { x ≤ 3 }", false),
+    ] {
+        assert_eq!(has_assignment(clause), wanted, "{clause}");
+    }
+    // A `let` is of one name, and of the `=` behind that.
+    for (clause, wanted) in [
+        ("requires { let a = b = 3 in c }", true),
+        ("requires { let = 3 }", true),
+        ("requires { let a b = 3 }", true),
+        ("requires { a = 3 in let b }", true),
     ] {
         assert_eq!(has_assignment(clause), wanted, "{clause}");
     }
@@ -1138,7 +1157,7 @@ fn a_clause_assigns_nothing() {
 fn what_is_told_has_its_status() {
     let root = std::env::current_dir().expect("a folder");
     let root = root.ancestors().find(|it| it.join("crates/arraystring_base").is_dir()).expect("the repository");
-    let with = |words: &[&str]| outcome(&words.iter().map(|word| word.to_string()).collect::<Vec<_>>());
+    let with = |words: &[&str]| outcome(["meaning"].iter().chain(words).map(|word| word.to_string()));
     let all = format!("meaning: {} entries of lists say why both languages mean the same\n", entries(&LISTS).len());
     assert_eq!(with(&["--root", root.to_str().expect("a path")]), (0, all));
     for words in [&["--other", "a"][..], &["--root"], &["--root", "a", "b"]] {
@@ -1146,6 +1165,24 @@ fn what_is_told_has_its_status() {
     }
     let (status, text) = with(&["--root", "/nowhere"]);
     assert!(status == 2 && text.starts_with("meaning: /nowhere/crates/arraystring_base/src: "), "{text}");
+    // A folder with no test of unwinding.
+    let folder = std::env::temp_dir().join(format!("meaning-{}", std::process::id()));
+    let sources = compare::lists::CRATES.iter().map(|krate| format!("crates/{krate}/src"));
+    for below in sources.chain([MADE.to_string()]) {
+        std::fs::create_dir_all(folder.join(below)).expect("a folder");
+    }
+    let (status, text) = with(&["--root", folder.to_str().expect("a path")]);
+    std::fs::remove_dir_all(&folder).expect("the folder");
+    assert!(status == 2 && text.starts_with(&format!("meaning: {UNWINDING}: ")), "{text}");
+    let all = report(&["a.rs:1: b".to_string(), "c".to_string()]);
+    assert_eq!(all, (1, "meaning: a.rs:1: b\nmeaning: c\nmeaning: 2 are refused\n".to_string()));
+}
+
+/// Those of the tests are no arguments of the program, and without any it finds no sources, or these.
+#[test]
+fn the_program_ends_with_the_status() {
+    let (status, _) = outcome(std::env::args());
+    assert_eq!(format!("{:?}", main()), format!("{:?}", ExitCode::from(status)));
 }
 
 #[test]
