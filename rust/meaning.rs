@@ -128,7 +128,7 @@ struct Names {
     functions: BTreeSet<String>,
     /// Functions with a `self`.
     methods: BTreeSet<String>,
-    /// Those with a `mut self`.
+    /// What takes something to write, a `self` or another argument.
     changing: BTreeSet<String>,
     /// Types, their variants and constants.
     types: BTreeSet<String>,
@@ -261,13 +261,19 @@ fn group_of_type(head: &[Token]) -> usize {
     behind.find(|at| head[*at].is("{") || head[*at].is("(")).unwrap_or(head.len())
 }
 
+/// Whether a function takes a `&mut`, or a `mut self`.
+fn lends(head: &[Token]) -> bool {
+    let is_lent = |(sign, word): (&Token, &Token)| word.is("mut") && (sign.is("&") || sign.kind == Kind::Lifetime);
+    neighbours(head).any(is_lent) || position(head, &pattern("mut self")).is_some()
+}
+
 impl Names {
     fn new(sources: &[Part]) -> Self {
         let mut names = Names::default();
         for part in sources {
             let head = &part.item.head;
             let Some((kind, name)) = part.kind_and_name() else { continue };
-            if position(head, &pattern("mut self")).is_some() {
+            if lends(head) {
                 names.changing.insert(name.to_string());
             }
             match kind {
@@ -1075,8 +1081,15 @@ impl Spelling<'_> {
         open.is_some_and(|(open, _)| self.tokens[..open].ends_with(&pattern("matches!")))
     }
 
+    /// Whether a range ends an array, where a part of one would end, too.
+    fn is_last_of_array(&self, at: usize) -> bool {
+        let open = outside(self.tokens, at).find(|(_, token)| opens(token));
+        let operand = open.and_then(|(open, _)| before(self.tokens, open));
+        self.is(at + 1, "]") && !operand.is_some_and(is_behind_operand)
+    }
+
     fn range(&self, at: usize) -> &'static str {
-        let closes = [")", ";", ",", "{", "=>"].iter().any(|end| self.is(at + 1, end));
+        let closes = [")", ";", ",", "{", "=>"].iter().any(|end| self.is(at + 1, end)) || self.is_last_of_array(at);
         let is_all = ["(", "[", ","].iter().any(|before| self.before(at, before));
         match (self.is_walked(at), self.is_matched(at)) {
             (_, true) => "matches!(a..)",

@@ -626,6 +626,7 @@ fn an_operand_is_bound_before_its_index() {
         "let first = crate::all[count]",
         "let first = all?[count]",
         "all[count] = *pick(&mut count, all)",
+        "all[part[0]] = *pick(count, all)",
         "all[count] += self.step()",
         "let part = &all[self.step()..count]",
         "let part = &all[{ count += 1; count }..]",
@@ -979,6 +980,10 @@ fn each_word_and_sign_is_listed_by_what_it_is() {
         ("{ ..a }", "..", Some("..")),
         ("a[b..]", "..", Some("a..]")),
         ("a[..]", "..", Some("a..]")),
+        ("a()[b(c)..]", "..", Some("a..]")),
+        ("[a..]", "..", Some("a..")),
+        ("a = [b(c), d..]", "..", Some("a..")),
+        ("let [a, ..] = b;", "..", Some("a..]")),
         ("a[..b]", "..", Some("..")),
         ("a[b..c]", "..", Some("..")),
         ("A { .. }", "..", Some("{..}")),
@@ -1239,6 +1244,9 @@ impl A {
     fn l() {}
 }
 fn m(mut n: A) {}
+fn t(u: u8, v: &mut A) {}
+fn w<'a>(x: &'a mut A) {}
+fn y(z: &'a A) {}
 ";
     let origin = Origin { language: Language::Rattle, krate: "arraystring_base", module: "a", orders: &[] };
     let parts = items(source, origin).expect("items").into_iter().map(|item| Part { file: SOURCE.to_string(), item });
@@ -1247,8 +1255,8 @@ fn m(mut n: A) {}
     assert_eq!(shown(&names.types), "A C D E F G");
     assert_eq!(shown(&names.fields), "b");
     assert_eq!(shown(&names.methods), "i j k");
-    assert_eq!(shown(&names.changing), "j k");
-    assert_eq!(shown(&names.functions), "l m");
+    assert_eq!(shown(&names.changing), "j k t w");
+    assert_eq!(shown(&names.functions), "l m t w y");
     assert_eq!(shown(&names.modules), "arraystring arraystring_base arraystring_core crate h self super");
 }
 
