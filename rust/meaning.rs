@@ -372,7 +372,7 @@ fn generics_of(head: &[Token]) -> Vec<(&str, &[Token])> {
 fn is_asked_once(parameter: (&str, &[Token]), item: &Item, check: &mut Check) -> bool {
     let (name, bounds) = parameter;
     let bound: String = bounds.iter().map(|token| token.text.as_str()).collect();
-    let is_listed = check.lists.asked_once.iter().any(|(listed, _)| *listed == bound);
+    let is_listed = has(check.lists.asked_once, &bound);
     let uses = |tokens: &[Token]| tokens.iter().filter(|token| token.is(name)).count();
     let Some(colon) = position(&item.head, &pattern(&format!(": {name}"))) else { return false };
     let given = &item.head[colon - 1].text;
@@ -539,24 +539,33 @@ fn needs_facts(part: &Part, program: &Program) -> Option<(usize, String)> {
 
 /// Functions that run a caller's code while they write a field of an invariant.
 struct Played {
-    functions: &'static [&'static str],
+    functions: &'static str,
     /// The calls that the tests of unwinding make with code that panics; or none, and why no caller's code runs.
-    calls: &'static [&'static str],
+    calls: &'static str,
     why: &'static str,
 }
 
-/// Words of one reason, with blanks between.
+/// Entries of one reason, with blanks between.
 struct Words {
     words: &'static str,
     why: &'static str,
 }
 
 struct Lists {
-    asked_once: &'static [(&'static str, &'static str)],
-    bounded: &'static [(&'static str, &'static str)],
+    asked_once: &'static [Words],
+    bounded: &'static [Words],
     played: &'static [Played],
     words: &'static [Words],
-    plain_calls: &'static [(&'static str, &'static str)],
+    plain_calls: &'static [Words],
+}
+
+/// Whether a list has an entry.
+fn has(list: &[Words], entry: &str) -> bool {
+    list.iter().any(|words| has_word(words.words, entry))
+}
+
+fn has_word(words: &str, word: &str) -> bool {
+    words.split_whitespace().any(|listed| listed == word)
 }
 
 struct Check {
@@ -596,7 +605,7 @@ impl Check {
         let running = with_callers(&functions, takes, &program.names);
         for part in running.iter().map(|at| functions[*at]) {
             let Some((line, what)) = needs_facts(part, program) else { continue };
-            if self.lists.bounded.iter().any(|(path, _)| *path == part.item.path) {
+            if has(self.lists.bounded, &part.item.path) {
                 self.note(&part.item.path);
             } else {
                 self.refused.push(part.refused(line, &format!("{NEEDS_FACTS} {what}: {NEEDS_FACTS_DO}")));
@@ -611,13 +620,12 @@ impl Check {
 
     fn unwinding(&mut self, part: &Part, files: &Files) {
         let path = part.item.path.as_str();
-        let is_played = |played: &&Played| played.functions.contains(&path);
-        let calls: Vec<_> = self.lists.played.iter().filter(is_played).map(|played| played.calls).collect();
-        if calls.is_empty() {
+        let played = self.lists.played.iter().filter(|played| has_word(played.functions, path)).collect::<Vec<_>>();
+        if played.is_empty() {
             return self.refused.push(part.refused(part.item.line, MAY_UNWIND));
         }
         self.note(&format!("played {path}"));
-        let calls = calls.concat();
+        let calls: Vec<&str> = played.iter().flat_map(|played| played.calls.split_whitespace()).collect();
         if calls.is_empty() && is_open(part, files) && takes_code(part, self) {
             self.refused.push(part.refused(part.item.line, HANDED_IN));
         }
@@ -691,120 +699,115 @@ const PUBLIC_VARIANT: &str = "has an invariant, and whoever sees an enum can mak
 
 // ---- The lists ----
 
-const ASKED: &str = "it is asked by the first statement, once, and what it gives is a text or a slice as any other: \
-                     the proof is of that";
-
-/// Bounds of a parameter that is asked once, without blanks.
-const ASKED_ONCE: &[(&str, &str)] = &[(":AsRef<str>", ASKED), (":AsRef<[u8]>", ASKED), (":AsRef<[u16]>", ASKED)];
-
-const ENDS: &str = "the two ends are numbers that were copied out of the range, and they are tested here";
-const PIECES: &str = "what the iterator gives is a text or a character in Rust whatever it does; each is bound once, \
-                      and `append_chars` and `append_strs` test room for it";
-const NEW_TEXT: &str = "the array, its start and its size begin as those of an empty text, `append_chars` and \
-                        `append_strs` leave them as those of a text whatever the iterator gives, and the string is \
-                        made of them behind the last item";
-const SAFETY: &str = "the precondition of this `unsafe fn` is of the items that the iterator gives in this call, each \
-                      is bound once, and nothing else of the bound is needed";
-const ANSWER: &str = "the answer only says whether the loop goes on, and what is dropped was tested or read before it";
+/// Bounds of a parameter that is asked once, each without blanks.
+const ASKED_ONCE: &[Words] = &[words(
+    "it is asked by the first statement, once, and what it gives is a text or a slice as any other: the proof is of \
+     that",
+    ":AsRef<str> :AsRef<[u8]> :AsRef<[u16]>",
+)];
 
 /// Functions that run a caller's code and have an access without a test, an `unsafe` call or a write of what an invariant is
 /// about, and why nothing of the bound is needed.
-const BOUNDED: &[(&str, &str)] = &[
-    ("arraystring_core::array_string::append::ArrayString::add_chars", PIECES),
-    ("arraystring_core::array_string::append::ArrayString::append_chars", PIECES),
-    ("arraystring_core::array_string::append::ArrayString::add_strs", PIECES),
-    ("arraystring_core::array_string::append::ArrayString::append_strs", PIECES),
-    ("arraystring_core::array_string::construct::ArrayString::try_from_iterator", NEW_TEXT),
-    ("arraystring_core::array_string::construct::ArrayString::from_iterator", NEW_TEXT),
-    ("arraystring_core::array_string::construct::ArrayString::try_from_chars", NEW_TEXT),
-    ("arraystring_core::array_string::construct::ArrayString::from_chars", NEW_TEXT),
-    ("arraystring_core::array_string::unchecked::ArrayString::from_iterator_unchecked", SAFETY),
-    ("cache_string::CacheString::from_iterator_unchecked", SAFETY),
-    ("cache_string::CacheString::from_chars_unchecked", SAFETY),
-    ("arraystring_core::array_string::drained_range::ArrayString::drain_through", ENDS),
-    ("arraystring_core::array_string::ascii::ArrayString::make_ascii_uppercase_in", ENDS),
-    ("arraystring_core::array_string::ascii::ArrayString::make_ascii_lowercase_in", ENDS),
-    (
-        "arraystring_core::array_string::retain::ArrayString::retain",
-        "what it hands to `retain_at` is read from the fields, before the closure is called",
+const BOUNDED: &[Words] = &[
+    words(
+        "what the iterator gives is a text or a character in Rust whatever it does; each is bound once, and \
+         `append_chars` and `append_strs` test room for it",
+        "arraystring_core::array_string::append::ArrayString::add_chars \
+         arraystring_core::array_string::append::ArrayString::append_chars \
+         arraystring_core::array_string::append::ArrayString::add_strs \
+         arraystring_core::array_string::append::ArrayString::append_strs",
     ),
-    (
-        "arraystring_core::array_string::retain::retain_at",
+    words(
+        "the array, its start and its size begin as those of an empty text, `append_chars` and `append_strs` leave \
+         them as those of a text whatever the iterator gives, and the string is made of them behind the last item",
+        "arraystring_core::array_string::construct::ArrayString::try_from_iterator \
+         arraystring_core::array_string::construct::ArrayString::from_iterator \
+         arraystring_core::array_string::construct::ArrayString::try_from_chars \
+         arraystring_core::array_string::construct::ArrayString::from_chars",
+    ),
+    words(
+        "the precondition of this `unsafe fn` is of the items that the iterator gives in this call, each is bound \
+         once, and nothing else of the bound is needed",
+        "arraystring_core::array_string::unchecked::ArrayString::from_iterator_unchecked \
+         cache_string::CacheString::from_iterator_unchecked \
+         cache_string::CacheString::from_chars_unchecked",
+    ),
+    words(
+        "the two ends are numbers that were copied out of the range, and they are tested here",
+        "arraystring_core::array_string::drained_range::ArrayString::drain_through \
+         arraystring_core::array_string::ascii::ArrayString::make_ascii_uppercase_in \
+         arraystring_core::array_string::ascii::ArrayString::make_ascii_lowercase_in",
+    ),
+    words(
+        "what it hands to `retain_at` is read from the fields, before the closure is called",
+        "arraystring_core::array_string::retain::ArrayString::retain",
+    ),
+    words(
         "the answer only says whether a character is kept: `read` goes on by it in both cases, and `kept` by at most \
          as much",
+        "arraystring_core::array_string::retain::retain_at",
     ),
-    ("arraystring_core::array_string::trim::ArrayString::drop_trailing", ANSWER),
-    ("arraystring_core::array_string::trim::ArrayString::drop_leading_ascii", ANSWER),
-    ("arraystring_core::array_string::trim::ArrayString::drop_leading_decoded", ANSWER),
+    words(
+        "the answer only says whether the loop goes on, and what is dropped was tested or read before it",
+        "arraystring_core::array_string::trim::ArrayString::drop_trailing \
+         arraystring_core::array_string::trim::ArrayString::drop_leading_ascii \
+         arraystring_core::array_string::trim::ArrayString::drop_leading_decoded",
+    ),
 ];
-
-const BETWEEN: &str = "between two items the array, its start and its size are those of the text so far";
-const BEFORE: &str = "the range and the text are asked before anything is written";
-const OWN_CLOSURE: &str = "the closure is a function of `trim`, which can't panic, and no caller hands one in";
 
 /// Functions that run a caller's code and write what an invariant is about, and the calls by which rust/arraystring/tests/unwinding.rs
 /// plays code that panics there.
 const PLAYED: &[Played] = &[
     Played {
-        functions: &[
-            "arraystring_core::array_string::append::ArrayString::add_chars",
-            "arraystring_core::array_string::append::ArrayString::append_chars",
-            "arraystring_core::array_string::construct::ArrayString::try_from_chars",
-            "arraystring_core::array_string::construct::ArrayString::from_chars",
-            "arraystring_core::array_string::push::ArrayString::extend_chars",
-        ],
-        calls: &["extend_chars", "try_from_chars", "from_chars"],
-        why: BETWEEN,
+        functions: "arraystring_core::array_string::append::ArrayString::add_chars \
+                    arraystring_core::array_string::append::ArrayString::append_chars \
+                    arraystring_core::array_string::construct::ArrayString::try_from_chars \
+                    arraystring_core::array_string::construct::ArrayString::from_chars \
+                    arraystring_core::array_string::push::ArrayString::extend_chars",
+        calls: "extend_chars try_from_chars from_chars",
+        why: "between two items the array, its start and its size are those of the text so far",
     },
     Played {
-        functions: &[
-            "arraystring_core::array_string::append::ArrayString::add_strs",
-            "arraystring_core::array_string::append::ArrayString::append_strs",
-            "arraystring_core::array_string::construct::ArrayString::try_from_iterator",
-            "arraystring_core::array_string::construct::ArrayString::from_iterator",
-            "arraystring_core::array_string::push::ArrayString::extend_strs",
-        ],
-        calls: &["extend_strs", "try_from_iterator", "from_iterator"],
-        why: BETWEEN,
+        functions: "arraystring_core::array_string::append::ArrayString::add_strs \
+                    arraystring_core::array_string::append::ArrayString::append_strs \
+                    arraystring_core::array_string::construct::ArrayString::try_from_iterator \
+                    arraystring_core::array_string::construct::ArrayString::from_iterator \
+                    arraystring_core::array_string::push::ArrayString::extend_strs",
+        calls: "extend_strs try_from_iterator from_iterator",
+        why: "between two items the array, its start and its size are those of the text so far",
     },
     Played {
-        functions: &[
-            "arraystring_core::array_string::drained_range::ArrayString::drain",
-            "arraystring_core::array_string::counted::ArrayString::drain_counted",
-            "arraystring_core::array_string::drained_range::ArrayString::drain_through",
-            "arraystring_core::array_string::replaced_range::ArrayString::replace_range",
-            "arraystring_core::array_string::counted::ArrayString::replace_range_counted",
-            "arraystring_core::array_string::ascii::ArrayString::make_ascii_uppercase_in",
-            "arraystring_core::array_string::ascii::ArrayString::make_ascii_lowercase_in",
-        ],
-        calls: &["drain", "replace_range", "make_ascii_uppercase_in", "make_ascii_lowercase_in"],
-        why: BEFORE,
+        functions: "arraystring_core::array_string::drained_range::ArrayString::drain \
+                    arraystring_core::array_string::counted::ArrayString::drain_counted \
+                    arraystring_core::array_string::drained_range::ArrayString::drain_through \
+                    arraystring_core::array_string::replaced_range::ArrayString::replace_range \
+                    arraystring_core::array_string::counted::ArrayString::replace_range_counted \
+                    arraystring_core::array_string::ascii::ArrayString::make_ascii_uppercase_in \
+                    arraystring_core::array_string::ascii::ArrayString::make_ascii_lowercase_in",
+        calls: "drain replace_range make_ascii_uppercase_in make_ascii_lowercase_in",
+        why: "the range and the text are asked before anything is written",
     },
     Played {
-        functions: &[
-            "arraystring_core::array_string::retain::ArrayString::retain",
-            "arraystring_core::array_string::retain::retain_at",
-        ],
-        calls: &["retain"],
+        functions: "arraystring_core::array_string::retain::ArrayString::retain \
+                    arraystring_core::array_string::retain::retain_at",
+        calls: "retain",
         why: "while the closure runs, the size is that of what was kept, which lies in front",
     },
     Played {
-        functions: &[
-            "arraystring_core::array_string::trim::ArrayString::trim",
-            "arraystring_core::array_string::counted::ArrayString::trim_counted",
-            "arraystring_core::array_string::trim::ArrayString::trim_spaces",
-            "arraystring_core::array_string::trim::ArrayString::drop_trailing",
-            "arraystring_core::array_string::trim::ArrayString::drop_leading",
-            "arraystring_core::array_string::trim::ArrayString::drop_leading_ascii",
-            "arraystring_core::array_string::trim::ArrayString::drop_leading_decoded",
-        ],
-        calls: &[],
-        why: OWN_CLOSURE,
+        functions: "arraystring_core::array_string::trim::ArrayString::trim \
+                    arraystring_core::array_string::counted::ArrayString::trim_counted \
+                    arraystring_core::array_string::trim::ArrayString::trim_spaces \
+                    arraystring_core::array_string::trim::ArrayString::drop_trailing \
+                    arraystring_core::array_string::trim::ArrayString::drop_leading \
+                    arraystring_core::array_string::trim::ArrayString::drop_leading_ascii \
+                    arraystring_core::array_string::trim::ArrayString::drop_leading_decoded",
+        calls: "",
+        why: "the closure is a function of `trim`, which can't panic, and no caller hands one in",
     },
 ];
 
 /// Calls without arguments that change nothing, so that an index of what they return is the same before or after them.
-const PLAIN_CALLS: &[(&str, &str)] = &[("as_str", "it reads a text, and takes a `&self`")];
+const PLAIN_CALLS: &[Words] = &[words("it reads a text, and takes a `&self`", "as_str")];
 
 const fn words(why: &'static str, words: &'static str) -> Words {
     Words { words, why }
@@ -1159,11 +1162,9 @@ impl Check {
     }
 
     fn word(&mut self, part: &Part, word: &str, line: usize) {
-        let is_listed =
-            self.lists.words.iter().any(|words| words.words.split_whitespace().any(|listed| listed == word));
         if word == ENDLESS {
             self.refused.push(part.refused(line, ENDLESS_RANGE));
-        } else if is_listed {
+        } else if has(self.lists.words, word) {
             self.note(&format!("word {word}"));
         } else {
             self.refused.push(part.refused(line, &format!("has `{word}`, {NEW_WORD}")));
@@ -1192,8 +1193,7 @@ const COPY: &str = ".copy_from_slice";
 /// Where the operand begins that ends some tokens, if it is a path of fields and of plain calls.
 fn start_of_path(tokens: &[Token], changing: &BTreeSet<String>, check: &mut Check) -> Option<usize> {
     let lists = check.lists;
-    let is_plain =
-        |name: &Token| lists.plain_calls.iter().any(|(plain, _)| name.is(plain)) && !changing.contains(&name.text);
+    let is_plain = |name: &Token| has(lists.plain_calls, &name.text) && !changing.contains(&name.text);
     let mut front = tokens;
     loop {
         front = match front {
@@ -1338,16 +1338,12 @@ const ASSIGNS: &str = "a clause with a `=` that stands neither in `let .. in` no
 
 /// The entries of the lists as they are noted when they are used, each with its reason.
 fn entries(lists: &'static Lists) -> Vec<(String, &'static str)> {
-    let mut entries: Vec<(String, &'static str)> = Vec::new();
-    entries.extend(lists.asked_once.iter().chain(lists.bounded).map(|(entry, why)| (entry.to_string(), *why)));
-    for played in lists.played {
-        entries.extend(played.functions.iter().map(|path| (format!("played {path}"), played.why)));
-    }
-    for words in lists.words {
-        entries.extend(words.words.split_whitespace().map(|word| (format!("word {word}"), words.why)));
-    }
-    entries.extend(lists.plain_calls.iter().map(|(name, why)| (format!("call {name}"), *why)));
-    entries
+    let kinds = [("", lists.asked_once), ("", lists.bounded), ("word ", lists.words), ("call ", lists.plain_calls)];
+    let of_words = kinds.iter().flat_map(|(kind, list)| list.iter().map(|words| (*kind, words.words, words.why)));
+    let of_played = lists.played.iter().map(|played| ("played ", played.functions, played.why));
+    let all = of_words.chain(of_played);
+    all.flat_map(|(kind, words, why)| words.split_whitespace().map(move |word| (format!("{kind}{word}"), why)))
+        .collect()
 }
 
 /// What is wrong with the lists.

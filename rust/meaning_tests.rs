@@ -239,18 +239,18 @@ fn a_text_that_is_asked_once_is_a_text() {
 
 #[test]
 fn a_function_of_the_list_has_a_reason_and_a_use() {
-    static LISTED: Lists = Lists { bounded: &[("arraystring_base::a::three", "a test")], ..RULES };
+    static LISTED: Lists = Lists { bounded: &[words("a test", "arraystring_base::a::three")], ..RULES };
     assert_eq!(refused(&pair(THREE, &without_tests(THREE)), &LISTED), [""; 0]);
     static NONE: Lists = Lists { asked_once: &[], bounded: &[], played: &[], words: &[], plain_calls: &[] };
     let faults = |lists| check(&pair("", ""), lists);
-    static STALE: Lists = Lists { bounded: &[("arraystring_base::a::three", " ")], ..NONE };
+    static STALE: Lists = Lists { bounded: &[words(" ", "arraystring_base::a::three")], ..NONE };
     let stale = "nothing uses the entry `arraystring_base::a::three` of a list: take it out";
     let empty = "the entry `arraystring_base::a::three` of a list has no reason: write why";
     assert_eq!(faults(&STALE), [stale, empty]);
     static TWICE: Lists = Lists { words: &[words("a test", "+ +")], ..NONE };
     assert!(faults(&TWICE).contains(&"the entry `word +` of a list is there twice: take one out".to_string()));
     static PLAYS: Lists =
-        Lists { played: &[Played { functions: &["f"], calls: &[], why: "" }], plain_calls: &[("g", "")], ..NONE };
+        Lists { played: &[Played { functions: "f", calls: "", why: "" }], plain_calls: &[words("", "g")], ..NONE };
     assert_eq!(faults(&PLAYS).len(), 4);
 }
 
@@ -316,7 +316,7 @@ const UNWINDS: &str =
     "runs a caller's code, which may panic, and writes what an invariant is about: let the invariant hold";
 
 /// The functions of `A` in these tests that are known to need nothing of a bound.
-static ANY: Lists = Lists { bounded: &[("arraystring_base::a::A::f", "a test")], ..RULES };
+static ANY: Lists = Lists { bounded: &[words("a test", "arraystring_base::a::A::f")], ..RULES };
 
 #[test]
 fn a_broken_invariant_lasts_through_no_call_of_a_callers() {
@@ -371,15 +371,11 @@ fn what_may_unwind_is_played_by_the_tests() {
     let source =
         guarded("    pub fn f<T: Ord>(&mut self, a: &T, b: &T) -> bool {\n        self.size = 0; a < b\n    }");
     let files = pair(&source, &made(&source));
-    static RETAINED: Lists = Lists {
-        played: &[Played { functions: &["arraystring_base::a::A::f"], calls: &["retain"], why: "a test" }],
-        ..ANY
-    };
+    static RETAINED: Lists =
+        Lists { played: &[Played { functions: "arraystring_base::a::A::f", calls: "retain", why: "a test" }], ..ANY };
     assert_eq!(refused(&files, &RETAINED), [""; 0]);
-    static DRAINED: Lists = Lists {
-        played: &[Played { functions: &["arraystring_base::a::A::f"], calls: &["drain"], why: "a test" }],
-        ..ANY
-    };
+    static DRAINED: Lists =
+        Lists { played: &[Played { functions: "arraystring_base::a::A::f", calls: "drain", why: "a test" }], ..ANY };
     let found = refused(&files, &DRAINED);
     assert!(
         found.len() == 1
@@ -387,7 +383,7 @@ fn what_may_unwind_is_played_by_the_tests() {
         "{found:#?}"
     );
     static OWN: Lists =
-        Lists { played: &[Played { functions: &["arraystring_base::a::A::f"], calls: &[], why: "a test" }], ..ANY };
+        Lists { played: &[Played { functions: "arraystring_base::a::A::f", calls: "", why: "a test" }], ..ANY };
     let found = refused(&files, &OWN);
     assert!(
         found.len() == 1 && found[0].contains("is said to run no caller's code, and others may hand some in"),
@@ -426,10 +422,10 @@ fn what_plays_a_call_is_of_a_type() {
 #[test]
 fn each_call_that_plays_a_function_is_made() {
     let source = guarded("    pub fn f<T: Ord>(&mut self, a: &T) -> bool {\n        self.size = 0; a < a\n    }");
-    const fn playing(calls: &'static [&'static str]) -> Played {
-        Played { functions: &["arraystring_base::a::A::f"], calls, why: "a test" }
+    const fn playing(calls: &'static str) -> Played {
+        Played { functions: "arraystring_base::a::A::f", calls, why: "a test" }
     }
-    static THREE: Lists = Lists { played: &[playing(&["retain", "drain"]), playing(&["other"])], ..ANY };
+    static THREE: Lists = Lists { played: &[playing("retain drain"), playing("other")], ..ANY };
     let nowhere = |call: &str| {
         format!("{HERE}:7: `arraystring_base::a::A::f` is played by `{call}`, and {UNWINDING} calls it nowhere")
     };
