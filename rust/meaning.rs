@@ -273,7 +273,7 @@ impl Names {
         for part in sources {
             let head = &part.item.head;
             let Some((kind, name)) = part.kind_and_name() else { continue };
-            if lends(head) {
+            if part.item.is_function && lends(head) {
                 names.changing.insert(name.to_string());
             }
             match kind {

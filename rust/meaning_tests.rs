@@ -1243,12 +1243,13 @@ fn m(mut n: A) {}
 fn t(u: u8, v: &mut A) {}
 fn w<'a>(x: &'a mut A) {}
 fn y(z: &'a A) {}
+struct Z<'a> { b: &'a mut A }
 ";
     let origin = Origin { language: Language::Rattle, krate: "arraystring_base", module: "a", orders: &[] };
     let parts = items(source, origin).expect("items").into_iter().map(|item| Part { file: SOURCE.to_string(), item });
     let names = Names::new(&parts.collect::<Vec<_>>());
     let shown = |set: &BTreeSet<String>| set.iter().map(String::as_str).collect::<Vec<_>>().join(" ");
-    assert_eq!(shown(&names.types), "A C D E F G");
+    assert_eq!(shown(&names.types), "A C D E F G Z");
     assert_eq!(shown(&names.fields), "b");
     assert_eq!(shown(&names.methods), "i j k");
     assert_eq!(shown(&names.changing), "j k t w");
