@@ -412,7 +412,7 @@ fn start_of_last(tokens: &[Token], opens: fn(&Token) -> bool, closes: fn(&Token)
     let mut depth = 0;
     tokens.iter().rposition(|token| {
         depth += i32::from(closes(token)) - i32::from(opens(token));
-        depth == 0
+        depth <= 0
     })
 }
 
@@ -900,7 +900,7 @@ impl Check {
     fn names(&mut self, program: &Program, files: &Files) {
         for part in program.sources.iter().chain(&program.made) {
             let words = pattern(part.last());
-            if words.last().is_some_and(|name| program.access.has(name)) {
+            if words.last().filter(|name| program.access.has(name)).is_some() {
                 self.refused.push(part.refused(part.item.line, TAKEN_NAME));
             } else if TRAITS_OF_PLACES.iter().any(|head| position(&words, &pattern(head)).is_some()) {
                 self.refused.push(part.refused(part.item.line, OWN_PLACES));
@@ -970,7 +970,7 @@ fn first_part<'a>(tokens: &'a [Token], ends: &[&str]) -> &'a [Token] {
     let mut depth = 0;
     let is_end = |token: &Token| {
         depth += i32::from(opens(token)) - i32::from(closes(token));
-        depth == 0 && ends.iter().any(|end| token.is(end))
+        depth <= 0 && ends.iter().any(|end| token.is(end))
     };
     tokens.split(is_end).next().unwrap_or_default()
 }
@@ -980,7 +980,7 @@ fn start_of_arm(body: &[Token], arrow: usize) -> usize {
     let mut depth = 0;
     let end = body.iter().enumerate().take(arrow).rposition(|(at, token)| {
         let is_end = token.is(",") || token.is("{") || token.is("}") && at + 1 < arrow;
-        let is_outside = depth == 0;
+        let is_outside = depth <= 0;
         depth += i32::from(closes(token)) - i32::from(opens(token));
         is_outside && is_end
     });

@@ -506,6 +506,7 @@ fn a_new_word_of_an_item_stops() {
         ("pub struct A(i8);\n", "i8"),
         ("use core::mem::size_of;\n", "use:core::mem::size_of"),
         ("use core::mem as m;\n", "use:core::mem:m"),
+        ("use other;\n", "use:other"),
         ("pub const A: usize = usize::MAX;\n", "usize::MAX"),
         ("async fn f() {}\n", "async"),
     ] {
@@ -516,6 +517,9 @@ fn a_new_word_of_an_item_stops() {
         );
     }
     passes("#[derive(Clone, Copy)]\npub struct A(u8);\n", "#[derive(Clone, Copy)]\npub struct A(u8);\n");
+    // What only the head of an impl has is told at each function.
+    let in_impl = "pub struct A(u8);\nimpl A<i8> {\n\n    fn f() {}\n}\n";
+    stops(in_impl, in_impl, "a.rt:4: `arraystring_base::a::A::f` has `i8`, which is in no list");
 }
 
 // ---- Names ----
@@ -934,6 +938,9 @@ fn each_word_and_sign_is_listed_by_what_it_is() {
     let bound = ["bound".to_string()].into();
     for (text, word, wanted) in [
         ("a as u8", "u8", Some("as:u8")),
+        ("a as Self", "Self", Some("as:Self")),
+        ("a.await", "await", Some(".await")),
+        ("a::super", "super", Some("a::super")),
         ("a.method()", "method", None),
         ("a.other()", "other", Some(".other()")),
         ("a.other::<u8>()", "other", Some(".other()")),
@@ -977,6 +984,7 @@ fn each_word_and_sign_is_listed_by_what_it_is() {
         ("a[b..]", "..", Some("a..]")),
         ("a[..]", "..", Some("a..]")),
         ("a()[b(c)..]", "..", Some("a..]")),
+        ("(a[b..])", "..", Some("a..]")),
         ("[a..]", "..", Some("a..")),
         ("a = [b(c), d..]", "..", Some("a..")),
         ("let [a, ..] = b;", "..", Some("a..]")),
@@ -988,6 +996,9 @@ fn each_word_and_sign_is_listed_by_what_it_is() {
         ("for a in b.. {}", "..", Some("a..")),
         ("for a in b { c[d..e]; }", "..", Some("..")),
         ("for a in b; c..d", "..", Some("..")),
+        ("for a in b { c..d; }", "..", Some("..")),
+        ("for a in b[c..d] {}", "..", Some("..")),
+        ("a; for b in c..d {}", "..", Some("in:a..b")),
         ("g(b..)", "..", Some("a..")),
         ("let a = b..;", "..", Some("a..")),
         ("g(b.., c)", "..", Some("a..")),
@@ -995,7 +1006,9 @@ fn each_word_and_sign_is_listed_by_what_it_is() {
         ("g(..)", "..", Some("..")),
         ("g(.., a)", "..", Some("..")),
         ("matches!(a, b..)", "..", Some("matches!(a..)")),
-        ("c && matches!(a(b), c..)", "..", Some("matches!(a..)")),
+        ("c && matches!(a(b(c)), d..)", "..", Some("matches!(a..)")),
+        ("g(matches!(a, b..))", "..", Some("matches!(a..)")),
+        ("matches!(a, g(b..))", "..", Some("a..")),
         ("c && matches![a[b], c..]", "..", Some("matches!(a..)")),
         ("c && matches! { a {b}, c.. }", "..", Some("matches!(a..)")),
         ("matches!(a, b) && c(..)", "..", Some("..")),
@@ -1063,6 +1076,8 @@ fn an_operand_ends_before_its_index() {
     for (text, sign, wanted) in [
         ("a.b[c]", "[", Some(0)),
         ("d + a.b.0[c]", "[", Some(2)),
+        ("g(a[c])", "[", Some(2)),
+        ("as_str + a[c]", "[", Some(2)),
         ("self.a[c]", "[", Some(0)),
         ("self.as_str()[c]", "[", Some(0)),
         ("self.other()[c]", "[", None),
@@ -1398,6 +1413,9 @@ fn a_call_is_of_a_function_by_its_name_and_its_type() {
         let found = with_callers(&functions, [seed].into(), &names);
         assert_eq!(found.into_iter().collect::<Vec<_>>(), wanted);
     }
+    // The caller first.
+    let found = with_callers(&[functions[1], functions[0]], [1].into(), &names);
+    assert_eq!(found.into_iter().collect::<Vec<_>>(), [0, 1]);
 }
 
 /// What is named of the sources has to have its like in what is made; what has none is not looked at.
