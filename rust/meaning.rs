@@ -498,11 +498,8 @@ fn is_assignment(token: &Token) -> bool {
 fn is_lent_to_write(body: &[Token], end: usize) -> bool {
     let is_of_path = |token: &Token| token.kind == Kind::Word && !token.is("mut") || token.is(".");
     let is_macro = |name: &Token| name.text.starts_with("copy_") || name.text.contains("_mut");
-    let mut front = &body[..end];
-    while let Some((_, rest)) = front.split_last().filter(|(last, _)| is_of_path(last)) {
-        front = rest;
-    }
-    match front {
+    let Some(last) = body.iter().take(end).rposition(|token| !is_of_path(token)) else { return false };
+    match &body[..=last] {
         [.., word] if word.is("mut") => true,
         [.., name, sign, _] => sign.is("!") && is_macro(name),
         _ => false,
@@ -515,7 +512,7 @@ fn is_value(part: &Part, at: usize, program: &Program) -> bool {
     let is_before = |open: &str| behind.starts_with(&pattern(open));
     let mut names = between_commas(inside(behind)).into_iter().filter_map(|field| field.first());
     let mut has_field = || names.any(|name| program.is_guarded_field(&name.text));
-    let is_here = || word.is("Self") && part.owner().is_some_and(|owner| program.is_guarded(&owner));
+    let is_here = || word.is("Self") && part.owner().filter(|owner| program.is_guarded(owner)).is_some();
     let is_type = word.text.starts_with(|ch: char| ch.is_ascii_uppercase());
     is_type && (is_before("{") && has_field() || is_before("(") && (program.is_guarded(&word.text) || is_here()))
 }
@@ -1030,7 +1027,7 @@ impl Spelling<'_> {
         let (token, names) = (&self.tokens[at], self.names);
         let word = token.text.as_str();
         let is_called = self.is(at + 1, "(") || self.is(at + 1, "::") && self.is(at + 2, "<");
-        if self.before(at, "as") && !self.before(at, "::") {
+        if self.before(at, "as") {
             return Some(format!("as:{word}"));
         }
         if self.before(at, ".") {
