@@ -444,7 +444,7 @@ fn a_range_without_an_end_is_walked_by_nobody() {
     let endless = "has a range of numbers without an end, which stops at the greatest number in Rattle, and wraps or \
                    panics in Rust: write its end";
     for of in ["250..", "a..", "(a..)"] {
-        stops(&source(of), &source(of), endless);
+        stops(&source(of), &source(of), &format!("a.rt:3: `arraystring_base::a::f` {endless}"));
     }
     let found = refused(&pair(&source("250u8.."), &source("250u8..")), &RULES);
     assert!(found.len() == 2 && found[0].contains(endless) && found[1].contains("`number:u8`"), "{found:#?}");
@@ -580,7 +580,8 @@ fn an_index_of_the_sources_is_refused() {
     for name in ["Index<usize>", "IndexMut<usize>", "Deref", "DerefMut", "core::ops::Index<usize>"] {
         let own = format!("pub struct A(u8);\nimpl {name} for A {{}}\n");
         let found = refused(&pair(&own, &own), &RULES);
-        assert!(found[0].contains("makes an index, or a method behind a point, mean this in an access"), "{found:#?}");
+        let why = "makes an index, or a method behind a point, mean this in an access";
+        assert!(found[0].starts_with(&format!("{SOURCE}:2: ")) && found[0].contains(why), "{found:#?}");
     }
 }
 
@@ -633,7 +634,8 @@ fn an_operand_is_bound_before_its_index() {
         "all[1..count].copy_from_slice(pick(&mut count, all))",
     ] {
         let found = refused(&pair(&source(body), &source(body)), &RULES);
-        assert!(found.iter().any(|found| found.contains(order)), "{body}: {found:#?}");
+        let place = format!("{SOURCE}:7: `arraystring_base::a::A::f` has an index");
+        assert!(found.iter().any(|found| found.starts_with(&place) && found.contains(order)), "{body}: {found:#?}");
     }
     for body in [
         "let picked = pick(count, all); let first = &picked[count..count + 1]",
