@@ -61,10 +61,9 @@ impl Part {
     /// The type whose impl it is in, or none.
     fn owner(&self) -> Option<String> {
         let around = self.around();
-        let head = without_angles(&around[position(&around, &pattern("impl"))? + 1..]);
-        let of = position(&head, &pattern("for")).map_or(0, |found| found + 1);
-        let of_type = first_part(&head[of..], &["where"]);
-        of_type.iter().rfind(|token| token.kind == Kind::Word).map(|token| token.text.clone())
+        let head = without_angles(&around[position(&around, &pattern("impl"))?..]);
+        let last = first_part(&head, &["where"]).iter().rfind(|token| token.kind == Kind::Word);
+        last.map(|token| token.text.clone())
     }
 
     /// The tokens of the impl around it, and of the modules in its file.

@@ -870,6 +870,7 @@ fn a_new_value_of_a_type_with_an_invariant_is_known() {
         ("unsafe { g() }", Some("`unsafe`")),
         ("get_unchecked!(a, 1);", Some("`get_unchecked!`")),
         ("self.size = 1;", Some("a write of `size`")),
+        ("self.size = 1; unsafe { g() }", Some("`unsafe`")),
         ("self.size", None),
     ] {
         let program = program_of("");
