@@ -675,6 +675,12 @@ fn a_step_of_a_proof_changes_nothing() {
         };
         assert!(found.len() == 1 && is_it(&found[0]), "{step}: {found:#?}");
     }
+    // A source of which nothing is made has proofs, too.
+    let mut files = pair("", "");
+    files.insert(SOURCE.replace("a.rt", "b.rt"), format!("\n{}", source("*x = 3")));
+    let found = refused(&files, &RULES);
+    let place = "crates/arraystring_base/src/b.rt:3: `=` in `prove!(*x = 3)`";
+    assert!(found.len() == 1 && found[0].starts_with(place), "{found:#?}");
     for step in ["y < 3", "y == 3", "y <= x.offset + 3", "(y + 1) * 2 != 3"] {
         passes(&source(step), &without_ghosts(&source(step)));
     }
@@ -1375,6 +1381,9 @@ fn what_can_not_be_read_is_told() {
     let mut files = pair("fn f() {}\n", "fn f() {}\n");
     files.insert(ACCESS.to_string(), "\nmacro_rules! m { \"".to_string());
     let wanted = format!("{ACCESS}:2: a text without its end");
+    assert_eq!(refused(&files, &RULES), [wanted.as_str()]);
+    // Of two faults the first that is met is told.
+    files.insert(SOURCE.to_string(), "}\n".to_string());
     assert_eq!(refused(&files, &RULES), [wanted]);
 }
 
