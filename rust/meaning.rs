@@ -1127,9 +1127,9 @@ fn number(text: &str) -> Option<String> {
 
 /// How a text or a character is listed that is more than its characters.
 fn literal(text: &str) -> Option<String> {
-    let prefix = text.find(['"', '\'']).unwrap_or(0);
-    let is_plain = prefix == 0 && !text.contains('\\');
-    (!is_plain).then(|| format!("literal:{}{}", &text[..prefix], if text.contains('\\') { "\\" } else { "" }))
+    let prefix = text.split(['"', '\'']).next().unwrap_or_default();
+    let escape = if text.contains('\\') { "\\" } else { "" };
+    (!prefix.is_empty() || !escape.is_empty()).then(|| format!("literal:{prefix}{escape}"))
 }
 
 impl Check {
