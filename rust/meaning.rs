@@ -961,12 +961,12 @@ fn pattern_at(body: &[Token], at: usize) -> &[Token] {
     }
 }
 
-/// What stands before the first of some words and signs that is in no brackets.
+/// What stands before the first of some words and signs that is in no brackets, or before the end of the brackets around.
 fn first_part<'a>(tokens: &'a [Token], ends: &[&str]) -> &'a [Token] {
     let mut depth = 0;
     let is_end = |token: &Token| {
         depth += i32::from(opens(token)) - i32::from(closes(token));
-        depth <= 0 && ends.iter().any(|end| token.is(end))
+        depth < 0 || depth == 0 && ends.iter().any(|end| token.is(end))
     };
     tokens.split(is_end).next().unwrap_or_default()
 }
@@ -1214,15 +1214,18 @@ fn is_operator(token: &Token) -> bool {
 }
 
 impl Check {
-    /// The operand of an index, a part or a copy is a path, and nothing beside it changes anything: so the two languages may evaluate
-    /// them in any order.
+    /// The operand of an index, a part or a copy is a path, and nothing beside it, or beside a `+=`, changes anything: so the two
+    /// languages may evaluate them in any order.
     fn operands(&mut self, program: &Program) {
         for part in program.in_both().filter(|part| part.item.is_function) {
             let body = &part.item.body;
             for ((last, sign), at) in neighbours(body).zip(1..) {
                 let is_index = sign.is("[") && is_behind_operand(last);
                 let is_access = is_index || body[at..].starts_with(&pattern(COPY));
-                if is_access && !self.is_ordered(body, at, &program.names.changing) {
+                let changing = &program.names.changing;
+                let is_sum = is_assignment(sign) && !sign.is("=");
+                let is_beside_change = is_sum && changes(first_part(&body[at + 1..], &[";"]), changing);
+                if is_beside_change || is_access && !self.is_ordered(body, at, changing) {
                     self.refused.push(part.refused(sign.line, ORDER));
                 }
             }
@@ -1267,9 +1270,9 @@ fn operand_end(body: &[Token], at: usize) -> usize {
     if is_part { start_of_last(front, opens, closes).unwrap_or(at) } else { at }
 }
 
-const ORDER: &str = "has an index, a part or a copy of what is no path of fields, or beside what changes something, and the two \
-                     languages need not evaluate these in one order: bind it before by `let`, or enter a call that \
-                     changes nothing in `PLAIN_CALLS` of rust/meaning.rs";
+const ORDER: &str = "has an index, a part or a copy of what is no path of fields, or has one of these or a `+=` beside what \
+                     changes something, and the two languages need not evaluate these in one order: bind it before by \
+                     `let`, or enter a call that changes nothing in `PLAIN_CALLS` of rust/meaning.rs";
 
 // ---- Ghost parts ----
 

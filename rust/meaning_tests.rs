@@ -632,6 +632,8 @@ fn an_operand_is_bound_before_its_index() {
         "let part = &all[self.step()..count]",
         "let part = &all[{ count += 1; count }..]",
         "all[1..count].copy_from_slice(pick(&mut count, all))",
+        "count += self.step()",
+        "count -= { count = 1; count }",
     ] {
         let found = refused(&pair(&source(body), &source(body)), &RULES);
         let place = format!("{SOURCE}:7: `arraystring_base::a::A::f` has an index");
@@ -644,6 +646,8 @@ fn an_operand_is_bound_before_its_index() {
         "all[1..count].copy_from_slice(part)",
         "all[count] = part[count] + 1",
         "if all[count] == part[count] { count += 1; }",
+        "if count == 1 { count += count } else { count = 1 }",
+        "count = self.step()",
         "let more: [u8; 3] = [1; 3]",
     ] {
         passes(&source(body), &source(body));
@@ -1134,6 +1138,7 @@ fn an_operand_ends_before_its_index() {
         ("a[b] + c;", ["[ b ]", ""]),
         ("a[b] = c", ["[ b ]", "c"]),
         ("a[b] = { c; d }; e", ["[ b ]", "{ c ; d }"]),
+        ("a[b] = (c) } d = e;", ["[ b ]", "( c )"]),
         ("a.copy_from_slice(b) ; c", ["( b )", ""]),
     ] {
         let tokens = pattern(text);
