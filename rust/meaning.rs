@@ -14,7 +14,8 @@
 //! The folder is the repository, by default the one in which it runs. Status 1: something is refused, and each is printed with its
 //! place and with what to do. Status 2: it was called wrongly, or a file can't be read. Its tests are in `meaning_tests.rs`.
 
-use std::collections::{BTreeMap, BTreeSet};
+use std::collections::BTreeSet;
+use std::ops::Range;
 use std::path::Path;
 use std::process::ExitCode;
 
@@ -46,15 +47,23 @@ impl Part {
         self.item.key.rsplit("fn ").next().unwrap_or_default()
     }
 
+    /// What it is and its name, without what is around it.
+    fn last(&self) -> &str {
+        self.item.key.rsplit_once(" / ").map_or(&self.item.key, |(_, last)| last)
+    }
+
+    /// What it is and its name, of what has a name of one word.
+    fn kind_and_name(&self) -> Option<(&str, &str)> {
+        let words: Vec<&str> = self.last().split(' ').collect();
+        if let [kind, name] = words[..] { Some((kind, name)) } else { None }
+    }
+
     /// The type whose impl it is in, or none.
     fn owner(&self) -> Option<String> {
         let around = self.around();
-        let impl_at = around.iter().position(|token| token.is("impl"))?;
-        let behind = impl_at
-            + 1
-            + if around.get(impl_at + 1)?.is("<") { between_angles(&around, impl_at + 1).len() + 2 } else { 0 };
-        let of = around[behind..].iter().position(|token| token.is("for")).map_or(behind, |found| behind + found + 1);
-        around[of..].iter().find(|token| token.kind == Kind::Word).map(|token| token.text.clone())
+        let head = without_angles(&around[position(&around, &pattern("impl"))?..]);
+        let last = first_part(&head, &["where"]).iter().rfind(|token| token.kind == Kind::Word);
+        last.map(|token| token.text.clone())
     }
 
     /// The tokens of the impl around it, and of the modules in its file.
@@ -75,24 +84,27 @@ impl Access {
     /// Reads them off the file that has them.
     fn new(text: &str) -> Result<Self, Fault> {
         let tokens = tokens(text, Language::Rust)?;
-        let is = |at: usize, texts: &[&str]| texts.iter().zip(&tokens[at..]).all(|(text, token)| token.is(text));
-        let behind = |texts: &'static [&str]| {
-            (0..tokens.len().saturating_sub(3)).filter(move |at| is(*at, texts)).map(move |at| at + texts.len())
-        };
-        let name = |at: usize| tokens[at].text.clone();
         // (what of std is `unsafe` there has such a name, or is of pointers)
         let is_unsafe = |token: &Token| token.is("unsafe") || token.is("ptr") || token.text.contains("unchecked");
-        let has_unsafe = |at: &usize| {
-            let end = behind_group(&tokens, at + 1).unwrap_or(tokens.len());
-            tokens[at + 1..end].iter().any(is_unsafe)
-        };
-        let macros = || behind(&["macro_rules", "!"]);
-        let methods: BTreeSet<String> = behind(&["$", "of", "."]).map(name).collect();
+        let has_unsafe = |rest: &[Token]| rest[..behind_group(rest, 0).unwrap_or(rest.len())].iter().any(is_unsafe);
+        let methods: BTreeSet<String> =
+            named_behind(&tokens, "$of.").into_iter().map(|(name, _)| name.text.clone()).collect();
         if methods.is_empty() {
             return Err(Fault { line: 1, why: "no macro calls anything on its operand, `$of`".to_string() });
         }
-        let untested = macros().filter(has_unsafe).map(name).collect();
-        Ok(Access { macros: macros().map(name).collect(), untested, methods })
+        let mut macros = BTreeSet::new();
+        let mut untested = BTreeSet::new();
+        for (name, rest) in named_behind(&tokens, "macro_rules!") {
+            macros.insert(name.text.clone());
+            if has_unsafe(rest) {
+                untested.insert(name.text.clone());
+            }
+        }
+        Ok(Access { macros, untested, methods })
+    }
+
+    fn has(&self, name: &Token) -> bool {
+        self.macros.contains(&name.text) || self.methods.contains(&name.text)
     }
 
     /// The name of the macro without a test that begins at an index.
@@ -102,13 +114,20 @@ impl Access {
     }
 }
 
+/// Each token that stands behind some others, and what is behind it.
+fn named_behind<'a>(tokens: &'a [Token], others: &str) -> Vec<(&'a Token, &'a [Token])> {
+    let others = pattern(others);
+    let rests = tokens.iter().enumerate().filter_map(|(at, _)| tokens[at..].strip_prefix(&others[..]));
+    rests.filter_map(<[Token]>::split_first).collect()
+}
+
 /// The names that the sources define.
 #[derive(Default)]
 struct Names {
     functions: BTreeSet<String>,
     /// Functions with a `self`.
     methods: BTreeSet<String>,
-    /// Those with a `mut self`.
+    /// What takes something to write, a `self` or another argument.
     changing: BTreeSet<String>,
     /// Types, their variants and constants.
     types: BTreeSet<String>,
@@ -135,10 +154,27 @@ struct Program {
 const ACCESS: &str = "rust/arraystring/src/by_hand/access.rs";
 const UNWINDING: &str = "rust/arraystring/tests/unwinding.rs";
 
+/// A source that has a made file, and that.
+struct Pair<'a> {
+    /// The path and the text of the source.
+    source: (&'a str, &'a str),
+    made: (String, &'a str),
+    krate: &'a str,
+    module: String,
+}
+
+fn pairs(files: &Files) -> impl Iterator<Item = Pair<'_>> {
+    files.iter().filter_map(|(path, text)| {
+        let (krate, module) = module_of(path)?;
+        let here = path_of_made(&module);
+        let made = files.get(&here)?;
+        Some(Pair { source: (path, text), made: (here, made), krate, module })
+    })
+}
+
 /// Reads a file, or says why not.
-fn parts(files: &Files, path: &str, language: Language, krate: &str, module: &str) -> Result<Vec<Part>, String> {
-    let text = files.get(path).ok_or(format!("{path}: it is not there"))?;
-    let found = items(text, Origin { language, krate, module, orders: &[] });
+fn parts((path, text): (&str, &str), language: Language, pair: &Pair) -> Result<Vec<Part>, String> {
+    let found = items(text, Origin { language, krate: pair.krate, module: &pair.module, orders: &[] });
     let found = found.map_err(|fault| format!("{path}:{}: {}", fault.line, fault.why))?;
     let part = |item: Item| Part {
         file: path.to_string(),
@@ -151,14 +187,11 @@ impl Program {
     fn new(files: &Files) -> Result<Self, String> {
         let text = files.get(ACCESS).ok_or(format!("{ACCESS}: it is not there"))?;
         let access = Access::new(text).map_err(|fault| format!("{ACCESS}:{}: {}", fault.line, fault.why))?;
-        let (mut sources, mut made) = (Vec::new(), Vec::new());
-        for path in files.keys() {
-            let Some((krate, module)) = module_of(path) else { continue };
-            let here = path_of_made(&module);
-            if files.contains_key(&here) {
-                sources.extend(parts(files, path, Language::Rattle, krate, &module)?);
-                made.extend(parts(files, &here, Language::Rust, krate, &module)?);
-            }
+        let mut sources = Vec::new();
+        let mut made = Vec::new();
+        for pair in pairs(files) {
+            sources.extend(parts(pair.source, Language::Rattle, &pair)?);
+            made.extend(parts((&pair.made.0, pair.made.1), Language::Rust, &pair)?);
         }
         let names = Names::new(&sources);
         let guarded = guarded(files, &sources)?;
@@ -173,10 +206,9 @@ impl Program {
     /// The functions and other items of the sources that have their like in what is made. (A module that only keeps an order
     /// stands in the path of what is made.)
     fn in_both(&self) -> impl Iterator<Item = &Part> {
-        let last = |part: &Part| part.item.key.rsplit(" / ").next().unwrap_or_default().to_string();
         let file = |part: &Part| module_of(&part.file).map_or(part.file.clone(), |(_, module)| path_of_made(&module));
-        let made: BTreeSet<_> = self.made.iter().map(|part| (part.file.clone(), last(part))).collect();
-        self.sources.iter().filter(move |part| made.contains(&(file(part), last(part))))
+        let made: BTreeSet<_> = self.made.iter().map(|part| (part.file.clone(), part.last())).collect();
+        self.sources.iter().filter(move |part| made.contains(&(file(part), part.last())))
     }
 
     fn is_guarded(&self, name: &str) -> bool {
@@ -191,15 +223,22 @@ impl Program {
 /// The names of the fields of a struct, or the variants of an enum, by its tokens.
 fn members(head: &[Token]) -> Vec<String> {
     let open = group_of_type(head);
-    let Some(end) = behind_group(head, open) else { return Vec::new() };
-    let inside = without_angles(&head[open + 1..end - 1]);
-    let is_struct = head[..open].iter().any(|token| token.is("struct"));
+    let inside = without_angles(inside(&head[open..]));
+    let is_struct = head.iter().any(|token| token.is("struct"));
     let name = |(count, part): (usize, &[Token])| match position(part, &pattern(":")) {
         _ if head[open].is("(") => count.to_string(),
         Some(at) if is_struct => part[at - 1].text.clone(),
         _ => part.iter().find(|token| token.kind == Kind::Word).map(|token| token.text.clone()).unwrap_or_default(),
     };
     between_commas(&inside).into_iter().enumerate().map(name).collect()
+}
+
+/// What stands in the brackets that tokens begin with.
+fn inside(tokens: &[Token]) -> &[Token] {
+    match behind_group(tokens, 0).map(|end| &tokens[..end]) {
+        Some([_, inside @ .., _]) => inside,
+        _ => &[],
+    }
 }
 
 /// Tokens without what stands in angles, where a comma is none between fields.
@@ -216,36 +255,39 @@ fn without_angles(tokens: &[Token]) -> Vec<Token> {
 
 /// Where the group of a type's fields or variants begins, behind its name and its generics.
 fn group_of_type(head: &[Token]) -> usize {
-    let word = head.iter().position(|token| ["struct", "enum"].iter().any(|word| token.is(word))).unwrap_or(0);
-    let group = head[word..].iter().position(|token| token.is("{") || token.is("("));
-    group.map_or(head.len(), |group| word + group)
+    let is_word = |at: &usize| head[*at].is("struct") || head[*at].is("enum");
+    let mut behind = (0..head.len()).skip_while(|at| !is_word(at));
+    behind.find(|at| head[*at].is("{") || head[*at].is("(")).unwrap_or(head.len())
+}
+
+/// Whether a function takes a `&mut`, or a `mut self`.
+fn lends(head: &[Token]) -> bool {
+    let is_lent = |(sign, word): (&Token, &Token)| word.is("mut") && (sign.is("&") || sign.kind == Kind::Lifetime);
+    neighbours(head).any(is_lent) || position(head, &pattern("mut self")).is_some()
 }
 
 impl Names {
     fn new(sources: &[Part]) -> Self {
         let mut names = Names::default();
         for part in sources {
-            let last = part.item.key.rsplit(" / ").next().unwrap_or_default();
-            let Some((kind, name)) = last.split_once(' ') else { continue };
-            let name = name.to_string();
-            if position(&part.item.head, &pattern("mut self")).is_some() {
-                names.changing.insert(name.clone());
+            let head = &part.item.head;
+            let Some((kind, name)) = part.kind_and_name() else { continue };
+            if part.item.is_function && lends(head) {
+                names.changing.insert(name.to_string());
             }
             match kind {
-                "fn" if part.item.head.iter().any(|token| token.is("self")) => names.methods.insert(name),
-                "fn" => names.functions.insert(name),
-                "struct" => {
-                    names.fields.extend(members(&part.item.head));
-                    names.types.insert(name)
-                }
-                "enum" => {
-                    names.types.extend(members(&part.item.head));
-                    names.types.insert(name)
-                }
-                "const" | "type" => names.types.insert(name),
-                "mod" => names.modules.insert(name),
-                _ => false,
+                "struct" => names.fields.extend(members(head)),
+                "enum" => names.types.extend(members(head)),
+                _ => {}
+            }
+            let of_kind = match kind {
+                "fn" if head.iter().any(|token| token.is("self")) => &mut names.methods,
+                "fn" => &mut names.functions,
+                "struct" | "enum" | "const" | "type" => &mut names.types,
+                "mod" => &mut names.modules,
+                _ => continue,
             };
+            of_kind.insert(name.to_string());
         }
         names
             .modules
@@ -257,25 +299,33 @@ impl Names {
 /// The types whose models have an invariant, with their fields.
 fn guarded(files: &Files, sources: &[Part]) -> Result<Vec<Guarded>, String> {
     let mut found = Vec::new();
-    let is_made = |path: &str| module_of(path).is_some_and(|(_, module)| files.contains_key(&path_of_made(&module)));
-    for (path, text) in files.iter().filter(|(path, _)| is_made(path)) {
-        let tokens = tokens(text, Language::Rattle).map_err(|fault| format!("{path}:{}: {}", fault.line, fault.why))?;
+    for (path, text) in pairs(files).map(|pair| pair.source) {
+        // (a file that can't be read was refused above)
+        let tokens = tokens(text, Language::Rattle).unwrap_or_default();
         let mut of = None;
         for (at, token) in tokens.iter().enumerate() {
-            if token.is("Model") && tokens.get(at + 1).is_some_and(|next| next.is("for")) {
-                of = tokens.get(at + 2).map(|token| token.text.clone());
+            if let Some([name, ..]) = tokens[at..].strip_prefix(&pattern("Model for")[..]) {
+                of = Some(name.text.as_str());
             }
             if is_ghost_item(token, "invariant") {
-                let name = of.clone().ok_or(format!("{path}:{}: an invariant of no type", token.line))?;
-                let is_it =
-                    |part: &&Part| ["struct", "enum"].iter().any(|kind| part.item.key == format!("{kind} {name}"));
-                let item = sources.iter().find(is_it);
-                let item = item.ok_or(format!("{path}:{}: an invariant of `{name}`, which is no type", token.line))?;
-                found.push(Guarded { name, fields: members(&item.item.head) });
+                let place = format!("{path}:{}: an invariant", token.line);
+                let name = of.ok_or(format!("{place} of no type"))?;
+                let of_name = guarded_of(name, sources);
+                if of_name.is_empty() {
+                    return Err(format!("{place} of `{name}`, which is no type"));
+                }
+                found.extend(of_name);
             }
         }
     }
     Ok(found)
+}
+
+/// The types of a name, in whichever file.
+fn guarded_of(name: &str, sources: &[Part]) -> Vec<Guarded> {
+    let keys = ["struct", "enum"].map(|kind| format!("{kind} {name}"));
+    let types = sources.iter().filter(|part| keys.contains(&part.item.key));
+    types.map(|part| Guarded { name: name.to_string(), fields: members(&part.item.head) }).collect()
 }
 
 /// Whether a token is `ghost NAME = ..;`.
@@ -306,24 +356,29 @@ fn between_angles(tokens: &[Token], open: usize) -> &[Token] {
 /// The type parameters behind a word, each by its name and its bounds. A lifetime and a number are none: neither has code.
 fn type_parameters(tokens: &[Token], behind: usize) -> Vec<(&str, &[Token])> {
     let Some(open) = tokens.get(behind).filter(|token| token.is("<")).map(|_| behind) else { return Vec::new() };
-    let parts = between_commas(between_angles(tokens, open)).into_iter();
-    let is_type = |part: &&[Token]| part.first().is_some_and(|first| first.kind == Kind::Word && !first.is("const"));
-    parts.filter(is_type).map(|part| (part[0].text.as_str(), &part[1..])).collect()
+    let parts = between_commas(between_angles(tokens, open)).into_iter().filter_map(|part| part.split_first());
+    let types = parts.filter(|(name, _)| name.kind == Kind::Word && !name.is("const"));
+    types.map(|(name, bounds)| (name.text.as_str(), bounds)).collect()
+}
+
+/// The type parameters of an impl or of a function, by its head.
+fn generics_of(head: &[Token]) -> Vec<(&str, &[Token])> {
+    let behind = |word: &str, more: usize| position(head, &pattern(word)).map_or(head.len(), |at| at + more);
+    [type_parameters(head, behind("impl", 1)), type_parameters(head, behind("fn", 2))].concat()
 }
 
 /// Whether a type parameter has the form of `ASKED_ONCE`: it is asked by the first statement, whose result takes its name.
 fn is_asked_once(parameter: (&str, &[Token]), item: &Item, check: &mut Check) -> bool {
     let (name, bounds) = parameter;
-    let Some((bound, _)) = check.lists.asked_once.iter().find(|(bound, _)| pattern(bound) == bounds) else {
-        return false;
-    };
+    let bound: String = bounds.iter().map(|token| token.text.as_str()).collect();
+    let is_listed = has(check.lists.asked_once, &bound);
     let uses = |tokens: &[Token]| tokens.iter().filter(|token| token.is(name)).count();
-    let given = item.head.windows(3).find(|three| three[0].kind == Kind::Word && three[1].is(":") && three[2].is(name));
-    let Some(given) = given.map(|three| three[0].text.as_str()) else { return false };
+    let Some(colon) = position(&item.head, &pattern(&format!(": {name}"))) else { return false };
+    let given = &item.head[colon - 1].text;
     let first = pattern(&format!("{{ let {given} = {given}.as_ref();"));
-    let is_it = uses(&item.head) == 2 && uses(&item.body) == 0 && item.body.starts_with(&first);
+    let is_it = is_listed && uses(&item.head) == 2 && uses(&item.body) == 0 && item.body.starts_with(&first);
     if is_it {
-        check.note(bound);
+        check.note(&bound);
     }
     is_it
 }
@@ -332,38 +387,59 @@ fn is_asked_once(parameter: (&str, &[Token]), item: &Item, check: &mut Check) ->
 /// function.
 fn takes_code(part: &Part, check: &mut Check) -> bool {
     let (around, head) = (part.around(), &part.item.head);
-    let behind = |tokens: &[Token], word: &str, more: usize| {
-        tokens.iter().position(|token| token.is(word)).map_or(tokens.len(), |at| at + more)
-    };
-    let own = type_parameters(head, behind(head, "fn", 2));
-    let of_impl = type_parameters(&around, behind(&around, "impl", 1));
-    let has_type = own.into_iter().chain(of_impl).any(|parameter| !is_asked_once(parameter, &part.item, check));
-    let is_word = |token: &Token| ["impl", "dyn", "where", "Formatter"].iter().any(|word| token.is(word));
-    let has_pointer = head.windows(2).any(|two| two[0].is("fn") && two[1].is("("));
-    has_type || has_pointer || head.iter().any(is_word)
+    let mut parameters = generics_of(head).into_iter().chain(generics_of(&around));
+    let has_type = parameters.any(|parameter| !is_asked_once(parameter, &part.item, check));
+    let is_word = |token: &Token| ["impl", "dyn", "Formatter"].iter().any(|word| token.is(word));
+    has_type || position(head, &pattern("fn(")).is_some() || head.iter().any(is_word)
+}
+
+/// The token before an index.
+fn before(tokens: &[Token], at: usize) -> Option<&Token> {
+    tokens[..at].last()
+}
+
+fn opens(token: &Token) -> bool {
+    ["(", "[", "{"].iter().any(|sign| token.is(sign))
+}
+
+fn closes(token: &Token) -> bool {
+    [")", "]", "}"].iter().any(|sign| token.is(sign))
+}
+
+/// Where the group of brackets begins that ends some tokens, or their last token.
+fn start_of_last(tokens: &[Token], opens: fn(&Token) -> bool, closes: fn(&Token) -> bool) -> Option<usize> {
+    let mut depth = 0;
+    tokens.iter().rposition(|token| {
+        depth += i32::from(closes(token)) - i32::from(opens(token));
+        depth <= 0
+    })
+}
+
+/// Each token but the last, with the next one.
+fn neighbours(tokens: &[Token]) -> impl Iterator<Item = (&Token, &Token)> {
+    tokens.iter().zip(tokens.iter().skip(1))
 }
 
 /// Whether a word at an index is called, or handed on to be called.
 fn is_call(tokens: &[Token], at: usize) -> bool {
     let next = |ahead: usize, text: &str| tokens.get(at + ahead).is_some_and(|token| token.is(text));
-    let before = |texts: &[&str]| at > 0 && texts.iter().any(|text| tokens[at - 1].is(text));
-    let is_handed = before(&["(", ",", "::", "=", "&"]) && [")", ",", ";"].iter().any(|end| next(1, end));
+    let is_behind = |text: &&str| before(tokens, at).is_some_and(|token| token.is(text));
+    let is_handed = ["(", ",", "::", "=", "&"].iter().any(is_behind) && [")", ",", ";"].iter().any(|end| next(1, end));
     next(1, "(") || next(1, "::") && next(2, "<") || is_handed
 }
 
 /// Whether a function calls another one, by its name, and by its type where that is said.
 fn calls(part: &Part, other: &Part, names: &Names) -> bool {
     let body = &part.item.body;
-    (1..body.len()).filter(|at| body[*at].is(other.name()) && is_call(body, *at)).any(|at| {
-        match body[at - 1].text.as_str() {
-            "." => other.owner().is_some(),
-            "::" => match head_of_path(body, at - 1) {
-                "Self" => other.owner() == part.owner(),
-                head if names.types.contains(head) => other.owner().as_deref() == Some(head),
-                _ => true,
-            },
-            _ => other.owner().is_none(),
-        }
+    let mut called = body.iter().enumerate().filter(|(at, token)| token.is(other.name()) && is_call(body, *at));
+    called.any(|(at, _)| match body[at - 1].text.as_str() {
+        "." => other.owner().is_some(),
+        "::" => match head_of_path(body, at) {
+            Some("Self") => other.owner() == part.owner(),
+            Some(head) if names.types.contains(head) => other.owner().as_deref() == Some(head),
+            _ => true,
+        },
+        _ => other.owner().is_none(),
     })
 }
 
@@ -385,21 +461,31 @@ fn with_callers(functions: &[&Part], seed: BTreeSet<usize>, names: &Names) -> BT
 /// The index of the first word in a body that may write a field of an invariant: one that is assigned, lent to be written, or that
 /// a method is called on; or what a reference is to.
 fn writes(body: &[Token], program: &Program) -> Option<usize> {
-    let is_assigned = |at: usize| body.get(at).is_some_and(is_assignment);
-    let groups = (0..body.len()).filter(|at| body[*at].is("(") || body[*at].is("["));
-    let unpacked = groups.filter_map(|at| Some(at..behind_group(body, at)?)).filter(|group| is_assigned(group.end));
-    let unpacked: Vec<_> = unpacked.collect();
-    (1..body.len()).find(|at| {
-        let (before, word) = (&body[at - 1], &body[*at]);
-        let is_field = before.is(".") && program.is_guarded_field(&word.text);
-        let is_part = body.get(at + 1).is_some_and(|next| next.is("["));
-        let end = if is_part { behind_group(body, at + 1).unwrap_or(body.len()) } else { at + 1 };
-        let is_called = body.get(end).is_some_and(|next| next.is("."));
-        let is_through = before.is("*") && word.kind == Kind::Word;
-        let is_unpacked = unpacked.iter().any(|group| group.contains(at));
-        is_field && (is_called || is_unpacked || is_lent_to_write(body, *at))
-            || (is_field || is_through) && is_assigned(end)
-    })
+    let unpacked = unpacked(body);
+    let is_write = |sign: &Token, word: &Token, at: usize| {
+        let next = behind_part(body, at).first();
+        let is_assigned = next.is_some_and(is_assignment);
+        let is_called = next.is_some_and(|next| next.is("."));
+        let is_unpacked = unpacked.iter().any(|group| group.contains(&at));
+        let is_field = sign.is(".") && program.is_guarded_field(&word.text);
+        let is_through = sign.is("*") && is_assigned;
+        is_through || is_field && (is_assigned || is_called || is_unpacked || is_lent_to_write(body, at))
+    };
+    neighbours(body).zip(1..).find(|((sign, word), at)| is_write(sign, word, *at)).map(|(_, at)| at)
+}
+
+/// What stands behind a name, and behind the brackets in which a part of it is named.
+fn behind_part(body: &[Token], at: usize) -> &[Token] {
+    let behind = &body[at + 1..];
+    let end = if behind.starts_with(&pattern("[")) { behind_group(behind, 0) } else { None };
+    &behind[end.unwrap_or(0)..]
+}
+
+/// The groups to which something is assigned, member by member.
+fn unpacked(body: &[Token]) -> Vec<Range<usize>> {
+    let groups = body.iter().enumerate().filter(|(_, token)| token.is("(") || token.is("["));
+    let ranges = groups.filter_map(|(at, _)| Some(at..behind_group(body, at)?));
+    ranges.filter(|group| body.get(group.end).is_some_and(is_assignment)).collect()
 }
 
 fn is_assignment(token: &Token) -> bool {
@@ -410,59 +496,72 @@ fn is_assignment(token: &Token) -> bool {
 /// Whether the path that ends at an index stands behind `&mut`, or is what a macro writes to.
 fn is_lent_to_write(body: &[Token], end: usize) -> bool {
     let is_of_path = |token: &Token| token.kind == Kind::Word && !token.is("mut") || token.is(".");
-    let start = (0..=end).rev().take_while(|at| is_of_path(&body[*at])).last().unwrap_or(end);
-    let before = |back: usize| start.checked_sub(back).map(|at| &body[at]);
     let is_macro = |name: &Token| name.text.starts_with("copy_") || name.text.contains("_mut");
-    let is_written = before(1).is_some_and(|token| token.is("(")) && before(2).is_some_and(|token| token.is("!"));
-    before(1).is_some_and(|token| token.is("mut")) || is_written && before(3).is_some_and(is_macro)
+    let Some(last) = body.iter().take(end).rposition(|token| !is_of_path(token)) else { return false };
+    match &body[..=last] {
+        [.., word] if word.is("mut") => true,
+        [.., name, sign, _] => sign.is("!") && is_macro(name),
+        _ => false,
+    }
 }
 
 /// Whether a value of a type with an invariant is made at an index, by whatever name of the type.
 fn is_value(part: &Part, at: usize, program: &Program) -> bool {
-    let body = &part.item.body;
-    let is = |text: &str| body.get(at + 1).is_some_and(|next| next.is(text));
-    let inside = || behind_group(body, at + 1).map_or(&body[..0], |end| &body[at + 2..end - 1]);
-    let is_field = |part: &[Token]| part.first().is_some_and(|first| program.is_guarded_field(&first.text));
-    let is_type = body[at].kind == Kind::Word && body[at].text.starts_with(|ch: char| ch.is_ascii_uppercase());
-    let is_here = || body[at].is("Self") && part.owner().is_some_and(|owner| program.is_guarded(&owner));
-    let has_field = || between_commas(inside()).into_iter().any(is_field);
-    is_type && (is("{") && has_field() || is("(") && (program.is_guarded(&body[at].text) || is_here()))
+    let (word, behind) = (&part.item.body[at], &part.item.body[at + 1..]);
+    let is_before = |open: &str| behind.starts_with(&pattern(open));
+    let mut names = between_commas(inside(behind)).into_iter().filter_map(|field| field.first());
+    let mut has_field = || names.any(|name| program.is_guarded_field(&name.text));
+    let is_here = || word.is("Self") && part.owner().filter(|owner| program.is_guarded(owner)).is_some();
+    let is_type = word.text.starts_with(|ch: char| ch.is_ascii_uppercase());
+    is_type && (is_before("{") && has_field() || is_before("(") && (program.is_guarded(&word.text) || is_here()))
 }
 
 /// What a body has that a wrong answer would make undefined, or the start of a broken value: at which line, and what.
 fn needs_facts(part: &Part, program: &Program) -> Option<(usize, String)> {
     let body = &part.item.body;
-    let found = (0..body.len()).find_map(|at| match program.access.macro_at(body, at) {
-        Some(name) => Some((at, format!("`{name}!`"))),
-        None if body[at].is("unsafe") => Some((at, "`unsafe`".to_string())),
-        None => is_value(part, at, program).then(|| (at, format!("a new `{}`", body[at].text))),
+    let found = body.iter().enumerate().find_map(|(at, token)| {
+        let what = match program.access.macro_at(body, at) {
+            Some(name) => format!("`{name}!`"),
+            None if token.is("unsafe") => "`unsafe`".to_string(),
+            None if is_value(part, at, program) => format!("a new `{}`", token.text),
+            None => return None,
+        };
+        Some((token.line, what))
     });
-    let found = found.or_else(|| writes(body, program).map(|at| (at, format!("a write of `{}`", body[at].text))));
-    found.map(|(at, what)| (body[at].line, what))
+    found.or_else(|| writes(body, program).map(|at| (body[at].line, format!("a write of `{}`", body[at].text))))
 }
 
 // ---- What is refused ----
 
 /// Functions that run a caller's code while they write a field of an invariant.
 struct Played {
-    functions: &'static [&'static str],
+    functions: &'static str,
     /// The calls that the tests of unwinding make with code that panics; or none, and why no caller's code runs.
-    calls: &'static [&'static str],
+    calls: &'static str,
     why: &'static str,
 }
 
-/// Words of one reason, with blanks between.
+/// Entries of one reason, with blanks between.
 struct Words {
     words: &'static str,
     why: &'static str,
 }
 
 struct Lists {
-    asked_once: &'static [(&'static str, &'static str)],
-    bounded: &'static [(&'static str, &'static str)],
+    asked_once: &'static [Words],
+    bounded: &'static [Words],
     played: &'static [Played],
     words: &'static [Words],
-    plain_calls: &'static [(&'static str, &'static str)],
+    plain_calls: &'static [Words],
+}
+
+/// Whether a list has an entry.
+fn has(list: &[Words], entry: &str) -> bool {
+    list.iter().any(|words| has_word(words.words, entry))
+}
+
+fn has_word(words: &str, word: &str) -> bool {
+    words.split_whitespace().any(|listed| listed == word)
 }
 
 struct Check {
@@ -502,9 +601,10 @@ impl Check {
         let running = with_callers(&functions, takes, &program.names);
         for part in running.iter().map(|at| functions[*at]) {
             let Some((line, what)) = needs_facts(part, program) else { continue };
-            match self.lists.bounded.iter().find(|(path, _)| *path == part.item.path) {
-                Some((path, _)) => self.note(path),
-                None => self.refused.push(part.refused(line, &format!("{NEEDS_FACTS} {what}: {NEEDS_FACTS_DO}"))),
+            if has(self.lists.bounded, &part.item.path) {
+                self.note(&part.item.path);
+            } else {
+                self.refused.push(part.refused(line, &format!("{NEEDS_FACTS} {what}: {NEEDS_FACTS_DO}")));
             }
         }
         let writes = all.filter(|at| writes(&functions[*at].item.body, program).is_some()).collect();
@@ -516,40 +616,43 @@ impl Check {
 
     fn unwinding(&mut self, part: &Part, files: &Files) {
         let path = part.item.path.as_str();
-        let Some(played) = self.lists.played.iter().find(|played| played.functions.contains(&path)) else {
+        let played = self.lists.played.iter().filter(|played| has_word(played.functions, path)).collect::<Vec<_>>();
+        if played.is_empty() {
             return self.refused.push(part.refused(part.item.line, MAY_UNWIND));
-        };
+        }
         self.note(&format!("played {path}"));
-        if played.calls.is_empty() && is_open(part, files) && takes_code(part, self) {
+        let calls: Vec<&str> = played.iter().flat_map(|played| played.calls.split_whitespace()).collect();
+        if calls.is_empty() && is_open(part, files) && takes_code(part, self) {
             self.refused.push(part.refused(part.item.line, HANDED_IN));
         }
         let tests = files.get(UNWINDING).map_or("", String::as_str);
         let tests = tokens(tests, Language::Rust).unwrap_or_default();
-        for call in played.calls {
-            let is_made = (1..tests.len()).any(|at| {
-                tests[at].is(call) && is_call(&tests, at) && (tests[at - 1].is(".") || tests[at - 1].is("::"))
-            });
-            if !is_made {
-                self.refused.push(
-                    part.refused(part.item.line, &format!("is played by `{call}`, and {UNWINDING} calls it nowhere")),
-                );
-            }
+        for call in calls.into_iter().filter(|call| !is_made(call, &tests)) {
+            let why = format!("is played by `{call}`, and {UNWINDING} calls it nowhere");
+            self.refused.push(part.refused(part.item.line, &why));
         }
     }
 
     /// A field that an invariant is about is seen by the module of its type alone.
     fn fields(&mut self, program: &Program) {
         for part in program.sources.iter().chain(&program.made) {
-            let last = part.item.key.rsplit(" / ").next().unwrap_or_default();
-            let Some((kind, _)) = last.split_once(' ').filter(|(_, name)| program.is_guarded(name)) else { continue };
-            let public = part.item.head[group_of_type(&part.item.head)..].iter().find(|token| token.is("pub"));
-            match (kind, public) {
-                ("struct", Some(token)) => self.refused.push(part.refused(token.line, PUBLIC_FIELD)),
-                ("enum", _) => self.refused.push(part.refused(part.item.line, PUBLIC_VARIANT)),
+            let fields = &part.item.head[group_of_type(&part.item.head)..];
+            let public = fields.iter().find(|token| token.is("pub"));
+            match part.kind_and_name().filter(|(_, name)| program.is_guarded(name)) {
+                Some(("struct", _)) => {
+                    self.refused.extend(public.map(|token| part.refused(token.line, PUBLIC_FIELD)));
+                }
+                Some(("enum", _)) => self.refused.push(part.refused(part.item.line, PUBLIC_VARIANT)),
                 _ => {}
             }
         }
     }
+}
+
+/// Whether tests call a function of a type.
+fn is_made(call: &str, tests: &[Token]) -> bool {
+    let is_of_type = |at: usize| before(tests, at).is_some_and(|sign| sign.is(".") || sign.is("::"));
+    tests.iter().enumerate().any(|(at, token)| token.is(call) && is_call(tests, at) && is_of_type(at))
 }
 
 /// Whether what no list has may call a function: another crate, or a file by hand. (Who calls it in the sources is listed, too.)
@@ -564,8 +667,11 @@ fn is_open(part: &Part, files: &Files) -> bool {
 /// can.
 fn may_write(part: &Part, program: &Program) -> bool {
     let head = &part.item.head;
-    let is_own =
-        |tokens: &[Token]| (0..tokens.len()).any(|at| tokens[at].is("mut") && !is_of_others(&tokens[at + 1..], head));
+    let is_own = |tokens: &[Token]| {
+        let mut behind =
+            tokens.iter().enumerate().filter(|(_, token)| token.is("mut")).map(|(at, _)| &tokens[at + 1..]);
+        behind.any(|of| !is_of_others(of, head))
+    };
     let lends = |part: &Part| !part.item.is_function && part.item.head.iter().any(|token| token.is("mut"));
     is_own(head) || is_own(&part.item.body) || program.made.iter().any(lends)
 }
@@ -589,120 +695,115 @@ const PUBLIC_VARIANT: &str = "has an invariant, and whoever sees an enum can mak
 
 // ---- The lists ----
 
-const ASKED: &str = "it is asked by the first statement, once, and what it gives is a text or a slice as any other: \
-                     the proof is of that";
-
-/// Bounds of a parameter that is asked once.
-const ASKED_ONCE: &[(&str, &str)] = &[(": AsRef<str>", ASKED), (": AsRef<[u8]>", ASKED), (": AsRef<[u16]>", ASKED)];
-
-const ENDS: &str = "the two ends are numbers that were copied out of the range, and they are tested here";
-const PIECES: &str = "what the iterator gives is a text or a character in Rust whatever it does; each is bound once, \
-                      and `append_chars` and `append_strs` test room for it";
-const NEW_TEXT: &str = "the array, its start and its size begin as those of an empty text, `append_chars` and \
-                        `append_strs` leave them as those of a text whatever the iterator gives, and the string is \
-                        made of them behind the last item";
-const SAFETY: &str = "the precondition of this `unsafe fn` is of the items that the iterator gives in this call, each \
-                      is bound once, and nothing else of the bound is needed";
-const ANSWER: &str = "the answer only says whether the loop goes on, and what is dropped was tested or read before it";
+/// Bounds of a parameter that is asked once, each without blanks.
+const ASKED_ONCE: &[Words] = &[words(
+    "it is asked by the first statement, once, and what it gives is a text or a slice as any other: the proof is of \
+     that",
+    ":AsRef<str> :AsRef<[u8]> :AsRef<[u16]>",
+)];
 
 /// Functions that run a caller's code and have an access without a test, an `unsafe` call or a write of what an invariant is
 /// about, and why nothing of the bound is needed.
-const BOUNDED: &[(&str, &str)] = &[
-    ("arraystring_core::array_string::append::ArrayString::add_chars", PIECES),
-    ("arraystring_core::array_string::append::ArrayString::append_chars", PIECES),
-    ("arraystring_core::array_string::append::ArrayString::add_strs", PIECES),
-    ("arraystring_core::array_string::append::ArrayString::append_strs", PIECES),
-    ("arraystring_core::array_string::construct::ArrayString::try_from_iterator", NEW_TEXT),
-    ("arraystring_core::array_string::construct::ArrayString::from_iterator", NEW_TEXT),
-    ("arraystring_core::array_string::construct::ArrayString::try_from_chars", NEW_TEXT),
-    ("arraystring_core::array_string::construct::ArrayString::from_chars", NEW_TEXT),
-    ("arraystring_core::array_string::unchecked::ArrayString::from_iterator_unchecked", SAFETY),
-    ("cache_string::CacheString::from_iterator_unchecked", SAFETY),
-    ("cache_string::CacheString::from_chars_unchecked", SAFETY),
-    ("arraystring_core::array_string::drained_range::ArrayString::drain_through", ENDS),
-    ("arraystring_core::array_string::ascii::ArrayString::make_ascii_uppercase_in", ENDS),
-    ("arraystring_core::array_string::ascii::ArrayString::make_ascii_lowercase_in", ENDS),
-    (
-        "arraystring_core::array_string::retain::ArrayString::retain",
-        "what it hands to `retain_at` is read from the fields, before the closure is called",
+const BOUNDED: &[Words] = &[
+    words(
+        "what the iterator gives is a text or a character in Rust whatever it does; each is bound once, and \
+         `append_chars` and `append_strs` test room for it",
+        "arraystring_core::array_string::append::ArrayString::add_chars \
+         arraystring_core::array_string::append::ArrayString::append_chars \
+         arraystring_core::array_string::append::ArrayString::add_strs \
+         arraystring_core::array_string::append::ArrayString::append_strs",
     ),
-    (
-        "arraystring_core::array_string::retain::retain_at",
+    words(
+        "the array, its start and its size begin as those of an empty text, `append_chars` and `append_strs` leave \
+         them as those of a text whatever the iterator gives, and the string is made of them behind the last item",
+        "arraystring_core::array_string::construct::ArrayString::try_from_iterator \
+         arraystring_core::array_string::construct::ArrayString::from_iterator \
+         arraystring_core::array_string::construct::ArrayString::try_from_chars \
+         arraystring_core::array_string::construct::ArrayString::from_chars",
+    ),
+    words(
+        "the precondition of this `unsafe fn` is of the items that the iterator gives in this call, each is bound \
+         once, and nothing else of the bound is needed",
+        "arraystring_core::array_string::unchecked::ArrayString::from_iterator_unchecked \
+         cache_string::CacheString::from_iterator_unchecked \
+         cache_string::CacheString::from_chars_unchecked",
+    ),
+    words(
+        "the two ends are numbers that were copied out of the range, and they are tested here",
+        "arraystring_core::array_string::drained_range::ArrayString::drain_through \
+         arraystring_core::array_string::ascii::ArrayString::make_ascii_uppercase_in \
+         arraystring_core::array_string::ascii::ArrayString::make_ascii_lowercase_in",
+    ),
+    words(
+        "what it hands to `retain_at` is read from the fields, before the closure is called",
+        "arraystring_core::array_string::retain::ArrayString::retain",
+    ),
+    words(
         "the answer only says whether a character is kept: `read` goes on by it in both cases, and `kept` by at most \
          as much",
+        "arraystring_core::array_string::retain::retain_at",
     ),
-    ("arraystring_core::array_string::trim::ArrayString::drop_trailing", ANSWER),
-    ("arraystring_core::array_string::trim::ArrayString::drop_leading_ascii", ANSWER),
-    ("arraystring_core::array_string::trim::ArrayString::drop_leading_decoded", ANSWER),
+    words(
+        "the answer only says whether the loop goes on, and what is dropped was tested or read before it",
+        "arraystring_core::array_string::trim::ArrayString::drop_trailing \
+         arraystring_core::array_string::trim::ArrayString::drop_leading_ascii \
+         arraystring_core::array_string::trim::ArrayString::drop_leading_decoded",
+    ),
 ];
-
-const BETWEEN: &str = "between two items the array, its start and its size are those of the text so far";
-const BEFORE: &str = "the range and the text are asked before anything is written";
-const OWN_CLOSURE: &str = "the closure is a function of `trim`, which can't panic, and no caller hands one in";
 
 /// Functions that run a caller's code and write what an invariant is about, and the calls by which rust/arraystring/tests/unwinding.rs
 /// plays code that panics there.
 const PLAYED: &[Played] = &[
     Played {
-        functions: &[
-            "arraystring_core::array_string::append::ArrayString::add_chars",
-            "arraystring_core::array_string::append::ArrayString::append_chars",
-            "arraystring_core::array_string::construct::ArrayString::try_from_chars",
-            "arraystring_core::array_string::construct::ArrayString::from_chars",
-            "arraystring_core::array_string::push::ArrayString::extend_chars",
-        ],
-        calls: &["extend_chars", "try_from_chars", "from_chars"],
-        why: BETWEEN,
+        functions: "arraystring_core::array_string::append::ArrayString::add_chars \
+                    arraystring_core::array_string::append::ArrayString::append_chars \
+                    arraystring_core::array_string::construct::ArrayString::try_from_chars \
+                    arraystring_core::array_string::construct::ArrayString::from_chars \
+                    arraystring_core::array_string::push::ArrayString::extend_chars",
+        calls: "extend_chars try_from_chars from_chars",
+        why: "between two items the array, its start and its size are those of the text so far",
     },
     Played {
-        functions: &[
-            "arraystring_core::array_string::append::ArrayString::add_strs",
-            "arraystring_core::array_string::append::ArrayString::append_strs",
-            "arraystring_core::array_string::construct::ArrayString::try_from_iterator",
-            "arraystring_core::array_string::construct::ArrayString::from_iterator",
-            "arraystring_core::array_string::push::ArrayString::extend_strs",
-        ],
-        calls: &["extend_strs", "try_from_iterator", "from_iterator"],
-        why: BETWEEN,
+        functions: "arraystring_core::array_string::append::ArrayString::add_strs \
+                    arraystring_core::array_string::append::ArrayString::append_strs \
+                    arraystring_core::array_string::construct::ArrayString::try_from_iterator \
+                    arraystring_core::array_string::construct::ArrayString::from_iterator \
+                    arraystring_core::array_string::push::ArrayString::extend_strs",
+        calls: "extend_strs try_from_iterator from_iterator",
+        why: "between two items the array, its start and its size are those of the text so far",
     },
     Played {
-        functions: &[
-            "arraystring_core::array_string::drained_range::ArrayString::drain",
-            "arraystring_core::array_string::counted::ArrayString::drain_counted",
-            "arraystring_core::array_string::drained_range::ArrayString::drain_through",
-            "arraystring_core::array_string::replaced_range::ArrayString::replace_range",
-            "arraystring_core::array_string::counted::ArrayString::replace_range_counted",
-            "arraystring_core::array_string::ascii::ArrayString::make_ascii_uppercase_in",
-            "arraystring_core::array_string::ascii::ArrayString::make_ascii_lowercase_in",
-        ],
-        calls: &["drain", "replace_range", "make_ascii_uppercase_in", "make_ascii_lowercase_in"],
-        why: BEFORE,
+        functions: "arraystring_core::array_string::drained_range::ArrayString::drain \
+                    arraystring_core::array_string::counted::ArrayString::drain_counted \
+                    arraystring_core::array_string::drained_range::ArrayString::drain_through \
+                    arraystring_core::array_string::replaced_range::ArrayString::replace_range \
+                    arraystring_core::array_string::counted::ArrayString::replace_range_counted \
+                    arraystring_core::array_string::ascii::ArrayString::make_ascii_uppercase_in \
+                    arraystring_core::array_string::ascii::ArrayString::make_ascii_lowercase_in",
+        calls: "drain replace_range make_ascii_uppercase_in make_ascii_lowercase_in",
+        why: "the range and the text are asked before anything is written",
     },
     Played {
-        functions: &[
-            "arraystring_core::array_string::retain::ArrayString::retain",
-            "arraystring_core::array_string::retain::retain_at",
-        ],
-        calls: &["retain"],
+        functions: "arraystring_core::array_string::retain::ArrayString::retain \
+                    arraystring_core::array_string::retain::retain_at",
+        calls: "retain",
         why: "while the closure runs, the size is that of what was kept, which lies in front",
     },
     Played {
-        functions: &[
-            "arraystring_core::array_string::trim::ArrayString::trim",
-            "arraystring_core::array_string::counted::ArrayString::trim_counted",
-            "arraystring_core::array_string::trim::ArrayString::trim_spaces",
-            "arraystring_core::array_string::trim::ArrayString::drop_trailing",
-            "arraystring_core::array_string::trim::ArrayString::drop_leading",
-            "arraystring_core::array_string::trim::ArrayString::drop_leading_ascii",
-            "arraystring_core::array_string::trim::ArrayString::drop_leading_decoded",
-        ],
-        calls: &[],
-        why: OWN_CLOSURE,
+        functions: "arraystring_core::array_string::trim::ArrayString::trim \
+                    arraystring_core::array_string::counted::ArrayString::trim_counted \
+                    arraystring_core::array_string::trim::ArrayString::trim_spaces \
+                    arraystring_core::array_string::trim::ArrayString::drop_trailing \
+                    arraystring_core::array_string::trim::ArrayString::drop_leading \
+                    arraystring_core::array_string::trim::ArrayString::drop_leading_ascii \
+                    arraystring_core::array_string::trim::ArrayString::drop_leading_decoded",
+        calls: "",
+        why: "the closure is a function of `trim`, which can't panic, and no caller hands one in",
     },
 ];
 
 /// Calls without arguments that change nothing, so that an index of what they return is the same before or after them.
-const PLAIN_CALLS: &[(&str, &str)] = &[("as_str", "it reads a text, and takes a `&self`")];
+const PLAIN_CALLS: &[Words] = &[words("it reads a text, and takes a `&self`", "as_str")];
 
 const fn words(why: &'static str, words: &'static str) -> Words {
     Words { words, why }
@@ -787,36 +888,27 @@ const LISTS: Lists =
 
 // ---- Names ----
 
-const TRAITS_OF_PLACES: &[&str] = &["Index", "IndexMut", "Deref", "DerefMut"];
+/// How an impl of a trait begins that says what an index or a point means.
+const TRAITS_OF_PLACES: &[&str] = &["Index<", "IndexMut<", "Deref for", "DerefMut for"];
 
 impl Check {
     /// No name of the sources stands for what an access macro is called or calls.
     fn names(&mut self, program: &Program, files: &Files) {
-        let access = &program.access;
-        let is_taken = |name: &str| access.macros.contains(name) || access.methods.contains(name);
         for part in program.sources.iter().chain(&program.made) {
-            let last = part.item.key.rsplit(" / ").next().unwrap_or_default();
-            let name = last.rsplit([' ', ':']).next().unwrap_or_default();
-            let line = part.item.line;
-            let of_trait = last.starts_with("impl").then(|| pattern(last)).unwrap_or_default();
-            let is_place = |two: &[Token]| {
-                TRAITS_OF_PLACES.iter().any(|name| two[0].is(name)) && (two[1].is("<") || two[1].is("for"))
-            };
-            if is_taken(name) {
-                self.refused.push(part.refused(line, TAKEN_NAME));
-            } else if of_trait.windows(2).any(is_place) {
-                self.refused.push(part.refused(line, OWN_PLACES));
+            let words = pattern(part.last());
+            if words.last().filter(|name| program.access.has(name)).is_some() {
+                self.refused.push(part.refused(part.item.line, TAKEN_NAME));
+            } else if TRAITS_OF_PLACES.iter().any(|head| position(&words, &pattern(head)).is_some()) {
+                self.refused.push(part.refused(part.item.line, OWN_PLACES));
             }
         }
         let is_made = |path: &str| program.made.iter().any(|part| part.file == path);
         let is_by_hand = |path: &str| path.starts_with(MADE) && path != ACCESS && !is_made(path);
         for (path, text) in files.iter().filter(|(path, _)| is_by_hand(path)) {
             let tokens = tokens(text, Language::Rust).unwrap_or_default();
-            let is_named =
-                |three: &&[Token]| three[0].is("macro_rules") && three[1].is("!") && is_taken(&three[2].text);
-            let function = |three: &&[Token]| three[0].is("fn") && is_taken(&three[1].text);
-            for three in tokens.windows(3).filter(|three| is_named(three) || function(three)) {
-                self.refused.push(format!("{path}:{}: {TAKEN_NAME}", three[0].line));
+            let names = ["fn", "macro_rules!"].into_iter().flat_map(|word| named_behind(&tokens, word));
+            for (name, _) in names.filter(|(name, _)| program.access.has(name)) {
+                self.refused.push(format!("{path}:{}: {TAKEN_NAME}", name.line));
             }
         }
     }
@@ -829,14 +921,12 @@ const OWN_PLACES: &str = "makes an index, or a method behind a point, mean this 
 
 // ---- Words ----
 
-const KEYWORDS: &[&str] = &[
-    "as", "break", "const", "continue", "crate", "dyn", "else", "enum", "fn", "for", "if", "impl", "in", "let", "loop",
-    "match", "mod", "move", "mut", "pub", "ref", "return", "self", "Self", "static", "struct", "super", "trait",
-    "type", "union", "unsafe", "use", "where", "while", "async", "await", "extern",
-];
+const KEYWORDS: &str = "as async await break const continue crate dyn else enum extern fn for if impl in let loop match \
+                        mod move mut pub ref return self Self static struct super trait type union unsafe use where \
+                        while";
 
 fn is_keyword(token: &Token) -> bool {
-    token.kind == Kind::Word && KEYWORDS.contains(&token.text.as_str())
+    KEYWORDS.split(' ').any(|word| token.is(word))
 }
 
 /// The names that an item gives to values, types and numbers of its own: what stands before a `:` in its head, what its generics
@@ -845,72 +935,61 @@ fn bound_names(part: &Part) -> BTreeSet<String> {
     let (head, body, around) = (&part.item.head, &part.item.body, part.around());
     let mut names: BTreeSet<String> = BTreeSet::new();
     for tokens in [head, &around] {
-        let named = tokens.windows(2).filter(|two| two[0].kind == Kind::Word && two[1].is(":"));
-        names.extend(named.map(|two| two[0].text.clone()));
-        let is_of_item = |at: usize| at > 0 && tokens[at - 1].is("impl") || at > 1 && tokens[at - 2].is("fn");
-        let generics = (0..tokens.len()).filter(|at| is_of_item(*at)).flat_map(|at| type_parameters(tokens, at));
-        names.extend(generics.map(|(name, _)| name.to_string()));
+        let named = neighbours(tokens).filter(|(name, sign)| name.kind == Kind::Word && sign.is(":"));
+        names.extend(named.map(|(name, _)| name.text.clone()));
+        names.extend(generics_of(tokens).into_iter().map(|(name, _)| name.to_string()));
     }
-    for pattern in (0..body.len()).map(|at| pattern_at(body, at)) {
+    for pattern in body.iter().enumerate().map(|(at, _)| pattern_at(body, at)) {
         let is_bound = |token: &Token| token.text.starts_with(|ch: char| ch.is_ascii_lowercase()) && !is_keyword(token);
         let is_head = |at: usize| pattern.get(at + 1).is_some_and(|next| next.is("::"));
-        let bound = (0..pattern.len()).filter(|at| is_bound(&pattern[*at]) && !is_head(*at));
-        names.extend(bound.map(|at| pattern[at].text.clone()));
+        let bound = pattern.iter().enumerate().filter(|(at, token)| is_bound(token) && !is_head(*at));
+        names.extend(bound.map(|(_, token)| token.text.clone()));
     }
     names
 }
 
 /// The pattern that begins at a `let`, a `for` or a `|`, or that stands before a `=>`, without its type and its condition.
 fn pattern_at(body: &[Token], at: usize) -> &[Token] {
-    let is = |at: usize, texts: &[&str]| body.get(at).is_some_and(|token| texts.iter().any(|text| token.is(text)));
-    let up_to = |ends: &[&str]| &body[at + 1..(at + 1..body.len()).find(|end| is(*end, ends)).unwrap_or(body.len())];
+    let up_to = |ends: &[&str]| first_part(&body[at + 1..], ends);
+    let is_closure = || before(body, at).is_some_and(|token| ["(", ",", "=", "move"].iter().any(|word| token.is(word)));
     match body[at].text.as_str() {
         "let" => up_to(&["=", ";", ":"]),
         "for" => up_to(&["in"]),
-        "|" if at > 0 && is(at - 1, &["(", ",", "=", "move"]) => up_to(&["|", ":"]),
-        "=>" => {
-            let arm = &body[start_of_arm(body, at)..at];
-            arm.split(|token| token.is("if")).next().unwrap_or_default()
-        }
+        "|" if is_closure() => up_to(&["|", ":"]),
+        "=>" => first_part(&body[start_of_arm(body, at)..at], &["if"]),
         _ => &[],
     }
 }
 
-/// Where the pattern of a match arm begins, by the `=>` behind it.
-fn start_of_arm(body: &[Token], arrow: usize) -> usize {
-    let (mut at, mut depth) = (arrow, 0);
-    while at > 0 {
-        let token = &body[at - 1];
-        let closes = [")", "]", "}"].iter().any(|sign| token.is(sign));
-        let is_end = depth == 0 && (token.is(",") || token.is("{") || token.is("}") && at < arrow);
-        if is_end {
-            break;
-        }
-        depth += i32::from(closes) - i32::from(["(", "[", "{"].iter().any(|sign| token.is(sign)));
-        at -= 1;
-    }
-    at
+/// What stands before the first of some words and signs that is in no brackets, or before the end of the brackets around.
+fn first_part<'a>(tokens: &'a [Token], ends: &[&str]) -> &'a [Token] {
+    let mut depth = 0;
+    let is_end = |token: &Token| {
+        depth += i32::from(opens(token)) - i32::from(closes(token));
+        depth < 0 || depth == 0 && ends.iter().any(|end| token.is(end))
+    };
+    tokens.split(is_end).next().unwrap_or_default()
 }
 
-/// What stands before a `::` at an index: a word, or the word before its generics.
-fn head_of_path(tokens: &[Token], colons: usize) -> &str {
-    let mut at = colons;
+/// Where the pattern of a match arm begins, by the `=>` behind it. (A `}` before that may be of the pattern.)
+fn start_of_arm(body: &[Token], arrow: usize) -> usize {
     let mut depth = 0;
-    while at > 0 {
-        at -= 1;
-        match tokens[at].text.as_str() {
-            ">" => depth += 1,
-            "<" => depth -= 1,
-            "::" => {}
-            word if depth == 0 && tokens[at].kind == Kind::Word => return word,
-            _ if depth == 0 => return "",
-            _ => {}
-        }
-        if depth == 0 && tokens[at].is("<") && !(at > 0 && tokens[at - 1].is("::")) {
-            return "";
-        }
-    }
-    ""
+    let end = body.iter().enumerate().take(arrow).rposition(|(at, token)| {
+        let is_end = token.is(",") || token.is("{") || token.is("}") && at + 1 < arrow;
+        let is_outside = depth <= 0;
+        depth += i32::from(closes(token)) - i32::from(opens(token));
+        is_outside && is_end
+    });
+    end.map_or(0, |end| end + 1)
+}
+
+/// What stands before the `::` before an index: a word, or the word before its generics.
+fn head_of_path(tokens: &[Token], at: usize) -> Option<&str> {
+    let colons = pattern("::");
+    let front = tokens[..at].strip_suffix(&colons[..])?;
+    let open = start_of_last(front, |token| token.is("<"), |token| token.is(">"))?;
+    let head = if front[open].is("<") { front[..open].strip_suffix(&colons[..])?.last()? } else { &front[open] };
+    (head.kind == Kind::Word).then_some(&head.text)
 }
 
 /// What an item takes of the language and of std: words and signs as `WORDS` has them, each with its line.
@@ -926,7 +1005,7 @@ impl Spelling<'_> {
     }
 
     fn before(&self, at: usize, text: &str) -> bool {
-        at > 0 && self.is(at - 1, text)
+        before(self.tokens, at).is_some_and(|token| token.is(text))
     }
 
     /// How a token is listed, or `None` if it is a name of the sources, or no more than a value.
@@ -947,7 +1026,7 @@ impl Spelling<'_> {
         let (token, names) = (&self.tokens[at], self.names);
         let word = token.text.as_str();
         let is_called = self.is(at + 1, "(") || self.is(at + 1, "::") && self.is(at + 2, "<");
-        if self.before(at, "as") && !self.before(at, "::") {
+        if self.before(at, "as") {
             return Some(format!("as:{word}"));
         }
         if self.before(at, ".") {
@@ -981,7 +1060,7 @@ impl Spelling<'_> {
 
     /// A word behind `::`.
     fn member(&self, at: usize, word: &str) -> Option<String> {
-        let (head, names) = (head_of_path(self.tokens, at - 1), self.names);
+        let (head, names) = (head_of_path(self.tokens, at).unwrap_or_default(), self.names);
         let is_of_own =
             head == "Self" || names.types.contains(head) || names.modules.contains(head) || self.bound.contains(head);
         let is_known =
@@ -989,32 +1068,27 @@ impl Spelling<'_> {
         (!is_of_own || !is_known).then(|| format!("{head}::{word}"))
     }
 
-    /// The words and signs before an index, from the last one on, up to the brackets that are open there, and those.
-    fn outside(&self, at: usize) -> impl Iterator<Item = usize> {
-        let mut depth = 0;
-        (0..at).rev().filter(move |before| {
-            let is = |texts: [&str; 3]| texts.iter().any(|text| self.is(*before, text));
-            depth += i32::from(is([")", "]", "}"]));
-            let is_outside = depth == 0;
-            depth = (depth - i32::from(is(["(", "[", "{"]))).max(0);
-            is_outside
-        })
-    }
-
     /// Whether a range is what a `for` walks over, or a part of that.
     fn is_walked(&self, at: usize) -> bool {
-        let ends = |at: &usize| ["in", ";", "{", "["].iter().any(|end| self.is(*at, end));
-        self.outside(at).find(ends).is_some_and(|found| self.is(found, "in"))
+        let ends = |token: &&Token| ["in", ";", "{", "["].iter().any(|end| token.is(end));
+        outside(self.tokens, at).map(|(_, token)| token).find(ends).is_some_and(|token| token.is("in"))
     }
 
     /// Whether a range is a pattern of `matches!`.
     fn is_matched(&self, at: usize) -> bool {
-        let open = self.outside(at).find(|at| self.is(*at, "(") || self.is(*at, "[") || self.is(*at, "{"));
-        open.is_some_and(|open| open > 1 && self.is(open - 1, "!") && self.is(open - 2, "matches"))
+        let open = outside(self.tokens, at).find(|(_, token)| opens(token));
+        open.is_some_and(|(open, _)| self.tokens[..open].ends_with(&pattern("matches!")))
+    }
+
+    /// Whether a range ends an array, where a part of one would end, too.
+    fn is_last_of_array(&self, at: usize) -> bool {
+        let open = outside(self.tokens, at).find(|(_, token)| opens(token));
+        let operand = open.and_then(|(open, _)| before(self.tokens, open));
+        self.is(at + 1, "]") && !operand.is_some_and(is_behind_operand)
     }
 
     fn range(&self, at: usize) -> &'static str {
-        let closes = [")", ";", ",", "{", "=>"].iter().any(|end| self.is(at + 1, end));
+        let closes = [")", ";", ",", "{", "=>"].iter().any(|end| self.is(at + 1, end)) || self.is_last_of_array(at);
         let is_all = ["(", "[", ","].iter().any(|before| self.before(at, before));
         match (self.is_walked(at), self.is_matched(at)) {
             (_, true) => "matches!(a..)",
@@ -1025,6 +1099,17 @@ impl Spelling<'_> {
             _ => "..",
         }
     }
+}
+
+/// The words and signs before an index, from the last one on, up to the brackets that are open there, and those.
+fn outside(tokens: &[Token], at: usize) -> impl Iterator<Item = (usize, &Token)> {
+    let mut depth = 0;
+    tokens.iter().enumerate().take(at).rev().filter(move |(_, token)| {
+        depth += i32::from(closes(token));
+        let is_outside = depth == 0;
+        depth = (depth - i32::from(opens(token))).max(0);
+        is_outside
+    })
 }
 
 /// A range of numbers without an end.
@@ -1042,9 +1127,9 @@ fn number(text: &str) -> Option<String> {
 
 /// How a text or a character is listed that is more than its characters.
 fn literal(text: &str) -> Option<String> {
-    let prefix = text.find(['"', '\'']).unwrap_or(0);
-    let is_plain = prefix == 0 && !text.contains('\\');
-    (!is_plain).then(|| format!("literal:{}{}", &text[..prefix], if text.contains('\\') { "\\" } else { "" }))
+    let prefix = text.split(['"', '\'']).next().unwrap_or_default();
+    let escape = if text.contains('\\') { "\\" } else { "" };
+    (!prefix.is_empty() || !escape.is_empty()).then(|| format!("literal:{prefix}{escape}"))
 }
 
 impl Check {
@@ -1056,8 +1141,8 @@ impl Check {
             for words in item.attributes.iter().filter(|words| !words.starts_with("visibility")) {
                 found.extend(attribute(words).into_iter().map(|word| (item.line, word)));
             }
-            if let Some(path) = item.key.rsplit(" / ").next().and_then(|last| last.strip_prefix("use ")) {
-                let is_own = path.split("::").next().is_some_and(|first| program.names.modules.contains(first));
+            if let Some(path) = part.last().strip_prefix("use ") {
+                let is_own = path.split_once("::").is_some_and(|(first, _)| program.names.modules.contains(first));
                 found.extend((!is_own).then(|| (item.line, format!("use:{}", path.replace(" as ", ":")))));
             }
             let mut around = part.around();
@@ -1073,11 +1158,9 @@ impl Check {
     }
 
     fn word(&mut self, part: &Part, word: &str, line: usize) {
-        let is_listed =
-            self.lists.words.iter().any(|words| words.words.split_whitespace().any(|listed| listed == word));
         if word == ENDLESS {
             self.refused.push(part.refused(line, ENDLESS_RANGE));
-        } else if is_listed {
+        } else if has(self.lists.words, word) {
             self.note(&format!("word {word}"));
         } else {
             self.refused.push(part.refused(line, &format!("has `{word}`, {NEW_WORD}")));
@@ -1100,30 +1183,28 @@ const NEW_WORD: &str = "which is in no list: read what Rattle and what Rust mean
 
 // ---- Order ----
 
-/// Calls that copy, and whose operand stands before a point.
-const COPIES: &[&str] = &["copy_from_slice"];
+/// A call that copies, and whose operand stands before the point.
+const COPY: &str = ".copy_from_slice";
 
-/// Where the operand begins that ends before an index, if it is a path of fields and of plain calls.
-fn start_of_path(tokens: &[Token], end: usize, changing: &BTreeSet<String>, check: &mut Check) -> Option<usize> {
-    let mut at = end;
+/// Where the operand begins that ends some tokens, if it is a path of fields and of plain calls.
+fn start_of_path(tokens: &[Token], changing: &BTreeSet<String>, check: &mut Check) -> Option<usize> {
+    let lists = check.lists;
+    let is_plain = |name: &Token| has(lists.plain_calls, &name.text) && !changing.contains(&name.text);
+    let mut front = tokens;
     loop {
-        let last = at.checked_sub(1)?;
-        if tokens[last].is(")") {
-            let name = last.checked_sub(2).map(|before| &tokens[before])?;
-            let is_plain = |plain: &str| name.is(plain) && !changing.contains(plain);
-            let (plain, _) = check.lists.plain_calls.iter().find(|(plain, _)| is_plain(plain))?;
-            check.note(&format!("call {plain}"));
-            at = tokens[last - 1].is("(").then_some(last - 2)?;
-        } else if matches!(tokens[last].kind, Kind::Word | Kind::Number) && !is_operator(&tokens[last]) {
-            at = last;
-        } else {
-            return None;
-        }
-        match at.checked_sub(1).map(|before| &tokens[before]) {
-            Some(token) if token.is(".") => at -= 1,
-            Some(token) if token.is("::") || token.is("?") => return None,
-            _ => return Some(at),
-        }
+        front = match front {
+            [rest @ .., name, open, close] if open.is("(") && close.is(")") && is_plain(name) => {
+                check.note(&format!("call {}", name.text));
+                rest
+            }
+            [rest @ .., name] if matches!(name.kind, Kind::Word | Kind::Number) && !is_operator(name) => rest,
+            _ => return None,
+        };
+        front = match front {
+            [rest @ .., sign] if sign.is(".") => rest,
+            [.., sign] if sign.is("::") => return None,
+            _ => return Some(front.len()),
+        };
     }
 }
 
@@ -1133,41 +1214,44 @@ fn is_operator(token: &Token) -> bool {
 }
 
 impl Check {
-    /// The operand of an index, a part or a copy is a path, and nothing beside it changes anything: so the two languages may evaluate
-    /// them in any order.
+    /// The operand of an index, a part or a copy is a path, and nothing beside it, or beside a `+=`, changes anything: so the two
+    /// languages may evaluate them in any order.
     fn operands(&mut self, program: &Program) {
         for part in program.in_both().filter(|part| part.item.is_function) {
             let body = &part.item.body;
-            for at in 1..body.len() {
-                let is_index = body[at].is("[") && is_behind_operand(&body[at - 1]);
-                let is_copy =
-                    body[at].is(".") && COPIES.iter().any(|name| body.get(at + 1).is_some_and(|next| next.is(name)));
-                if !is_index && !is_copy {
-                    continue;
-                }
+            for ((last, sign), at) in neighbours(body).zip(1..) {
+                let is_index = sign.is("[") && is_behind_operand(last);
+                let is_access = is_index || body[at..].starts_with(&pattern(COPY));
                 let changing = &program.names.changing;
-                let is_path = start_of_path(body, operand_end(body, at), changing, self).is_some();
-                if !is_path || beside(body, at).iter().any(|part| changes(part, changing)) {
-                    self.refused.push(part.refused(body[at].line, ORDER));
+                let is_sum = is_assignment(sign) && !sign.is("=");
+                let is_beside_change = is_sum && changes(first_part(&body[at + 1..], &[";"]), changing);
+                if is_beside_change || is_access && !self.is_ordered(body, at, changing) {
+                    self.refused.push(part.refused(sign.line, ORDER));
                 }
             }
         }
+    }
+
+    fn is_ordered(&mut self, body: &[Token], at: usize, changing: &BTreeSet<String>) -> bool {
+        let is_path = start_of_path(&body[..operand_end(body, at)], changing, self).is_some();
+        is_path && !beside(body, at).iter().any(|part| changes(part, changing))
     }
 }
 
 /// What stands beside the operand of an access: what is in its brackets, and what is assigned to it.
 fn beside(body: &[Token], at: usize) -> [&[Token]; 2] {
-    let open = if body[at].is("[") { at } else { at + 2 };
-    let end = behind_group(body, open).unwrap_or(body.len());
-    let is_assigned = body.get(end).is_some_and(is_assignment);
-    let behind = body[end..].iter().position(|token| token.is(";")).map_or(body.len(), |found| end + found);
-    [&body[open..end], if is_assigned { &body[end + 1..behind] } else { &[] }]
+    let group = &body[if body[at].is("[") { at } else { at + 2 }..];
+    let (brackets, behind) = group.split_at(behind_group(group, 0).unwrap_or(group.len()));
+    match behind.split_first().filter(|(sign, _)| is_assignment(sign)) {
+        Some((_, assigned)) => [brackets, first_part(assigned, &[";"])],
+        None => [brackets, &[]],
+    }
 }
 
 /// Whether something in an expression may change what others read.
 fn changes(tokens: &[Token], changing: &BTreeSet<String>) -> bool {
-    let is_call = |two: &[Token]| changing.contains(&two[0].text) && two[1].is("(");
-    tokens.iter().any(|token| token.is("mut") || is_assignment(token)) || tokens.windows(2).any(is_call)
+    let is_call = |(name, open): (&Token, &Token)| changing.contains(&name.text) && open.is("(");
+    tokens.iter().any(|token| token.is("mut") || is_assignment(token)) || neighbours(tokens).any(is_call)
 }
 
 /// Whether a bracket behind this token is an index.
@@ -1181,16 +1265,14 @@ fn is_behind_operand(before: &Token) -> bool {
 
 /// Where the operand ends before a `[` or a point: that of a copy into a part is the operand of the part.
 fn operand_end(body: &[Token], at: usize) -> usize {
-    if body[at].is(".") && body[at - 1].is("]") {
-        let open = (0..at).rev().find(|open| body[*open].is("[") && behind_group(body, *open) == Some(at));
-        return open.unwrap_or(at);
-    }
-    at
+    let front = &body[..at];
+    let is_part = body[at].is(".") && front.ends_with(&pattern("]"));
+    if is_part { start_of_last(front, opens, closes).unwrap_or(at) } else { at }
 }
 
-const ORDER: &str = "has an index, a part or a copy of what is no path of fields, or beside what changes something, and the two \
-                     languages need not evaluate these in one order: bind it before by `let`, or enter a call that \
-                     changes nothing in `PLAIN_CALLS` of rust/meaning.rs";
+const ORDER: &str = "has an index, a part or a copy of what is no path of fields, or has one of these or a `+=` beside what \
+                     changes something, and the two languages need not evaluate these in one order: bind it before by \
+                     `let`, or enter a call that changes nothing in `PLAIN_CALLS` of rust/meaning.rs";
 
 // ---- Ghost parts ----
 
@@ -1216,10 +1298,10 @@ impl Check {
 fn effect_of_step(text: &str) -> Option<String> {
     let inside = text.split_once('(').and_then(|(_, rest)| rest.strip_suffix(')')).unwrap_or(text);
     let words = tokens(inside, Language::Rust).unwrap_or_default();
-    let calls = |two: &[Token]| two[0].kind == Kind::Word && (two[1].is("(") || two[1].is("!"));
+    let is_call = |name: &Token, next: &Token| name.kind == Kind::Word && (next.is("(") || next.is("!"));
     let is_effect = |token: &Token| token.is("mut") || token.is(";") || token.is("{") || is_assignment(token);
-    let found =
-        words.iter().find(|token| is_effect(token)).or(words.windows(2).find(|two| calls(two)).map(|two| &two[0]));
+    let call = neighbours(&words).find(|(name, next)| is_call(name, next)).map(|(name, _)| name);
+    let found = words.iter().find(|token| is_effect(token)).or(call);
     if words.is_empty() {
         return Some(format!("`{text}` is no expression: {STEP_DO}"));
     }
@@ -1231,24 +1313,22 @@ fn effect_of_step(text: &str) -> Option<String> {
     })
 }
 
-/// Whether a clause has a `=` that stands neither behind `let` nor in a record.
+/// Whether a clause has a `=` that stands neither behind `let NAME` nor in a record.
 fn has_assignment(clause: &str) -> bool {
     let words: Vec<&str> = clause.split_whitespace().collect();
-    let mut in_record = 0;
+    let mut braces_of_record = 0_usize;
     words.iter().enumerate().any(|(at, word)| {
+        let before = &words[..at];
         match *word {
-            "{" if at > 0 && words[at - 1] == "record" => in_record += 1,
-            "{" if in_record > 0 => in_record += 1,
-            "}" if in_record > 0 => in_record -= 1,
+            "{" if braces_of_record > 0 || before.ends_with(&["record"]) => braces_of_record += 1,
+            "}" => braces_of_record = braces_of_record.saturating_sub(1),
             _ => {}
         }
-        let is_of_let =
-            at >= 2 && words[..at].iter().rev().take_while(|word| !LET_ENDS.contains(word)).any(|word| *word == "let");
-        word.contains('=') && *word != "==" && !(*word == "=" && (is_of_let || in_record > 0))
+        let is_binding = *word == "=" && (matches!(before, [.., "let", _]) || braces_of_record > 0);
+        word.contains('=') && *word != "==" && !is_binding
     })
 }
 
-const LET_ENDS: &[&str] = &["in", "=", "{", "}", ";"];
 const STEP_DO: &str = "a step has comparisons of names and numbers alone, so bind a call before by `let`";
 const ASSIGNS: &str = "a clause with a `=` that stands neither in `let .. in` nor in a record: what it changes in \
                        Rattle is not changed here, so write `≡`";
@@ -1257,22 +1337,18 @@ const ASSIGNS: &str = "a clause with a `=` that stands neither in `let .. in` no
 
 /// The entries of the lists as they are noted when they are used, each with its reason.
 fn entries(lists: &'static Lists) -> Vec<(String, &'static str)> {
-    let mut entries: Vec<(String, &'static str)> = Vec::new();
-    entries.extend(lists.asked_once.iter().chain(lists.bounded).map(|(entry, why)| (entry.to_string(), *why)));
-    for played in lists.played {
-        entries.extend(played.functions.iter().map(|path| (format!("played {path}"), played.why)));
-    }
-    for words in lists.words {
-        entries.extend(words.words.split_whitespace().map(|word| (format!("word {word}"), words.why)));
-    }
-    entries.extend(lists.plain_calls.iter().map(|(name, why)| (format!("call {name}"), *why)));
-    entries
+    let kinds = [("", lists.asked_once), ("", lists.bounded), ("word ", lists.words), ("call ", lists.plain_calls)];
+    let of_words = kinds.iter().flat_map(|(kind, list)| list.iter().map(|words| (*kind, words.words, words.why)));
+    let of_played = lists.played.iter().map(|played| ("played ", played.functions, played.why));
+    let all = of_words.chain(of_played);
+    all.flat_map(|(kind, words, why)| words.split_whitespace().map(move |word| (format!("{kind}{word}"), why)))
+        .collect()
 }
 
 /// What is wrong with the lists.
 fn faults_of_lists(check: &Check) -> Vec<String> {
     let mut faults = Vec::new();
-    let mut seen = BTreeMap::new();
+    let mut seen = BTreeSet::new();
     for (entry, why) in entries(check.lists) {
         if !check.used.contains(&entry) {
             faults.push(format!("nothing uses the entry `{entry}` of a list: take it out"));
@@ -1280,7 +1356,7 @@ fn faults_of_lists(check: &Check) -> Vec<String> {
         if why.trim().is_empty() {
             faults.push(format!("the entry `{entry}` of a list has no reason: write why"));
         }
-        if seen.insert(entry.clone(), why).is_some() {
+        if !seen.insert(entry.clone()) {
             faults.push(format!("the entry `{entry}` of a list is there twice: take one out"));
         }
     }
@@ -1303,21 +1379,24 @@ fn read(root: &Path) -> Result<Files, String> {
 }
 
 fn main() -> ExitCode {
-    let words: Vec<String> = std::env::args().skip(1).collect();
-    told(outcome(&words))
+    told(outcome(std::env::args()))
 }
 
-/// The status and what is told, for these arguments.
-fn outcome(words: &[String]) -> (u8, String) {
-    let root = match words {
-        [] => ".",
+/// The status and what is told, for the name of the program and its arguments.
+fn outcome(words: impl Iterator<Item = String>) -> (u8, String) {
+    let words: Vec<String> = words.skip(1).collect();
+    let root = match &words[..] {
+        [] => "",
         [word, root] if word == "--root" => root,
         _ => return (2, "meaning: the arguments are [--root FOLDER]\n".to_string()),
     };
-    let refused = match read(Path::new(root)) {
-        Ok(files) => check(&files, &LISTS),
-        Err(why) => return (2, format!("meaning: {why}\n")),
-    };
+    match read(Path::new(root)) {
+        Ok(files) => report(&check(&files, &LISTS)),
+        Err(why) => (2, format!("meaning: {why}\n")),
+    }
+}
+
+fn report(refused: &[String]) -> (u8, String) {
     if refused.is_empty() {
         let count = entries(&LISTS).len();
         return (0, format!("meaning: {count} entries of lists say why both languages mean the same\n"));

@@ -217,32 +217,40 @@ fn a_text_that_is_asked_once_is_a_text() {
     let source = "pub fn f(a: &str) {\n    unreachable!()\n}\n";
     let made = "pub fn f<S: AsRef<str>>(a: S) {\n    let a = a.as_ref();\n    unreachable_unchecked!()\n}\n";
     passes(source, made);
+    let uses = |made: &str| {
+        let mut check = Check::new(&RULES);
+        check.all(&pair(source, made));
+        check.used.contains(":AsRef<str>")
+    };
+    assert!(uses(made));
     for (from, to) in [
         ("let a = a.as_ref();", "let b = a.as_ref();"),
         ("let a = a.as_ref();", "g(); let a = a.as_ref();"),
         ("AsRef<str>", "AsRef<u8>"),
         ("AsRef<str>", "AsRef<str> + Ord"),
         ("(a: S)", "(a: S, b: S)"),
+        ("(a: S)", "(a: [S; 1])"),
         ("unreachable", "g::<S>(); unreachable"),
     ] {
         stops(source, &made.replace(from, to), RUNS);
+        assert!(!uses(&made.replace(from, to)), "{to}");
     }
 }
 
 #[test]
 fn a_function_of_the_list_has_a_reason_and_a_use() {
-    static LISTED: Lists = Lists { bounded: &[("arraystring_base::a::three", "a test")], ..RULES };
+    static LISTED: Lists = Lists { bounded: &[words("a test", "arraystring_base::a::three")], ..RULES };
     assert_eq!(refused(&pair(THREE, &without_tests(THREE)), &LISTED), [""; 0]);
     static NONE: Lists = Lists { asked_once: &[], bounded: &[], played: &[], words: &[], plain_calls: &[] };
     let faults = |lists| check(&pair("", ""), lists);
-    static STALE: Lists = Lists { bounded: &[("arraystring_base::a::three", " ")], ..NONE };
+    static STALE: Lists = Lists { bounded: &[words(" ", "arraystring_base::a::three")], ..NONE };
     let stale = "nothing uses the entry `arraystring_base::a::three` of a list: take it out";
     let empty = "the entry `arraystring_base::a::three` of a list has no reason: write why";
     assert_eq!(faults(&STALE), [stale, empty]);
     static TWICE: Lists = Lists { words: &[words("a test", "+ +")], ..NONE };
     assert!(faults(&TWICE).contains(&"the entry `word +` of a list is there twice: take one out".to_string()));
     static PLAYS: Lists =
-        Lists { played: &[Played { functions: &["f"], calls: &[], why: "" }], plain_calls: &[("g", "")], ..NONE };
+        Lists { played: &[Played { functions: "f", calls: "", why: "" }], plain_calls: &[words("", "g")], ..NONE };
     assert_eq!(faults(&PLAYS).len(), 4);
 }
 
@@ -283,6 +291,10 @@ fn a_field_of_an_invariant_is_private() {
             assert!(found[0].starts_with(SOURCE) && found[1].starts_with(HERE), "{found:#?}");
         }
     }
+    // Behind another item, the first of two, and a field by the name of the word.
+    let two = made(GUARDED).replace("    start", "    pub start").replace("    size", "    pub size");
+    let behind = format!("fn f() {{}}\nmod g {{}}\n{GUARDED}");
+    stops(&behind, &format!("fn f() {{}}\nmod g {{}}\n{two}"), "a.rs:5: `arraystring_base::a::struct A` has");
     // In a made file alone, a tuple, an enum, and a type without an invariant.
     stops(
         GUARDED,
@@ -304,7 +316,7 @@ const UNWINDS: &str =
     "runs a caller's code, which may panic, and writes what an invariant is about: let the invariant hold";
 
 /// The functions of `A` in these tests that are known to need nothing of a bound.
-static ANY: Lists = Lists { bounded: &[("arraystring_base::a::A::f", "a test")], ..RULES };
+static ANY: Lists = Lists { bounded: &[words("a test", "arraystring_base::a::A::f")], ..RULES };
 
 #[test]
 fn a_broken_invariant_lasts_through_no_call_of_a_callers() {
@@ -359,15 +371,11 @@ fn what_may_unwind_is_played_by_the_tests() {
     let source =
         guarded("    pub fn f<T: Ord>(&mut self, a: &T, b: &T) -> bool {\n        self.size = 0; a < b\n    }");
     let files = pair(&source, &made(&source));
-    static RETAINED: Lists = Lists {
-        played: &[Played { functions: &["arraystring_base::a::A::f"], calls: &["retain"], why: "a test" }],
-        ..ANY
-    };
+    static RETAINED: Lists =
+        Lists { played: &[Played { functions: "arraystring_base::a::A::f", calls: "retain", why: "a test" }], ..ANY };
     assert_eq!(refused(&files, &RETAINED), [""; 0]);
-    static DRAINED: Lists = Lists {
-        played: &[Played { functions: &["arraystring_base::a::A::f"], calls: &["drain"], why: "a test" }],
-        ..ANY
-    };
+    static DRAINED: Lists =
+        Lists { played: &[Played { functions: "arraystring_base::a::A::f", calls: "drain", why: "a test" }], ..ANY };
     let found = refused(&files, &DRAINED);
     assert!(
         found.len() == 1
@@ -375,7 +383,7 @@ fn what_may_unwind_is_played_by_the_tests() {
         "{found:#?}"
     );
     static OWN: Lists =
-        Lists { played: &[Played { functions: &["arraystring_base::a::A::f"], calls: &[], why: "a test" }], ..ANY };
+        Lists { played: &[Played { functions: "arraystring_base::a::A::f", calls: "", why: "a test" }], ..ANY };
     let found = refused(&files, &OWN);
     assert!(
         found.len() == 1 && found[0].contains("is said to run no caller's code, and others may hand some in"),
@@ -391,6 +399,39 @@ fn what_may_unwind_is_played_by_the_tests() {
     }
 }
 
+#[test]
+fn what_plays_a_call_is_of_a_type() {
+    for (text, is_it) in [
+        (".retain(f)", true),
+        ("a.retain(f)", true),
+        ("A::retain(f)", true),
+        ("g(A::retain)", true),
+        ("a.retain::<F>(f)", true),
+        ("retain(f)", false),
+        ("g(retain)", false),
+        ("a.retain", false),
+        ("A::retain + f", false),
+        ("a.retained(f)", false),
+        ("a.retain.f(); retain(f)", false),
+    ] {
+        assert_eq!(is_made("retain", &pattern(text)), is_it, "{text}");
+    }
+}
+
+/// Who is played twice is played by all of these calls.
+#[test]
+fn each_call_that_plays_a_function_is_made() {
+    let source = guarded("    pub fn f<T: Ord>(&mut self, a: &T) -> bool {\n        self.size = 0; a < a\n    }");
+    const fn playing(calls: &'static str) -> Played {
+        Played { functions: "arraystring_base::a::A::f", calls, why: "a test" }
+    }
+    static THREE: Lists = Lists { played: &[playing("retain drain"), playing("other")], ..ANY };
+    let nowhere = |call: &str| {
+        format!("{HERE}:7: `arraystring_base::a::A::f` is played by `{call}`, and {UNWINDING} calls it nowhere")
+    };
+    assert_eq!(refused(&pair(&source, &made(&source)), &THREE), ["drain", "other"].map(nowhere));
+}
+
 // ---- Words ----
 
 #[test]
@@ -403,7 +444,7 @@ fn a_range_without_an_end_is_walked_by_nobody() {
     let endless = "has a range of numbers without an end, which stops at the greatest number in Rattle, and wraps or \
                    panics in Rust: write its end";
     for of in ["250..", "a..", "(a..)"] {
-        stops(&source(of), &source(of), endless);
+        stops(&source(of), &source(of), &format!("a.rt:3: `arraystring_base::a::f` {endless}"));
     }
     let found = refused(&pair(&source("250u8.."), &source("250u8..")), &RULES);
     assert!(found.len() == 2 && found[0].contains(endless) && found[1].contains("`number:u8`"), "{found:#?}");
@@ -465,7 +506,9 @@ fn a_new_word_of_an_item_stops() {
         ("pub struct A(i8);\n", "i8"),
         ("use core::mem::size_of;\n", "use:core::mem::size_of"),
         ("use core::mem as m;\n", "use:core::mem:m"),
+        ("use other;\n", "use:other"),
         ("pub const A: usize = usize::MAX;\n", "usize::MAX"),
+        ("async fn f() {}\n", "async"),
     ] {
         let found = refused(&pair(item, item), &RULES);
         assert!(
@@ -474,6 +517,9 @@ fn a_new_word_of_an_item_stops() {
         );
     }
     passes("#[derive(Clone, Copy)]\npub struct A(u8);\n", "#[derive(Clone, Copy)]\npub struct A(u8);\n");
+    // What only the head of an impl has is told at each function.
+    let in_impl = "pub struct A(u8);\nimpl A<i8> {\n\n    fn f() {}\n}\n";
+    stops(in_impl, in_impl, "a.rt:4: `arraystring_base::a::A::f` has `i8`, which is in no list");
 }
 
 // ---- Names ----
@@ -496,13 +542,15 @@ fn a_name_of_the_access_macros_is_taken() {
             "pub struct A(u8);\nimpl A {{\n    pub fn {name}(&self, at: usize) -> &u8 {{\n        &self.0\n    }}\n}}\n"
         );
         let found = refused(&pair(&method, &method), &RULES);
-        assert!(found.len() >= 2 && found.iter().all(|found| found.contains(taken)), "{name}: {found:#?}");
-        let uses = format!("use crate::b as {name};\n");
-        assert!(refused(&pair(&uses, &uses), &RULES).iter().all(|found| found.contains(taken)));
+        let told: Vec<_> = found.into_iter().filter(|why| why.contains(taken)).collect();
+        assert_eq!(told, [SOURCE, HERE].map(|file| format!("{file}:3: `arraystring_base::a::A::{name}` {taken}")));
+        for path in [format!("crate::b as {name}"), format!("crate::b::{name}")] {
+            let found = refused(&pair(&format!("use {path};\n"), &format!("use {path};\n")), &RULES);
+            assert_eq!(found.iter().filter(|why| why.contains(taken)).count(), 2, "{found:#?}");
+        }
         let mut files = pair("", "");
-        files.insert(format!("{MADE}by_hand/b.rs"), format!("macro_rules! {name} {{ () => {{}}; }}\n"));
-        let found = refused(&files, &RULES);
-        assert!(found.len() == 1 && found[0].contains("by_hand/b.rs:1: ") && found[0].contains(taken), "{found:#?}");
+        files.insert(format!("{MADE}by_hand/b.rs"), format!("\nmacro_rules! {name} {{ () => {{}}; }}\n"));
+        assert_eq!(refused(&files, &RULES), [format!("{MADE}by_hand/b.rs:2: {taken}")]);
     }
     let other = "pub struct A(u8);\nimpl A {\n    pub fn first_of(&self) -> &u8 {\n        &self.0\n    }\n}\n";
     passes(other, other);
@@ -532,7 +580,8 @@ fn an_index_of_the_sources_is_refused() {
     for name in ["Index<usize>", "IndexMut<usize>", "Deref", "DerefMut", "core::ops::Index<usize>"] {
         let own = format!("pub struct A(u8);\nimpl {name} for A {{}}\n");
         let found = refused(&pair(&own, &own), &RULES);
-        assert!(found[0].contains("makes an index, or a method behind a point, mean this in an access"), "{found:#?}");
+        let why = "makes an index, or a method behind a point, mean this in an access";
+        assert!(found[0].starts_with(&format!("{SOURCE}:2: ")) && found[0].contains(why), "{found:#?}");
     }
 }
 
@@ -578,13 +627,17 @@ fn an_operand_is_bound_before_its_index() {
         "let first = crate::all[count]",
         "let first = all?[count]",
         "all[count] = *pick(&mut count, all)",
+        "all[part[0]] = *pick(count, all)",
         "all[count] += self.step()",
         "let part = &all[self.step()..count]",
         "let part = &all[{ count += 1; count }..]",
         "all[1..count].copy_from_slice(pick(&mut count, all))",
+        "count += self.step()",
+        "count -= { count = 1; count }",
     ] {
         let found = refused(&pair(&source(body), &source(body)), &RULES);
-        assert!(found.iter().any(|found| found.contains(order)), "{body}: {found:#?}");
+        let place = format!("{SOURCE}:7: `arraystring_base::a::A::f` has an index");
+        assert!(found.iter().any(|found| found.starts_with(&place) && found.contains(order)), "{body}: {found:#?}");
     }
     for body in [
         "let picked = pick(count, all); let first = &picked[count..count + 1]",
@@ -593,6 +646,8 @@ fn an_operand_is_bound_before_its_index() {
         "all[1..count].copy_from_slice(part)",
         "all[count] = part[count] + 1",
         "if all[count] == part[count] { count += 1; }",
+        "if count == 1 { count += count } else { count = 1 }",
+        "count = self.step()",
         "let more: [u8; 3] = [1; 3]",
     ] {
         passes(&source(body), &source(body));
@@ -613,6 +668,8 @@ fn a_step_of_a_proof_changes_nothing() {
         ("y < 3; true", "`;`"),
         ("g(&mut y)", "`mut`"),
         ("f(x) < 3", "`f`"),
+        ("f(g(x)) < 3", "`f`"),
+        ("*x = (3)", "`=`"),
         ("x.len() < 3", "`len`"),
         ("g!(x)", "`g`"),
     ] {
@@ -622,6 +679,12 @@ fn a_step_of_a_proof_changes_nothing() {
         };
         assert!(found.len() == 1 && is_it(&found[0]), "{step}: {found:#?}");
     }
+    // A source of which nothing is made has proofs, too.
+    let mut files = pair("", "");
+    files.insert(SOURCE.replace("a.rt", "b.rt"), format!("\n{}", source("*x = 3")));
+    let found = refused(&files, &RULES);
+    let place = "crates/arraystring_base/src/b.rt:3: `=` in `prove!(*x = 3)`";
+    assert!(found.len() == 1 && found[0].starts_with(place), "{found:#?}");
     for step in ["y < 3", "y == 3", "y <= x.offset + 3", "(y + 1) * 2 != 3"] {
         passes(&source(step), &without_ghosts(&source(step)));
     }
@@ -665,11 +728,13 @@ fn a_function_has_the_type_of_its_impl() {
         ("impl A { fn f() {} }", Some("A")),
         ("mod b { impl A { fn f() {} } }", Some("A")),
         ("impl<T: B<C>> A<T> { fn f() {} }", Some("A")),
+        ("impl<T: for<'b> B<'b>> A<T> { fn f() {} }", Some("A")),
         ("impl B<C> for A { fn f() {} }", Some("A")),
         ("impl<'a, T: Ord> B for &'a A<T> { fn f() {} }", Some("A")),
+        ("impl<T: Ord> B for &mut c::A<T> where T: D { fn f() {} }", Some("A")),
     ] {
         let part = part_of(text, "fn f");
-        assert_eq!((part.owner().as_deref(), part.name()), (owner, "f"), "{text}");
+        assert_eq!((part.owner().as_deref(), part.name(), part.last()), (owner, "f", "fn f"), "{text}");
     }
     let part = part_of("mod b { impl<T: C<D<E>>> A { fn f() {} } }", "fn f");
     assert_eq!(compare::shown(&part.around()), "mod b / impl < T : C < D < E > > > A");
@@ -709,6 +774,11 @@ fn a_type_parameter_is_no_lifetime_and_no_number() {
         let shown = |(name, bounds): (&str, &[Token])| format!("{name} {}", compare::shown(bounds));
         assert_eq!(type_parameters(&tokens, 2).into_iter().map(shown).collect::<Vec<_>>(), wanted, "{head}");
     }
+    for (text, wanted) in
+        [("(a) b", "a"), ("{ a, (b) } c", "a , ( b )"), ("() a", ""), ("a (b)", ""), ("(a", ""), ("", "")]
+    {
+        assert_eq!(compare::shown(inside(&pattern(text))), wanted, "{text}");
+    }
     for (text, wanted) in [("< a > b", "a"), ("< a < b > c > d", "a < b > c"), ("< >", ""), ("< a", "a")] {
         assert_eq!(compare::shown(between_angles(&pattern(text), 0)), wanted, "{text}");
     }
@@ -716,7 +786,7 @@ fn a_type_parameter_is_no_lifetime_and_no_number() {
 
 #[test]
 fn a_name_is_called_or_handed_on() {
-    for text in ["f(a)", "f::<A>(b)", "g(f)", "g(a, f)", "g(f, a)", "a::f;", "let b = f;", "g(&f)"] {
+    for text in ["f(a)", "f::<A>(b)", "g(f)", "g(a, f)", "g(f, a)", "a::f;", "let b = f;", "g(&f)", "(f)"] {
         let tokens = pattern(text);
         let at = tokens.iter().position(|token| token.is("f")).expect("it");
         assert!(is_call(&tokens, at), "{text}");
@@ -751,8 +821,10 @@ fn what_writes_a_field_of_an_invariant_is_known() {
         "{ g(&mut a.b.size); }",
         "{ copy_bytes!(self.size, 1, b); }",
         "{ get_unchecked_mut!(self.size, 1); }",
+        "{ get_unchecked_mut![self.size, 1]; }",
         "{ *self = b; }",
         "{ *a += 1; }",
+        "&mut self.size",
     ] {
         assert!(writes(&pattern(body), &program).is_some(), "{body}");
     }
@@ -768,9 +840,18 @@ fn what_writes_a_field_of_an_invariant_is_known() {
         "{ g!(a, self.size); }",
         "{ *a == b }",
         "{ (a, self.size) == b }",
+        "{ g(self.size); (a, b) = c; }",
+        "{ (a, b) = c; g(self.size); }",
+        "{ required!(self.size); }",
+        "{ copy_bytes(self.size); }",
+        "self.size",
+        "self.size[1]",
+        "self.size[",
+        "(a, self.size)",
     ] {
         assert!(writes(&pattern(body), &program).is_none(), "{body}");
     }
+    assert_eq!(writes(&pattern("{ self.size = 1; self.start = 2; }"), &program), Some(3));
     for sign in "= += -= *= /= %= ^= &= |= <<= >>=".split(' ') {
         assert!(is_assignment(&pattern(sign)[0]), "{sign}");
     }
@@ -788,13 +869,18 @@ fn a_new_value_of_a_type_with_an_invariant_is_known() {
         ("let a = A(1);", Some("a new `A`")),
         ("let a = Self(1);", Some("a new `Self`")),
         ("let a = B(1);", None),
+        ("let a = B(size);", None),
         ("let a = B { other: 1 };", None),
         ("let a = b { size: 1 };", None),
         ("if a { size }", None),
         ("let a = A::new();", None),
+        ("let a = Alias { b, size };", Some("a new `Alias`")),
+        ("let a = match b { 1 => B { other: 1 }, size => 2 };", None),
+        ("return A", None),
         ("unsafe { g() }", Some("`unsafe`")),
         ("get_unchecked!(a, 1);", Some("`get_unchecked!`")),
         ("self.size = 1;", Some("a write of `size`")),
+        ("self.size = 1; unsafe { g() }", Some("`unsafe`")),
         ("self.size", None),
     ] {
         let program = program_of("");
@@ -811,6 +897,7 @@ fn a_pattern_is_what_it_binds() {
     for (body, sign, wanted) in [
         ("let a = b;", "let", "a"),
         ("let (a, b): (u8, u8) = c;", "let", "( a , b )"),
+        ("let A { b: c } = d;", "let", "A { b : c }"),
         ("let a;", "let", "a"),
         ("for (a, b) in c {}", "for", "( a , b )"),
         ("g(|a, b| c)", "|", "a , b"),
@@ -820,6 +907,8 @@ fn a_pattern_is_what_it_binds() {
         ("a | b", "|", ""),
         ("match a { B(c) => d, _ => e }", "=>", "B ( c )"),
         ("match a { _ => e, B(c) if f(c) => d }", "=>", "_"),
+        ("g(| | a)", "|", ""),
+        ("| a", "|", ""),
         ("a", "a", ""),
     ] {
         let tokens = pattern(body);
@@ -830,6 +919,7 @@ fn a_pattern_is_what_it_binds() {
         ("match a { b => c, D(e, { f }) if g => h }", "D ( e , { f } ) if g"),
         ("match a { b => { c } D { e } => h }", "D { e }"),
         ("match a { D[e, f] => h }", "D [ e , f ]"),
+        ("match a { b => { c } d => h }", "d"),
         ("=> h", ""),
     ] {
         let tokens = pattern(body);
@@ -837,18 +927,17 @@ fn a_pattern_is_what_it_binds() {
         assert_eq!(compare::shown(&tokens[start_of_arm(&tokens, arrow)..arrow]), wanted, "{body}");
     }
     for (text, wanted) in [
-        ("A::b", "A"),
-        ("a::b::c", "b"),
-        ("A::<B, C>::d", "A"),
-        ("A::<B<C>>::d", "A"),
-        ("<A as B>::c", ""),
-        ("(a)::b", ""),
-        ("::b", ""),
-        ("c < A::d", "A"),
+        ("A::b", Some("A")),
+        ("a::b::c", Some("b")),
+        ("A::<B, C>::d", Some("A")),
+        ("A::<B<C>>::d", Some("A")),
+        ("<A as B>::c", None),
+        ("(a)::b", None),
+        ("::b", None),
+        ("c < A::d", Some("A")),
     ] {
         let tokens = with_single_closings(pattern(text));
-        let at = tokens.iter().rposition(|token| token.is("::")).expect("the sign");
-        assert_eq!(head_of_path(&tokens, at), wanted, "{text}");
+        assert_eq!(head_of_path(&tokens, tokens.len() - 1), wanted, "{text}");
     }
 }
 
@@ -863,11 +952,15 @@ fn each_word_and_sign_is_listed_by_what_it_is() {
     let bound = ["bound".to_string()].into();
     for (text, word, wanted) in [
         ("a as u8", "u8", Some("as:u8")),
+        ("a as Self", "Self", Some("as:Self")),
+        ("a.await", "await", Some(".await")),
+        ("a::super", "super", Some("a::super")),
         ("a.method()", "method", None),
         ("a.other()", "other", Some(".other()")),
         ("a.other::<u8>()", "other", Some(".other()")),
         ("a.field", "field", None),
         ("a.field()", "field", Some(".field()")),
+        ("(a.field) < b", "field", None),
         ("a.method", "method", Some(".method")),
         ("Own::own", "own", None),
         ("Own::method", "method", None),
@@ -892,12 +985,16 @@ fn each_word_and_sign_is_listed_by_what_it_is() {
         ("other![a]", "other", Some("other!")),
         ("other! {}", "other", Some("other!")),
         ("other != a", "other", Some("other")),
+        ("other + (a)", "other", Some("other")),
         ("module::a", "module", None),
         ("module", "module", Some("module")),
         ("fn other()", "other", None),
         ("mod other;", "other", None),
         ("type other;", "other", None),
         ("A { field: 1 }", "field", None),
+        ("A { other: 1 }", "other", Some("other")),
+        ("pub field: u8", "field", None),
+        ("a: field + b", "field", Some("field")),
         ("A { field }", "field", None),
         ("A { a, field }", "field", None),
         ("A { field(1) }", "field", Some("field()")),
@@ -905,6 +1002,13 @@ fn each_word_and_sign_is_listed_by_what_it_is() {
         ("{ ..a }", "..", Some("..")),
         ("a[b..]", "..", Some("a..]")),
         ("a[..]", "..", Some("a..]")),
+        ("a()[b(c)..]", "..", Some("a..]")),
+        ("(a[b..])", "..", Some("a..]")),
+        ("[a..]", "..", Some("a..")),
+        ("a = [b(c), d..]", "..", Some("a..")),
+        ("let [a, ..] = b;", "..", Some("a..]")),
+        ("let [.., a] = b;", "..", Some("..")),
+        ("[..]", "..", Some("a..]")),
         ("a[..b]", "..", Some("..")),
         ("a[b..c]", "..", Some("..")),
         ("A { .. }", "..", Some("{..}")),
@@ -913,6 +1017,9 @@ fn each_word_and_sign_is_listed_by_what_it_is() {
         ("for a in b.. {}", "..", Some("a..")),
         ("for a in b { c[d..e]; }", "..", Some("..")),
         ("for a in b; c..d", "..", Some("..")),
+        ("for a in b { c..d; }", "..", Some("..")),
+        ("for a in b[c..d] {}", "..", Some("..")),
+        ("a; for b in c..d {}", "..", Some("in:a..b")),
         ("g(b..)", "..", Some("a..")),
         ("let a = b..;", "..", Some("a..")),
         ("g(b.., c)", "..", Some("a..")),
@@ -920,7 +1027,15 @@ fn each_word_and_sign_is_listed_by_what_it_is() {
         ("g(..)", "..", Some("..")),
         ("g(.., a)", "..", Some("..")),
         ("matches!(a, b..)", "..", Some("matches!(a..)")),
+        ("c && matches!(a(b(c)), d..)", "..", Some("matches!(a..)")),
+        ("g(matches!(a, b..))", "..", Some("matches!(a..)")),
+        ("matches!(a, g(b..))", "..", Some("a..")),
+        ("c && matches![a[b], c..]", "..", Some("matches!(a..)")),
+        ("c && matches! { a {b}, c.. }", "..", Some("matches!(a..)")),
+        ("matches!(a, b) && c(..)", "..", Some("..")),
+        ("in b..c", "..", Some("in:a..b")),
         ("matches!(a, b..=c)", "..=", Some("matches!(a..=b)")),
+        ("matches!(a, b)", ",", Some(",")),
         ("other!(a, b..=c)", "..=", Some("..=")),
         ("matches(a, b..=c)", "..=", Some("..=")),
         ("a..=b", "..=", Some("..=")),
@@ -961,11 +1076,30 @@ fn each_word_and_sign_is_listed_by_what_it_is() {
     assert_eq!(attribute("inline(always)"), ["#[inline(always)]"]);
 }
 
+/// The words that the reference of Rust calls keywords, strict ones and `union`. (`true` and `false` are values.)
+const WORDS_OF_RUST: &str = "as async await break const continue crate dyn else enum extern fn for if impl in let loop \
+                             match mod move mut pub ref return self Self static struct super trait type union unsafe \
+                             use where while";
+
+#[test]
+fn a_keyword_is_no_name() {
+    let names = Names::default();
+    for word in WORDS_OF_RUST.split_whitespace() {
+        let bound = [word.to_string()].into();
+        let tokens = pattern(&format!("{word} (a)"));
+        let spelling = Spelling { tokens: &tokens, names: &names, bound: &bound };
+        assert_eq!(spelling.listed(0).as_deref(), Some(word));
+        assert_eq!(is_behind_operand(&tokens[0]), word == "self", "{word}");
+    }
+}
+
 #[test]
 fn an_operand_ends_before_its_index() {
     for (text, sign, wanted) in [
         ("a.b[c]", "[", Some(0)),
         ("d + a.b.0[c]", "[", Some(2)),
+        ("g(a[c])", "[", Some(2)),
+        ("as_str + a[c]", "[", Some(2)),
         ("self.a[c]", "[", Some(0)),
         ("self.as_str()[c]", "[", Some(0)),
         ("self.other()[c]", "[", None),
@@ -977,7 +1111,7 @@ fn an_operand_ends_before_its_index() {
     ] {
         let tokens = pattern(text);
         let at = tokens.iter().position(|token| token.is(sign)).expect("the sign");
-        let found = start_of_path(&tokens, at, &BTreeSet::new(), &mut Check::new(&RULES));
+        let found = start_of_path(&tokens[..at], &BTreeSet::new(), &mut Check::new(&RULES));
         assert_eq!(found, wanted, "{text}");
     }
     for (text, wanted) in [("a.b", 1), ("a[1].b", 1), ("a[1][2].b", 4), ("a[b[1]].c", 1)] {
@@ -1003,6 +1137,8 @@ fn an_operand_ends_before_its_index() {
         ("a[b] += c + d; e", ["[ b ]", "c + d"]),
         ("a[b] + c;", ["[ b ]", ""]),
         ("a[b] = c", ["[ b ]", "c"]),
+        ("a[b] = { c; d }; e", ["[ b ]", "{ c ; d }"]),
+        ("a[b] = (c) } d = e;", ["[ b ]", "( c )"]),
         ("a.copy_from_slice(b) ; c", ["( b )", ""]),
     ] {
         let tokens = pattern(text);
@@ -1032,10 +1168,22 @@ fn a_clause_assigns_nothing() {
         ("requires { record { a = x } ≡ y }", false),
         ("requires { record { a = { b = x } } ≡ y }", false),
         ("requires { record { a = { b } } ≡ y = z }", true),
+        ("requires { record { a = { b = x } ; c = x } ≡ y }", false),
+        ("requires { { x } ≡ record { a = y } }", false),
+        ("requires { { x } y = z }", true),
         ("requires { { a = x } }", true),
         ("requires { x == 3 }", false),
         ("requires { x <= 3 }", true),
         ("requires { x ≤ 3 }", false),
+    ] {
+        assert_eq!(has_assignment(clause), wanted, "{clause}");
+    }
+    // A `let` is of one name, and of the `=` behind that.
+    for (clause, wanted) in [
+        ("requires { let a = b = 3 in c }", true),
+        ("requires { let = 3 }", true),
+        ("requires { let a b = 3 }", true),
+        ("requires { a = 3 in let b }", true),
     ] {
         assert_eq!(has_assignment(clause), wanted, "{clause}");
     }
@@ -1048,7 +1196,7 @@ fn a_clause_assigns_nothing() {
 fn what_is_told_has_its_status() {
     let root = std::env::current_dir().expect("a folder");
     let root = root.ancestors().find(|it| it.join("crates/arraystring_base").is_dir()).expect("the repository");
-    let with = |words: &[&str]| outcome(&words.iter().map(|word| word.to_string()).collect::<Vec<_>>());
+    let with = |words: &[&str]| outcome(["meaning"].iter().chain(words).map(|word| word.to_string()));
     let all = format!("meaning: {} entries of lists say why both languages mean the same\n", entries(&LISTS).len());
     assert_eq!(with(&["--root", root.to_str().expect("a path")]), (0, all));
     for words in [&["--other", "a"][..], &["--root"], &["--root", "a", "b"]] {
@@ -1056,6 +1204,24 @@ fn what_is_told_has_its_status() {
     }
     let (status, text) = with(&["--root", "/nowhere"]);
     assert!(status == 2 && text.starts_with("meaning: /nowhere/crates/arraystring_base/src: "), "{text}");
+    // A folder with no test of unwinding.
+    let folder = std::env::temp_dir().join(format!("meaning-{}", std::process::id()));
+    let sources = compare::lists::CRATES.iter().map(|krate| format!("crates/{krate}/src"));
+    for below in sources.chain([MADE.to_string()]) {
+        std::fs::create_dir_all(folder.join(below)).expect("a folder");
+    }
+    let (status, text) = with(&["--root", folder.to_str().expect("a path")]);
+    std::fs::remove_dir_all(&folder).expect("the folder");
+    assert!(status == 2 && text.starts_with(&format!("meaning: {UNWINDING}: ")), "{text}");
+    let all = report(&["a.rs:1: b".to_string(), "c".to_string()]);
+    assert_eq!(all, (1, "meaning: a.rs:1: b\nmeaning: c\nmeaning: 2 are refused\n".to_string()));
+}
+
+/// Those of the tests are no arguments of the program, and without any it finds no sources, or these.
+#[test]
+fn the_program_ends_with_the_status() {
+    let (status, _) = outcome(std::env::args());
+    assert_eq!(format!("{:?}", main()), format!("{:?}", ExitCode::from(status)));
 }
 
 #[test]
@@ -1081,9 +1247,15 @@ fn what_an_access_calls_is_read_off_its_file() {
         let text = format!("macro_rules! m {{ ($of:expr) => {{ {body} }}; }}\nfn f() {{ unsafe {{ g() }} }}\n");
         assert_eq!(Access::new(&text).expect("a macro").untested.contains("m"), is_untested, "{body}");
     }
+    // What its body has says it, and not its name; and a place at the end of the file names nothing.
+    let named = "macro_rules! m_unchecked { ($of:expr) => { $of.a(b) }; }\n$of. macro_rules!";
+    let access = Access::new(named).expect("a macro");
+    assert_eq!((names(&access.macros).as_str(), names(&access.untested).as_str()), ("m_unchecked", ""));
+    assert_eq!(names(&access.methods), "a macro_rules");
     let fault = Access::new("macro_rules! m { ($a:expr) => { $a.b() }; }\n").err().expect("a fault");
     assert_eq!((fault.line, fault.why.as_str()), (1, "no macro calls anything on its operand, `$of`"));
-    let tokens = pattern("m!(a); get_unchecked!(b); get_unchecked(c); required!(d)");
+    let access = Access::new(include_str!("arraystring/src/by_hand/access.rs")).expect("macros");
+    let tokens = pattern("m!(a); get_unchecked!(b); get_unchecked(c); required!(d); get_unchecked");
     let found = (0..tokens.len()).filter_map(|at| Some((at, access.macro_at(&tokens, at)?)));
     assert_eq!(found.collect::<Vec<_>>(), [(6, "get_unchecked")]);
 }
@@ -1091,6 +1263,9 @@ fn what_an_access_calls_is_read_off_its_file() {
 #[test]
 fn the_names_of_the_sources_are_known_by_their_kind() {
     let source = "
+#![o]
+use p::q as r;
+use p::s;
 pub struct A { b: u8 }
 pub enum C { D, E }
 const F: u8 = 1;
@@ -1103,16 +1278,20 @@ impl A {
     fn l() {}
 }
 fn m(mut n: A) {}
+fn t(u: u8, v: &mut A) {}
+fn w<'a>(x: &'a mut A) {}
+fn y(z: &'a A) {}
+struct Z<'a> { b: &'a mut A }
 ";
     let origin = Origin { language: Language::Rattle, krate: "arraystring_base", module: "a", orders: &[] };
     let parts = items(source, origin).expect("items").into_iter().map(|item| Part { file: SOURCE.to_string(), item });
     let names = Names::new(&parts.collect::<Vec<_>>());
     let shown = |set: &BTreeSet<String>| set.iter().map(String::as_str).collect::<Vec<_>>().join(" ");
-    assert_eq!(shown(&names.types), "A C D E F G");
+    assert_eq!(shown(&names.types), "A C D E F G Z");
     assert_eq!(shown(&names.fields), "b");
     assert_eq!(shown(&names.methods), "i j k");
-    assert_eq!(shown(&names.changing), "j k");
-    assert_eq!(shown(&names.functions), "l m");
+    assert_eq!(shown(&names.changing), "j k t w");
+    assert_eq!(shown(&names.functions), "l m t w y");
     assert_eq!(shown(&names.modules), "arraystring arraystring_base arraystring_core crate h self super");
 }
 
@@ -1135,6 +1314,12 @@ fn an_invariant_is_of_the_type_of_its_model() {
     assert_eq!(program.guarded.len(), 1);
     assert!(program.is_guarded("B") && !program.is_guarded("A"));
     assert!(program.is_guarded_field("c") && program.is_guarded_field("d") && !program.is_guarded_field("0"));
+    // Types of one name in two files are no less guarded for that.
+    let mut files = pair(two, "");
+    files.insert(SOURCE.replace("a.rt", "b.rt"), "pub struct B { e: u8 }\n".to_string());
+    files.insert(HERE.replace("a.rs", "b.rs"), String::new());
+    let program = Program::new(&files).expect("a program");
+    assert!(["c", "d", "e"].iter().all(|field| program.is_guarded_field(field)));
     stops("ghost invariant = { a };\n", "", "a.rt:1: an invariant of no type");
     let model = "impl Model for B {\n    ghost invariant = { λ b. IsIt b };\n}\n";
     stops(&format!("\n{model}"), "", "a.rt:3: an invariant of `B`, which is no type");
@@ -1203,6 +1388,9 @@ fn what_can_not_be_read_is_told() {
     let mut files = pair("fn f() {}\n", "fn f() {}\n");
     files.insert(ACCESS.to_string(), "\nmacro_rules! m { \"".to_string());
     let wanted = format!("{ACCESS}:2: a text without its end");
+    assert_eq!(refused(&files, &RULES), [wanted.as_str()]);
+    // Of two faults the first that is met is told.
+    files.insert(SOURCE.to_string(), "}\n".to_string());
     assert_eq!(refused(&files, &RULES), [wanted]);
 }
 
@@ -1251,6 +1439,9 @@ fn a_call_is_of_a_function_by_its_name_and_its_type() {
         let found = with_callers(&functions, [seed].into(), &names);
         assert_eq!(found.into_iter().collect::<Vec<_>>(), wanted);
     }
+    // The caller first.
+    let found = with_callers(&[functions[1], functions[0]], [1].into(), &names);
+    assert_eq!(found.into_iter().collect::<Vec<_>>(), [0, 1]);
 }
 
 /// What is named of the sources has to have its like in what is made; what has none is not looked at.

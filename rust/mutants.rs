@@ -617,8 +617,10 @@ impl Run<'_> {
             let changes: Vec<(usize, &Mutant)> =
                 those.iter().map(|&at| (at + 1, &self.mutants[at])).filter(|(_, mutant)| mutant.file == file).collect();
             let (mut text, mut at) = switched(&read(&self.root.join(file))?, &changes);
-            // (a body that stands there fifty times is not put into each caller)
-            text = text.replace("#[inline(always)]", "#[inline(never)]");
+            // (a body that stands there fifty times is not put into each caller; a program has the words in a list)
+            if self.subject.is_crate {
+                text = text.replace("#[inline(always)]", "#[inline(never)]");
+            }
             if file == self.subject.root_file {
                 // (the features stand before all, and move each line)
                 text = format!("{FEATURES}{text}{SWITCH}");
