@@ -1,10 +1,14 @@
 """What bench/run builds, runs and tells, and what rust/bench/links and bench/least do: over stand-ins for the programs."""
+import io
 import os
 import re
+import runpy
 import subprocess
 import sys
+from contextlib import redirect_stderr, redirect_stdout
 from pathlib import Path
 from types import SimpleNamespace
+from unittest import mock
 
 from planted import TreeTest
 from repository import ROOT, read
@@ -387,6 +391,135 @@ class Ports(TreeTest):
         lines = told["program"].splitlines()[0].split("|")[2:-1]
         self.assertEqual(lines, [f"{it:,} lines" for it in OF_PORT.LINES])
         self.assertEqual(told["edges"].splitlines()[0].split("|")[2:-1], [str(it) for it in OF_PORT.EDGE_CAPACITIES])
+        for command in (OF_PORT, OF_CRATE):
+            drawings = re.findall(r"!\[.*\]\((.*)\)", read(command.PAGE))
+            self.assertEqual([command.PAGE.parent / it for it in drawings], [command.DRAWING])
+        titles = pages.parts_of(read(OF_CRATE.PAGE), "rust/bench/run")["clock"].split("|Nanoseconds, ")[1:]
+        self.assertEqual([it.partition("|")[0] for it in titles], [*OF_CRATE.CLOCKS.values()])
+
+    def test_a_counter_is_of_a_call_of_the_port_and_of_the_same_with_steps(self):
+        plain, counted = read(ROOT / "bench/port.txt"), read(ROOT / "bench/steps.txt")
+        for title, name in OF_PORT.COUNTED:
+            self.assertIn(f"fn counted_{name}(", plain)
+            self.assertIn(f"fn counted_{name}_steps(", counted)
+            self.assertIn(f"`{name}`", title)
+
+    def test_scripts_are_of_commands_of_the_program_with_their_arguments(self):
+        forms = re.findall(r"`(\w+)((?: [A-Z])*)`", read(ROOT / "docs/scripts.md"))
+        known = {f"{word} {len(arguments.split())}" for word, arguments in forms}
+        for title, commands in OF_PORT.SCRIPTS:
+            for command in commands:
+                word, *arguments = command.split(" ")
+                self.assertIn(f"{word} {len(arguments)}", known, command)
+            self.assertTrue(title == "thirteen commands in turn" and len({*commands}) == 13 or f"`{commands[0]}`" in title, title)
+
+
+class Crates(TreeTest):
+    """What rust/bench/run makes, in which order and of what."""
+
+    def setUp(self):
+        super().setUp()
+        self.put(OF_CRATE, "CAPACITIES", [23, 63])
+
+    def test_the_driver_of_the_crate_and_of_its_peers_is_built_once_at_each_place(self):
+        libraries, drives, counted = [], [], []
+        self.put(OF_CRATE, "rust_library", lambda *words: libraries.append(words) or ["--extern", "arraystring"])
+        self.put(OF_CRATE, "arrayvec", lambda folder: ["--extern", f"arrayvec={folder}"])
+        self.put(OF_CRATE, "build_drive", lambda out, words, place: drives.append((out.name, words, place)) or f"built at {place}")
+        self.put(OF_CRATE, "curves", lambda *words: counted.append(words) or "curves")
+        folder = self.root / "new/er"
+        bench = OF_CRATE.Bench(folder)
+        words = ["--extern", "arraystring", "--extern", f"arrayvec={folder}", "--cfg", "erased"]
+        self.assertEqual(bench.drive.program, "built at 0")
+        self.assertEqual(drives, [("drive_0", words, 0)])
+        for _ in range(2):
+            self.assertEqual([(it.program, it.folder, it.marks) for it in bench.drives],
+                             [(f"built at {it}", folder, OF_CRATE.MARKS) for it in (0, 16, 32, 48)])
+            self.assertEqual(bench.curves, "curves")
+        self.assertEqual(drives, [(f"drive_{it}", words, it) for it in (0, 16, 32, 48)])
+        self.assertEqual(libraries, [(ROOT / "rust/arraystring/src/lib.rs", "arraystring", 2024, folder)])
+        self.assertEqual((counted, folder.is_dir()), ([([bench.drive], folder)], True))
+
+    def test_each_part_is_told_of_what_it_is_of(self):
+        told, folder = [], self.root / "new"
+        for name in ("curves", "drive", "drives"):
+            self.put(OF_CRATE.Bench, name, name)
+        tells = {"tell_means": ["curves"], "tell_where_behind": ["curves"], "tell_programs": [folder], "tell_clock": ["drives"],
+                 "tell_codes": [folder / "codes"], "tell_small": [folder / "small"], "tell_calls": ["drive"], "tell_lookups": ["drive"]}
+        for name in ("tell_versions", *tells):
+            self.put(OF_CRATE, name, lambda *words, name=name: told.append((name, [*words])))
+        for tell in OF_CRATE.Bench(folder).parts().values():
+            tell()
+        self.assertEqual(told, [("tell_versions", []), *tells.items()])
+        self.assertTrue(folder.is_dir())
+
+    def test_calls_are_told_in_a_table_for_each_text(self):
+        self.put(OF_CRATE, "ROWS", [("`pop`", "pop", "middle"), ("`remove`", "remove", "front")])
+
+        def count(capacity, text, place):
+            at = capacity + {"ascii": 0, "mixed": 1000}[text] + {"front": 100, "middle": 0}[place]
+            return {("crate", "pop"): at, ("String", "pop"): at + 1, ("crate", "remove"): at + 3, ("arrayvec", "remove"): 9}
+
+        table = "\n|Call, {}|23 crate|String|arrayvec|63 crate|String|arrayvec|\n|---|---|---|---|---|---|---|\n" \
+            "|`pop`|{}|{}|–|{}|{}|–|\n|`remove`|**{}**|–|9|**{}**|–|9|\n\nBehind the best peer: the crate in 2 of 4 cells.\n"
+        self.assertEqual(said_by(OF_CRATE.tell_calls, SimpleNamespace(count=count)), table.format("ascii", 23, 24, 63, 64, 126, 166)
+                         + table.format("mixed", 1023, 1024, 1063, 1064, 1126, 1166))
+
+    def test_lookups_are_told_of_each_side(self):
+        def count_titled(capacity, mode):
+            self.assertEqual(mode, "lookup")
+            return {(side, name): capacity + at for at, side in enumerate(OF_CRATE.SIDES) for name in ("found", "missed")}
+
+        self.assertEqual(said_by(OF_CRATE.tell_lookups, SimpleNamespace(count_titled=count_titled)), (
+            "\n|Names|23 crate|String|arrayvec|63 crate|String|arrayvec|\n|---|---|---|---|---|---|---|\n"
+            "|found|23|24|25|63|64|65|\n|missed|23|24|25|63|64|65|\n"))
+
+    def test_times_are_told_by_both_clocks_with_the_processor(self):
+        self.put(OF_CRATE, "processor", lambda: "The processor: fast.")
+        times = {"`pop`": {(23, "crate"): 3.0, (23, "String"): 9.0, (63, "crate"): 9.04, (63, "arrayvec"): 2.0},
+                 "`trim`": {(63, "crate"): 1.0, (63, "String"): 2.0}}
+        waiting = {"`pop`": {(23, "crate"): 3.0}}
+        self.put(OF_CRATE, "clock", lambda drives, mode, sides: {"in_turn": times, "waiting": waiting}[mode]
+                 if (drives, sides) == ("drives", ["crate", "String", "arrayvec"]) else None)
+        self.assertEqual(said_by(OF_CRATE.tell_clock, "drives"), (
+            "The processor: fast.\n\n|Nanoseconds, in turn|23 crate|String|arrayvec|63 crate|String|arrayvec|\n"
+            "|---|---|---|---|---|---|---|\n|`pop`|3.0|9.0|–|**9.0**|–|2.0|\n|`trim`|–|–|–|1.0|2.0|–|\n"
+            "\nBehind the best peer: the crate in 1 of 3 times.\n\n|Nanoseconds, waiting|23 crate|String|arrayvec|63 crate|String|"
+            "arrayvec|\n|---|---|---|---|---|---|---|\n|`pop`|3.0|–|–|–|–|–|\n\nBehind the best peer: the crate in 0 of 1 times.\n"))
+
+
+class Called(TreeTest):
+    """The commands as programs."""
+
+    def test_each_says_what_it_does_and_is_told(self):
+        for command in ("bench/run", "rust/bench/run", "rust/bench/links"):
+            said = subprocess.run([ROOT / command, "--help"], cwd=self.root, stdout=subprocess.PIPE, check=True, encoding="utf-8")
+            self.assertIn(f"\n{command} ", said.stdout)
+
+    def run_as_program(self, command, *words):
+        """How a command ends that is run as a program within this process, where what it imports may be stood in for."""
+        self.put(sys, "argv", [command, *words])
+        self.put(sys, "dont_write_bytecode", False)
+        try:
+            with redirect_stdout(io.StringIO()) as said, redirect_stderr(io.StringIO()):
+                runpy.run_path(str(ROOT / command), run_name="__main__")
+            return said.getvalue()
+        except SystemExit as ended:
+            return ended.code
+        finally:
+            self.assertTrue(sys.dont_write_bytecode)
+
+    def test_each_ends_as_what_it_makes_and_leaves_no_compiled_files(self):
+        for command in ("bench/run", "rust/bench/run"):
+            self.assertEqual(self.run_as_program(command, "--only", "none"), 2)
+        self.put(subprocess, "run", lambda command, **more: None)
+        self.put(counting.Drive, "count_titled", lambda drive, capacity, mode: {("least", f"{call}, {how}|0"): 1 for call in ("cmp", "==")
+                                                                                for how in ("equal", "the last differs")})
+        self.assertIn("\n255, ==, the last differs: 1.0\n", self.run_as_program("bench/least"))
+        for is_linked, status in ((True, False), (False, True)):
+            stand_in = SimpleNamespace(PANICS={}, asked=lambda it: {}, faults=lambda *words: [], links=lambda *words: is_linked)
+            with mock.patch.dict(sys.modules, calls=stand_in):
+                self.assertEqual(self.run_as_program("rust/bench/links", str(self.root)), status)
 
 
 class Links(TreeTest):
