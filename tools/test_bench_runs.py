@@ -12,7 +12,7 @@ from unittest import mock
 
 from planted import TreeTest
 from repository import ROOT, read
-from test_bench import OF_CRATE, OF_PORT, PROGRAMS, loaded, said_by
+from test_bench import OF_CRATE, OF_PORT, SIDES, loaded, said_by
 
 import counting
 import pages
@@ -230,8 +230,8 @@ class Tells(TreeTest):
             return {("port", "`pop`"): capacity, ("String", "`pop`"): 20, **(wide if capacity == 23 else {})}
 
         self.assert_tells([
-            "", "|Call: port/String/arrayvec/kit|2|23|", "|---|---|---|", "|`pop`|2/20/–/–|23/20/–/–|", "|`pop` of 4|–|**9**/–/–/3|",
-            "", "Behind the best peer: the port in 1 of 3 cells.",
+            "", "|Call: port/String/arrayvec/kit|2|23|", "|---|---|---|", "|`pop`|2/20/–/–|23/20/–/–|",
+            "|`pop` of 4|–|**9**/–/–/3|", "", "Behind the best peer: the port in 1 of 3 cells.",
         ], OF_PORT.tell_edges, SimpleNamespace(count_titled=count_titled))
 
     def test_short_texts_are_told_by_how_they_differ(self):
@@ -265,7 +265,7 @@ class Tells(TreeTest):
             "waiting": {"`pop`": {(23, "port"): 6.0, (23, "String"): 4.0, (63, "port"): 6.04, (63, "arrayvec"): 4.0},
                         "`trim`": {(23, "port"): 1.0, (23, "String"): 2.0, (63, "port"): 1.0, (63, "kit"): 2.0}},
         }
-        self.put(OF_PORT, "clock", lambda drives, mode, sides: times[mode] if (drives, sides) == ("drives", OF_PORT.SIDES) else None)
+        self.put(OF_PORT, "clock", lambda *words: times[words[1]] if words[::2] == ("drives", OF_PORT.SIDES) else None)
         self.assert_tells([
             "The processor: fast.", "", "|Nanoseconds: port/best peer|23|63|23 waiting|63 waiting|", "|---|---|---|---|---|",
             "|`pop`|**3.0**/1.5|5.0/8.0|6.0/4.0|**6.0**/4.0|", "|`trim`|–|–|1.0/2.0|1.0/2.0|",
@@ -445,7 +445,8 @@ class Crates(TreeTest):
         for name in ("curves", "drive", "drives"):
             self.put(OF_CRATE.Bench, name, name)
         tells = {"tell_means": ["curves"], "tell_where_behind": ["curves"], "tell_programs": [folder], "tell_clock": ["drives"],
-                 "tell_codes": [folder / "codes"], "tell_small": [folder / "small"], "tell_calls": ["drive"], "tell_lookups": ["drive"]}
+                 "tell_codes": [folder / "codes"], "tell_small": [folder / "small"], "tell_calls": ["drive"],
+                 "tell_lookups": ["drive"]}
         for name in ("tell_versions", *tells):
             self.put(OF_CRATE, name, lambda *words, name=name: told.append((name, [*words])))
         for tell in OF_CRATE.Bench(folder).parts().values():
@@ -479,13 +480,13 @@ class Crates(TreeTest):
         times = {"`pop`": {(23, "crate"): 3.0, (23, "String"): 9.0, (63, "crate"): 9.04, (63, "arrayvec"): 2.0},
                  "`trim`": {(63, "crate"): 1.0, (63, "String"): 2.0}}
         waiting = {"`pop`": {(23, "crate"): 3.0}}
-        self.put(OF_CRATE, "clock", lambda drives, mode, sides: {"in_turn": times, "waiting": waiting}[mode]
-                 if (drives, sides) == ("drives", ["crate", "String", "arrayvec"]) else None)
+        told = {"in_turn": times, "waiting": waiting}
+        self.put(OF_CRATE, "clock", lambda *words: told[words[1]] if words[::2] == ("drives", [*SIDES]) else None)
+        columns = "23 crate|String|arrayvec|63 crate|String|arrayvec|\n|---|---|---|---|---|---|---|"
         self.assertEqual(said_by(OF_CRATE.tell_clock, "drives"), (
-            "The processor: fast.\n\n|Nanoseconds, in turn|23 crate|String|arrayvec|63 crate|String|arrayvec|\n"
-            "|---|---|---|---|---|---|---|\n|`pop`|3.0|9.0|–|**9.0**|–|2.0|\n|`trim`|–|–|–|1.0|2.0|–|\n"
-            "\nBehind the best peer: the crate in 1 of 3 times.\n\n|Nanoseconds, waiting|23 crate|String|arrayvec|63 crate|String|"
-            "arrayvec|\n|---|---|---|---|---|---|---|\n|`pop`|3.0|–|–|–|–|–|\n\nBehind the best peer: the crate in 0 of 1 times.\n"))
+            f"The processor: fast.\n\n|Nanoseconds, in turn|{columns}\n|`pop`|3.0|9.0|–|**9.0**|–|2.0|\n|`trim`|–|–|–|1.0|2.0|–|\n"
+            f"\nBehind the best peer: the crate in 1 of 3 times.\n\n|Nanoseconds, waiting|{columns}\n|`pop`|3.0|–|–|–|–|–|\n"
+            "\nBehind the best peer: the crate in 0 of 1 times.\n"))
 
 
 class Called(TreeTest):
@@ -513,8 +514,8 @@ class Called(TreeTest):
         for command in ("bench/run", "rust/bench/run"):
             self.assertEqual(self.run_as_program(command, "--only", "none"), 2)
         self.put(subprocess, "run", lambda command, **more: None)
-        self.put(counting.Drive, "count_titled", lambda drive, capacity, mode: {("least", f"{call}, {how}|0"): 1 for call in ("cmp", "==")
-                                                                                for how in ("equal", "the last differs")})
+        counts = {("least", f"{call}, {how}|0"): 1 for call in ("cmp", "==") for how in ("equal", "the last differs")}
+        self.put(counting.Drive, "count_titled", lambda drive, capacity, mode: counts)
         self.assertIn("\n255, ==, the last differs: 1.0\n", self.run_as_program("bench/least"))
         for is_linked, status in ((True, False), (False, True)):
             stand_in = SimpleNamespace(PANICS={}, asked=lambda it: {}, faults=lambda *words: [], links=lambda *words: is_linked)
@@ -559,7 +560,8 @@ class Links(TreeTest):
                                                                         (folder / "with_alloc", level, alloc))])
         self.assertEqual(self.asked, [folder / "reference/doc/arraystring",
                                       *((3, ["with_alloc", level, "-C", "lto"], folder) for level in levels)])
-        unwinding = [word for it in ("rust_eh_personality", "_Unwind_Resume") for word in ("-C", f"link-arg=-Wl,--defsym={it}=main")]
+        functions = ("rust_eh_personality", "_Unwind_Resume")
+        unwinding = [word for it in functions for word in ("-C", f"link-arg=-Wl,--defsym={it}=main")]
         self.assertEqual(self.linked, [(ROOT / "rust/no_panic/src/main.rs", ["alone", level, *more], folder / "no_panic")
                                        for level in levels for more in (["-C", "lto"], unwinding)])
         self.put(sys, "argv", ["links"])

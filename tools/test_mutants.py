@@ -259,6 +259,15 @@ class Fates(TreeTest):
         self.main_told("tools/other.py", SUMS, lacks=1)
         self.assertEqual(read(self.root / "tools/tried.txt"), "")
 
+    def test_a_file_that_changes_meanwhile_is_written_down_as_it_was(self):
+        def tried(root, asked, end):
+            self.write(SUMS, "")
+            return {name: "test_sums" for _, name, _ in asked}
+
+        self.put(mutants, "tried", tried)
+        self.assertFalse(self.told(mutants, SUMS)[0])
+        self.assertEqual(read(self.root / "tools/tried.txt"), self.line(SUMS, TOOL))
+
     def test_changes_that_were_not_tried_are_a_fault(self):
         self.assertEqual(self.main_told(SUMS, lacks=1), (True, self.COUNTS.replace("9", "8", 1).replace("8 test", "7 test")
                                                          + "8 of 9 changes were tried"))
