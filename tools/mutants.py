@@ -8,8 +8,8 @@ tools/run mutants --sample DAY SECONDS  as many as fit into the time, chosen by 
 tools/run mutants --list FILE..         prints the changes and runs nothing
 tools/run mutants --tried               says which files were not tried as they are now, and fails where there are such
 
-The files are those of Python, but for the tests and what they share. A file of which each change is seen or listed is written into
-tools/tried.txt with its checksum, as `sha256sum --check tools/tried.txt` reads it.
+The files are those of Python, but for the tests. A file of which each change is seen or listed is written into tools/tried.txt with
+its checksum, as `sha256sum --check tools/tried.txt` reads it.
 
 The rules: a comparison, `and`, `or` and a sum for its neighbour; a number by one, a text to the empty one; a condition to either
 value, and without its `not`; a statement out; a returned value to None; two arguments swapped; a bound of a part out; a word for
@@ -326,7 +326,7 @@ def files(root):
     """The files of Python that are tried: modules, and programs, of which the first line says what they are."""
     for file in (it for folder in FOLDERS for it in sorted((root / folder).glob("*")) if it.is_file()):
         is_python = file.suffix == ".py" or read(file).startswith("#!/usr/bin/env python3\n")
-        if is_python and not file.name.startswith(("test_", "planted")):
+        if is_python and not file.name.startswith("test_"):
             yield file.relative_to(root).as_posix()
 
 

@@ -180,7 +180,7 @@ class Fates(TreeTest):
         python, wanted = "#!/usr/bin/env python3\n", ["bench/a.py", "bench/run", "rust/bench/b.py", "tools/a.py", "tools/run", SUMS]
         for file, text in (("bench/a.py", ""), ("bench/run", python), ("rust/bench/b.py", ""), ("tools/a.py", ""),
                            ("tools/run", python), ("bench/time", "#!/bin/bash\n"), ("tools/a.txt", f"It begins with {python}"),
-                           ("tools/test_a.py", ""), ("tools/planted.py", ""), ("tools/deep/b.py", ""), ("rust/c.py", ""),
+                           ("tools/test_a.py", ""), ("tools/test_run", python), ("tools/deep/b.py", ""), ("rust/c.py", ""),
                            ("run", python)):
             self.write(file, text)
         self.assertEqual([*mutants.files(self.root)], wanted)
