@@ -378,6 +378,7 @@ class Ports(TreeTest):
             drive = counting.Drive("program", self.root, marks)
             self.assertEqual({name: drive.of(f"cfn={name}") for name in sides}, sides)
             self.assertEqual({*marks}, {*sides.values()})
+            self.assertRaises(StopIteration, drive.of, "cfn=drive::counted_pop")
         for name, side in (("string", "Limited"), ("linked", "steps_23")):
             self.assertIn(side, read(ROOT / f"bench/{name}.rs"))
 

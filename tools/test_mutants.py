@@ -3,6 +3,7 @@ that none does."""
 import hashlib
 import io
 import os
+import textwrap
 import time
 from contextlib import redirect_stderr, redirect_stdout
 
@@ -358,6 +359,10 @@ class Runs(TreeTest):
         self.assertEqual(self.ran("self.assertEqual((closure.closed, os.listdir('.')), (3, ['closure.py', 'test_closure.py']))"
                                   .replace("os.listdir('.')", "sorted(os.listdir('.'))"))[0], 0)
         self.assertEqual(self.ran("self.assertEqual(closure.closed, 4)")[0], 1)
+
+    def test_it_has_the_modules_of_the_library_that_are_there_already(self):
+        self.put(textwrap, "__doc__", "as it was changed")
+        self.assertEqual(self.ran("import textwrap; self.assertEqual(textwrap.__doc__, 'as it was changed')")[0], 0)
 
     def test_it_reads_nothing_and_what_it_says_goes_nowhere(self):
         kept = [os.dup(it) for it in range(3)]
