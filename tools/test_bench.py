@@ -177,11 +177,12 @@ class Pages(TreeTest):
 
     def test_a_part_alone_is_written_and_the_drawing_with_the_curves(self):
         self.put(OF_CRATE.Bench, "curves", None)
-        parts = {it: lambda: print("told") for it in ("small", "means", "curves")}
+        parts = {it: lambda: print("told") for it in ("small", "means", "behind", "curves")}
         self.put(OF_CRATE.Bench, "parts", lambda bench: parts)
         self.put(OF_PORT, "parts_and_curves", lambda folder: (parts, lambda: None))
         self.put(sys, "stdout", io.StringIO())
-        for command, part, drawings in ((OF_CRATE, "small", 0), (OF_CRATE, "means", 1), (OF_PORT, "small", 0), (OF_PORT, "curves", 1)):
+        for command, part, drawings in ((OF_CRATE, "small", 0), (OF_CRATE, "means", 1), (OF_CRATE, "behind", 1), (OF_PORT, "small", 0),
+                                        (OF_PORT, "curves", 1)):
             written = []
             self.put(command, "drawing", lambda found: "<svg/>")
             self.put(pages, "write", lambda page, name, told, drawn: written.append((page, told, len(drawn))))
@@ -308,11 +309,13 @@ calls=5 9
         found = {"`pop`": {23: self.curve(crate=[1], String=[1]), 63: late, 255: late}}
         self.assertEqual(curves.means(late, SIDES), {"crate": 23, "String": 17, "arrayvec": 11})
         self.assertEqual((curves.worst(late, "crate"), curves.behind(late, "crate")), ("3.00@0", 2))
-        said = said_by(OF_CRATE.tell_where_behind, found)
-        self.assertIn("|`pop`, 63|2|3|3.00|0|\n|`pop`, 255|2|3|3.00|0|\n", said)
-        self.assertNotIn("`pop`, 23", said)
-        self.assertIn("the crate in 4 of 7 lengths", said)
-        self.assertIn("|`pop`|1|1|–|**23**|17|11|**23**|17|11|\n", said_by(OF_CRATE.tell_means, found))
+        self.assertEqual(said_by(OF_CRATE.tell_where_behind, found), (
+            "\n|Call, capacity|lengths behind|of|times the best peer, at worst|at length|\n|---|---|---|---|---|\n"
+            "|`pop`, 63|2|3|3.00|0|\n|`pop`, 255|2|3|3.00|0|\n\nBehind the best peer: the crate in 4 of 7 lengths.\n"))
+        columns = "|".join(f"{it} crate|String|arrayvec" for it in (23, 63, 255))
+        self.assertEqual(said_by(OF_CRATE.tell_means, found), (
+            f"\n|Mean of all lengths|{columns}|\n|---|{'---|' * 9}\n|`pop`|1|1|–|**23**|17|11|**23**|17|11|\n"
+            "\nBehind the best peer: the crate in 2 of 3 means.\n"))
 
     def test_calls_are_counted_five_times_at_each_capacity_and_of_two_drives_the_last_tells(self):
         asked = []

@@ -61,6 +61,7 @@ class Workspaces(TreeTest):
                      "tests/src/lib.rt"):
             self.write(f"crates/arraystring_{path}", path)
         (self.root / "crates/arraystring/src").mkdir(parents=True)
+        os.symlink("made", self.root / "crates/arraystring_cli/out/deep/link")
         for path in ("core/out/made", "run/out/newer"):
             self.write(f"made/crates/arraystring_{path}", "kept")
         for name, text in (*((it, f"{it} CAPACITY ONE_LESS") for it in ("kit", "port", "steps")), ("lib", "MODULES\n"),
@@ -88,8 +89,10 @@ class Workspaces(TreeTest):
                           "arraystring_bench staticlib: arraystring_base arraystring_core arrayvec\n",
             **{f"crates/arraystring_{it}": it for it in copied},
             **{f"crates/arraystring_{it}": "kept" for it in ("core/out/made", "run/out/newer")},
+            "crates/arraystring_cli/out/deep/link": "cli/out/deep/made",
             **{f"{source}/{name}.rt": text for name, text in self.CALLS.items()},
             f"{source}/lib.rt": "".join(f"mod {it};\n" for it in self.CALLS)})
+        self.assertEqual(os.readlink(self.root / "made/crates/arraystring_cli/out/deep/link"), "made")
 
 
 class Builds(TreeTest):
@@ -134,6 +137,7 @@ class Builds(TreeTest):
 
     def test_a_library_that_is_not_built_ends_the_bench(self):
         fault = f"^bench/run: the library was not built: see {self.root}/rt.log$"
+        self.write("bench/out/other", "")
         self.assertRaisesRegex(SystemExit, fault, OF_PORT.build, self.root)
         self.write("bench/out/libarraystring_bench.a", "")
         self.ends = [1]
@@ -163,7 +167,7 @@ class Builds(TreeTest):
             self.assertEqual([(more["input"], more["stdout"]) for _, more in self.ran], [(script.encode(), subprocess.PIPE)] * 2)
             self.assertEqual(self.commands(), ["! one small in -", "! two small in -"])
             played.clear()
-        replies = iter([b"1", b"1", b"2"])
+        replies = iter([b"1", b"2", b"1"])
         self.put(subprocess, "run", lambda command, **more: SimpleNamespace(stdout=next(replies)))
         fault = f"^bench/run: the plain program does not write what the program writes: see {self.root}/script$"
         self.assertRaisesRegex(SystemExit, fault, OF_PORT.play, ["one", "two", "three"], self.root, ["a"], 1)
@@ -238,7 +242,9 @@ class Tells(TreeTest):
         def count_titled(capacity, mode):
             self.assertEqual(mode, "short")
             ours = {("port", f"`{name}`|{how}"): capacity + at for name in ("cmp", "eq") for at, how in enumerate(OF_PORT.SHORT)}
-            return {**ours, ("String", "`cmp`|last"): 9, ("kit", "`other`|last"): 9}
+            # (the rows are those of the first capacity)
+            more = {("port", "`wide`|last"): 9} if capacity == 63 else {}
+            return {**ours, **more, ("String", "`cmp`|last"): 9, ("kit", "`other`|last"): 9}
 
         self.assert_tells([
             "", "|Call: port/String/arrayvec/kit|23 equal|23 first|23 last|23 end|63 equal|63 first|63 last|63 end|",
@@ -251,11 +257,12 @@ class Tells(TreeTest):
     def test_lookups_are_told_of_three_types_of_names(self):
         def count_titled(capacity, mode):
             self.assertEqual(mode, "lookup")
-            sides = {"port": 1, "kit's String": 2, "kit": 3, "String": 9}
-            return {(side, name): capacity + at for side, at in sides.items() for name in ("found", "missed") if name[0] in "fm"}
+            found, missed = ({"port": capacity, "kit's String": a, "kit": b, "String": 1} for a, b in ((10, 60), (60, 10)))
+            return {(side, name): count for name, it in (("found", found), ("missed", missed)) for side, count in it.items()}
 
-        self.assert_tells(["", "|Its names: port/kit's `String`/kit|23|63|", "|---|---|---|", "|found|24/25/26|64/65/66|",
-                           "|missed|24/25/26|64/65/66|"], OF_PORT.tell_lookups, SimpleNamespace(count_titled=count_titled))
+        self.assert_tells(["", "|Its names: port/kit's `String`/kit|23|63|", "|---|---|---|",
+                           "|found|**23**/10/60|**63**/10/60|", "|missed|**23**/60/10|**63**/60/10|"],
+                          OF_PORT.tell_lookups, SimpleNamespace(count_titled=count_titled))
 
     def test_times_are_told_beside_the_best_of_the_peers(self):
         self.put(OF_PORT, "processor", lambda: "The processor: fast.")
@@ -362,8 +369,12 @@ class Ports(TreeTest):
         self.put(OF_PORT, "parts_and_curves", lambda folder: (parts, None))
         self.put(OF_CRATE.Bench, "parts", lambda bench: parts)
         self.put(sys, "argv", ["run", str(self.root)])
+        self.put(pages, "write", None)
         for command in (OF_PORT, OF_CRATE):
             self.assertEqual(said_by(lambda: self.assertIsNone(command.main())), "edges\n\nclock\n\n")
+            self.put(sys, "argv", ["run"])
+            folder = {OF_PORT: "arraystring-bench", OF_CRATE: "arraystring-rust-bench"}[command]
+            self.assertEqual(command.arguments().folder.name, f"{folder}-{os.getuid()}")
 
     def test_a_side_is_marked_by_the_modules_or_the_type_that_its_calls_have(self):
         """The marks are asked in their order: `lookup_port_23` is of the port, and `lookup_string` of no crate."""
@@ -479,14 +490,14 @@ class Crates(TreeTest):
     def test_times_are_told_by_both_clocks_with_the_processor(self):
         self.put(OF_CRATE, "processor", lambda: "The processor: fast.")
         times = {"`pop`": {(23, "crate"): 3.0, (23, "String"): 9.0, (63, "crate"): 9.04, (63, "arrayvec"): 2.0},
-                 "`trim`": {(63, "crate"): 1.0, (63, "String"): 2.0}}
+                 "`trim`": {(23, "crate"): 9.0, (23, "String"): 2.0, (63, "crate"): 1.0, (63, "String"): 2.0}}
         waiting = {"`pop`": {(23, "crate"): 3.0}}
         told = {"in_turn": times, "waiting": waiting}
         self.put(OF_CRATE, "clock", lambda *words: told[words[1]] if words[::2] == ("drives", [*SIDES]) else None)
         columns = "23 crate|String|arrayvec|63 crate|String|arrayvec|\n|---|---|---|---|---|---|---|"
         self.assertEqual(said_by(OF_CRATE.tell_clock, "drives"), (
-            f"The processor: fast.\n\n|Nanoseconds, in turn|{columns}\n|`pop`|3.0|9.0|–|**9.0**|–|2.0|\n|`trim`|–|–|–|1.0|2.0|–|\n"
-            f"\nBehind the best peer: the crate in 1 of 3 times.\n\n|Nanoseconds, waiting|{columns}\n|`pop`|3.0|–|–|–|–|–|\n"
+            f"The processor: fast.\n\n|Nanoseconds, in turn|{columns}\n|`pop`|3.0|9.0|–|**9.0**|–|2.0|\n|`trim`|**9.0**|2.0|–|1.0|2.0|–|\n"
+            f"\nBehind the best peer: the crate in 2 of 4 times.\n\n|Nanoseconds, waiting|{columns}\n|`pop`|3.0|–|–|–|–|–|\n"
             "\nBehind the best peer: the crate in 0 of 1 times.\n"))
 
 
