@@ -365,8 +365,8 @@ def told(fates, known):
     return survivors
 
 
-def tell_end(fates, asked, start):
-    print(f"{len(fates)} of {len(asked)} changes of the tools were tried in {time.monotonic() - start:.0f} seconds")
+def tell_end(count, asked, start):
+    print(f"{count} of {len(asked)} changes of the tools were tried in {time.monotonic() - start:.0f} seconds")
 
 
 def sample(root, asked, day, seconds):
@@ -376,7 +376,7 @@ def sample(root, asked, day, seconds):
     random.Random(day).shuffle(asked)
     fates = tried(root, asked, start + seconds)
     survivors = told(fates, known)
-    tell_end(fates, asked, start)
+    tell_end(len(fates), asked, start)
     return bool(survivors)
 
 
@@ -389,10 +389,14 @@ def whole(root, some, asked):
         return f"{len(fates)} of {len(asked)} changes were tried"
     stale = [it for it in known if it.partition(":")[0] in some and (it, None) not in fates.items()]
     print("".join(f"no longer survives, or is no longer there: {it}\n" for it in stale), end="")
-    tell_end(fates, asked, start)
+    tell_end(len(asked), asked, start)
     faulty = {it.partition(":")[0] for it in [*survivors, *stale]}
     record(root, {file: it for file, it in tried_now.items() if file not in faulty})
     return bool(faulty)
+
+
+def tell_changes(asked):
+    print("".join(f"{name}\n" for _, name, _ in asked), end="")
 
 
 def main(arguments, root):
@@ -405,6 +409,5 @@ def main(arguments, root):
         return tell_tried(root)
     asked = [(file, name, text) for file in some for name, text in mutants(root, file)]
     if words == ["--list"]:
-        print("".join(f"{name}\n" for _, name, _ in asked), end="")
-        return False
+        return tell_changes(asked)
     return sample(root, asked, *map(int, words[1:])) if words else whole(root, some, asked)

@@ -287,6 +287,9 @@ class Fates(TreeTest):
         self.assertEqual(len({tuple(it) for it in orders}), 3)
         self.assertNotIn(self.SURVIVES, orders[0])
 
+    def test_what_survives_in_a_sample_is_told_and_fails(self):
+        self.assertEqual(self.main_told("--sample", "7", "100", SUMS), (True, self.COUNTS + self.TRIED.format(9)))
+
     def test_changes_are_listed_and_none_is_tried(self):
         failed, said = self.main_told("--list", SUMS)
         self.assertEqual((failed, self.asked, said.splitlines()), (False, [], [it for it, _ in mutants.mutants(self.root, SUMS)]))
@@ -337,7 +340,8 @@ class Mutants(TreeTest):
         copies = []
         self.put(mutants, "copied", lambda *words, copied=mutants.copied: copies.append(words) or copied(*words))
         asked = [(SUMS, name, text) for name, text in mutants.mutants(self.root, SUMS)]
-        for end, count in ((None, 9), (time.monotonic() + 1000, 9), (time.monotonic(), 0)):
+        self.put(time, "monotonic", lambda: 1000)
+        for end, count in ((None, 9), (1001, 9), (1000, 0)):
             with redirect_stdout(io.StringIO()) as said, redirect_stderr(io.StringIO()):
                 self.assertEqual(mutants.tried(self.root, asked, end), {name: "test_sums" for _, name, _ in asked[:count]})
             self.assertEqual(said.getvalue(), "")
