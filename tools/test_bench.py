@@ -185,10 +185,11 @@ class Pages(TreeTest):
                                         (OF_PORT, "curves", 1)):
             written = []
             self.put(command, "drawing", lambda found: "<svg/>")
-            self.put(pages, "write", lambda page, name, told, drawn: written.append((page, told, len(drawn))))
+            self.put(pages, "write", lambda page, name, told, drawn: written.append((page, name, told, len(drawn))))
             self.put(sys, "argv", ["run", "--write", "--only", part])
             self.assertFalse(command.main())
-            self.assertEqual(written, [(command.PAGE, {part: "told\n"}, drawings)])
+            name = {OF_CRATE: "rust/bench/run", OF_PORT: "bench/run"}[command]
+            self.assertEqual(written, [(command.PAGE, name, {part: "told\n"}, drawings)])
 
     def test_each_page_has_the_parts_that_its_command_makes_in_their_order(self):
         self.assertEqual(list(pages.parts_of(read(OF_CRATE.PAGE), "rust/bench/run")), list(OF_CRATE.Bench(self.root).parts()))

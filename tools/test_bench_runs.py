@@ -522,6 +522,12 @@ class Called(TreeTest):
         finally:
             self.assertTrue(sys.dont_write_bytecode)
 
+    def test_what_is_only_loaded_runs_nothing(self):
+        self.put(subprocess, "run", None)
+        for command in ("bench/run", "rust/bench/run", "rust/bench/links", "bench/least"):
+            self.put(sys, "path", [*sys.path])
+            runpy.run_path(str(ROOT / command), run_name="loaded")
+
     def test_each_ends_as_what_it_makes_and_leaves_no_compiled_files(self):
         for command in ("bench/run", "rust/bench/run"):
             self.assertEqual(self.run_as_program(command, "--only", "none"), 2)
