@@ -8,6 +8,9 @@ import unittest
 from planted import TreeTest
 from repository import ROOT, read
 
+# (what Python writes, and when, depends on its own settings)
+SETTINGS = {it: value for it, value in os.environ.items() if not it.startswith("PYTHON")}
+
 COMMAND = '''\
 """  It says so.
 """
@@ -29,8 +32,8 @@ class Commands(TreeTest):
     def called(self, outcome, *words):
         """How a command ends that returns this, and what it prints, and what it complains of."""
         self.write("tools/words.py", COMMAND.format(outcome))
-        run = subprocess.run([sys.executable, "tools/run", *words], cwd=self.root, stdout=subprocess.PIPE, stderr=subprocess.PIPE,
-                             encoding="utf-8")
+        run = subprocess.run([sys.executable, "tools/run", *words], cwd=self.root, env=SETTINGS, stdout=subprocess.PIPE,
+                             stderr=subprocess.PIPE, encoding="utf-8")
         return run.returncode, run.stdout, run.stderr
 
     def test_a_command_ends_as_what_it_returns_and_leaves_no_compiled_files(self):
@@ -52,7 +55,8 @@ class Commands(TreeTest):
 
 class Door(unittest.TestCase):
     def called(self, *words):
-        run = subprocess.run([ROOT / "tools/run", *words], stdout=subprocess.PIPE, stderr=subprocess.STDOUT, encoding="utf-8")
+        run = subprocess.run([ROOT / "tools/run", *words], env=SETTINGS, stdout=subprocess.PIPE, stderr=subprocess.STDOUT,
+                             encoding="utf-8")
         return run.returncode, run.stdout
 
     def test_a_word_that_is_no_command_is_refused_with_the_commands(self):
@@ -78,6 +82,6 @@ class Door(unittest.TestCase):
         for words in (["trusted", "--list"], ["calls"]):
             reader, writer = os.pipe()
             os.close(reader)
-            run = subprocess.run([ROOT / "tools/run", *words], stdout=writer, stderr=subprocess.PIPE, encoding="utf-8")
+            run = subprocess.run([ROOT / "tools/run", *words], env=SETTINGS, stdout=writer, stderr=subprocess.PIPE, encoding="utf-8")
             os.close(writer)
             self.assertEqual((run.returncode, run.stderr), (1, ""))
