@@ -349,7 +349,8 @@ def tell_tried(root):
     """Prints which files were not tried as they are; whether there are such."""
     known, now = recorded(root), checksums(root, files(root))
     others = [file for file in now if known.get(file) != now[file]]
-    print("".join(f"{file}: {'changed since it was tried' if file in known else 'not tried'}\n" for file in others), end="")
+    for file in others:
+        print(f"{file}: {'changed since it was tried' if file in known else f'not in {RECORD}'}")
     print(f"{len(now) - len(others)} of {len(now)} files of Python were tried as they are")
     return bool(others)
 

@@ -199,7 +199,8 @@ class Fates(TreeTest):
     def test_what_was_tried_as_it_is_is_told_by_its_checksum(self):
         self.write("tools/other.py", "")
         self.assertEqual(self.told(mutants, "--tried"), (
-            True, f"tools/other.py: not tried\n{SUMS}: not tried\n0 of 2 files of Python were tried as they are\n"))
+            True, f"tools/other.py: not in tools/tried.txt\n{SUMS}: not in tools/tried.txt\n0 of 2 files of Python were tried as "
+            "they are\n"))
         self.write("tools/tried.txt", self.line("tools/other.py", "") + self.line(SUMS, TOOL))
         self.assertEqual(self.told(mutants, "--tried"), (False, "2 of 2 files of Python were tried as they are\n"))
         self.write(SUMS, f"{TOOL}\n")
