@@ -9,13 +9,14 @@ ROOT = BENCH.parent
 CAPACITIES = [23, 63, 255]
 TEXTS = ["ascii", "mixed"]
 TIMES = 50
-# How much longer the environment is made, which moves the stack.
-STACK_PLACES = [0, 2000]
+# What the environment has more, which moves the stack.
+STACK_PLACES = ["", "x" * 2000]
 CPU = "x86-64-v2"
 RUSTC = ["rustc", "-O", "-C", "codegen-units=1", "-C", f"target-cpu={CPU}"]
 # (what callgrind prints names the sides)
 NAMED = ["-C", "symbol-mangling-version=v0"]
-ARRAYVEC = sorted(Path("/usr/share/cargo/registry").glob("arrayvec-*/src/lib.rs"))[-1:]
+# Where Debian has the sources of crates.
+REGISTRY = Path("/usr/share/cargo/registry")
 # The rows of the first table: a title, a call, and where it is made.
 ROWS = [
     ("`new` and `try_push_str`", "new_try_push_str", "middle"),
@@ -61,6 +62,14 @@ SIDES = ["port", "crate", "String", "arrayvec", "kit"]
 PEERS = {"port": ["String", "arrayvec", "kit", "plain", "by parts"], "crate": ["String", "arrayvec"]}
 
 
+def arrayvec_of(registry):
+    """The source of the last version of arrayvec that a registry has, if it has one."""
+    return sorted(registry.glob("arrayvec-*/src/lib.rs"))[-1:]
+
+
+ARRAYVEC = arrayvec_of(REGISTRY)
+
+
 def written(*command):
     return subprocess.run(list(map(str, command)), stdout=subprocess.PIPE, text=True, check=True).stdout
 
@@ -74,12 +83,12 @@ def tell_versions(*more):
         print("arrayvec is not installed, so its column is empty: see bench/README.md.")
 
 
-def under(tool, out, log, command, given=subprocess.DEVNULL, place=0):
+def under(tool, out, log, command, given=subprocess.DEVNULL, place=""):
     """What a tool of valgrind writes of a run."""
     subprocess.run(
         ["valgrind", f"--tool={tool}", f"--{tool}-out-file={out}", *command], check=True, stdin=given,
         stdout=subprocess.DEVNULL, stderr=log.open("w"),
-        env=dict(os.environ, LD_BIND_NOW="1", PLACE_OF_STACK="x" * place),
+        env=dict(os.environ, LD_BIND_NOW="1", PLACE_OF_STACK=place),
     )
     return out.read_text()
 
@@ -175,19 +184,17 @@ class Drive:
 
     def counted(self, told):
         """The same, of what callgrind wrote."""
-        counts = {}
-        callee, calls = None, 0
+        counts, callee = {}, None
         for line in told.splitlines():
             if line.startswith("cfn="):
-                callee = re.match(r"cfn=(?:\w+::)+counted_(\w+)", line)
+                callee = re.match(r"(?:\w+::)+counted_(\w+)", line.removeprefix("cfn="))
             elif line.startswith("calls="):
                 calls = int(line[6:].split()[0])
-            elif calls:
-                if callee:
-                    side, name = self.of(callee.string), callee[1]
-                    before = counts.get((side, name), (0, 0))
-                    counts[side, name] = before[0] + calls, before[1] + int(line.split()[-1])
-                callee, calls = None, 0
+            elif callee:
+                key = self.of(callee.string), callee[1]
+                before = counts.get(key, (0, 0))
+                counts[key] = before[0] + calls, before[1] + int(line.split()[-1])
+                callee = None
         return {key: round(total / calls) for key, (calls, total) in counts.items()}
 
     def count_titled(self, capacity, mode, times=TIMES, names=()):

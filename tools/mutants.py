@@ -1,23 +1,28 @@
-"""Changes each place of the tools, once, by rules, and says which test sees the change. What no test sees has to stand in
-rust/equivalent.txt with the reason why nobody can see it; a line there that no longer applies is a fault, too. rust/mutants does the
-same for what Rust has without a proof.
+"""Changes each place of the tools and of the benches, once, by rules, and says which test sees the change. What no test sees has
+to stand in rust/equivalent.txt with the reason why nobody can see it; a line there that no longer applies is a fault, too.
+rust/mutants does the same for what Rust has without a proof.
 
-tools/run mutants                       all tools, some hours: before a release
+tools/run mutants                       all files, some hours: before a release
 tools/run mutants FILE..                these, some minutes each: who changes one (tools/quotes.py)
 tools/run mutants --sample DAY SECONDS  as many as fit into the time, chosen by the number DAY
 tools/run mutants --list FILE..         prints the changes and runs nothing
+tools/run mutants --tried               says which files were not tried as they are now, and fails where there are such
+
+The files are those of Python, but for the tests. A file of which each change is seen or listed is written into tools/tried.txt with
+its checksum, as `sha256sum --check tools/tried.txt` reads it.
 
 The rules: a comparison, `and`, `or` and a sum for its neighbour; a number by one, a text to the empty one; a condition to either
 value, and without its `not`; a statement out; a returned value to None; two arguments swapped; a bound of a part out; a word for
 its opposite. The tools are copied, with the repository that their tests read. Each change is tried on the tests named as its
 tool, then on those of what imports it, however far, and on those of `tools/run`. Each file of tests is run once without a change,
-too, and has to pass. One that takes ten times as long after a change is ended, and counts as seen. A module of a bench, which is
-tried if it is named, has tools/test_bench.py alone.
+too, and has to pass. One that takes ten times as long after a change is ended, and counts as seen. What belongs to a bench has
+tools/test_bench.py and tools/test_bench_runs.py alone.
 
 Two changes are tried at a time, each in a copy of its own among the temporary files; TMPDIR=/dev/shm keeps these in memory.
 """
 import ast
 import compileall
+import hashlib
 import multiprocessing
 import os
 import py_compile
@@ -35,7 +40,10 @@ from closure import closed
 from repository import read
 from repository_copy import copied
 
-LISTED = "rust/equivalent.txt"
+LISTED, RECORD = "rust/equivalent.txt", "tools/tried.txt"
+FOLDERS = ["bench", "rust/bench", "tools"]
+# What a call may begin with, and of how many words that is.
+OPTIONS = {"--list": 1, "--tried": 1, "--sample": 3}
 WORKERS = 2
 # For how many seconds of a processor each file of tests may go on, and for how many of the clock.
 LEAST, LONGEST = 10, 600
@@ -73,7 +81,7 @@ class Places(ast.NodeVisitor):
         if self.text[start:end] != text.encode():
             self.found.append((start, end, text, ".".join(self.around) or "the file"))
 
-    def put_at(self, node, *texts):
+    def put_at(self, node, texts):
         for text in texts:
             self.put(*self.span(node), text)
 
@@ -95,7 +103,7 @@ class Places(ast.NodeVisitor):
         is_doc = isinstance(node, ast.Expr) and isinstance(node.value, ast.Constant)
         kept = (ast.Import, ast.ImportFrom, ast.FunctionDef, ast.ClassDef, ast.Pass, ast.Return)
         if not is_doc and not isinstance(node, kept):
-            self.put_at(node, "pass")
+            self.put_at(node, ["pass"])
 
     def inside(self, node):
         self.around.append(node.name)
@@ -109,14 +117,14 @@ class Places(ast.NodeVisitor):
             self.generic_visit(node)
 
     def visit_Continue(self, node):
-        self.put_at(node, "break")
+        self.put_at(node, ["break"])
 
     def visit_Break(self, node):
-        self.put_at(node, "continue")
+        self.put_at(node, ["continue"])
 
     def visit_Return(self, node):
         if node.value is not None:
-            self.put_at(node.value, "None")
+            self.put_at(node.value, ["None"])
         self.generic_visit(node)
 
     def visit_Compare(self, node):
@@ -141,33 +149,33 @@ class Places(ast.NodeVisitor):
 
     def visit_UnaryOp(self, node):
         if isinstance(node.op, ast.Not):
-            self.put_at(node, f"bool({self.part(node.operand)})")
+            self.put_at(node, [f"bool({self.part(node.operand)})"])
         self.generic_visit(node)
 
     def condition(self, node):
-        self.put_at(node.test, "True", "False")
+        self.put_at(node.test, ["True", "False"])
         self.generic_visit(node)
 
     visit_If = visit_While = visit_IfExp = condition
 
     def visit_comprehension(self, node):
         for it in node.ifs:
-            self.put_at(it, "True", "False")
+            self.put_at(it, ["True", "False"])
         self.generic_visit(node)
 
     def visit_Constant(self, node):
         if isinstance(node.value, bool):
-            self.put_at(node, str(not node.value))
+            self.put_at(node, [str(not node.value)])
         elif isinstance(node.value, int):
-            self.put_at(node, str(node.value + 1), str(node.value - 1))
+            self.put_at(node, [str(node.value + 1), str(node.value - 1)])
         elif isinstance(node.value, str) and node.value:
-            self.put_at(node, '""')
+            self.put_at(node, ['""'])
 
     def visit_JoinedStr(self, node):
-        self.put_at(node, '""')
+        self.put_at(node, ['""'])
+        # (what stands between the parts goes with the text)
         for it in node.values if sys.version_info >= (3, 12) else []:
-            if isinstance(it, ast.FormattedValue):
-                self.visit(it)
+            self.generic_visit(it)
 
     def visit_Call(self, node):
         for one, other in zip(node.args, node.args[1:]):
@@ -178,12 +186,12 @@ class Places(ast.NodeVisitor):
     def visit_Slice(self, node):
         for it in (node.lower, node.upper):
             if it:
-                self.put_at(it, "")
+                self.put_at(it, [""])
         self.generic_visit(node)
 
     def visit_Name(self, node):
         if node.id in OPPOSITES:
-            self.put_at(node, OPPOSITES[node.id])
+            self.put_at(node, [OPPOSITES[node.id]])
 
     def visit_Attribute(self, node):
         if node.attr in OPPOSITES:
@@ -223,10 +231,10 @@ def imported_by(file):
 
 def tests_of(root, file):
     """The files of tests that may see a change of a tool, in the order in which they are asked: those named as the tool, those
-    that import it, those that import what imports it, and those of tools/run, which runs them as programs. The benches have one."""
-    if "bench" in Path(file).parts:
-        return ["test_bench"]
+    that import it, those that import what imports it, and those of tools/run, which runs them as programs. The benches have theirs."""
     tool, folder = Path(file).stem, root / "tools"
+    if "bench" in Path(file).parts:
+        return sorted((it.stem for it in folder.glob("test_bench*.py")), key=lambda it: (tool not in it, it))
     files = {it.stem: it for it in folder.glob("*.py")}
     reached = lambda name: closed([name], lambda it: imported_by(files[it]) & files.keys())
     asked = [it for name, it in files.items() if name.startswith("test_") and (tool in reached(name) or name == "test_run")]
@@ -314,39 +322,93 @@ def listed(root):
     return [it.strip() for it in lines if it.startswith("    ")]
 
 
-def tools(root):
-    files = [it for it in sorted((root / "tools").glob("*.py")) if not it.name.startswith("test_") and it.name != "planted.py"]
-    return [it.relative_to(root).as_posix() for it in files]
+def files(root):
+    """The files of Python that are tried: modules, and programs, of which the first line says what they are."""
+    for file in (it for folder in FOLDERS for it in sorted((root / folder).glob("*")) if it.is_file()):
+        is_python = file.suffix == ".py" or read(file).startswith("#!/usr/bin/env python3\n")
+        if is_python and not file.name.startswith("test_"):
+            yield file.relative_to(root).as_posix()
+
+
+def recorded(root):
+    """The checksums that files had when they were tried, by file."""
+    return {file: it for it, file in map(str.split, read(root / RECORD).splitlines())}
+
+
+def checksums(root, some):
+    return {file: hashlib.sha256((root / file).read_bytes()).hexdigest() for file in some}
+
+
+def record(root, tried_now):
+    """Writes down the checksums of files that were tried. A file that is no more loses its line."""
+    known = recorded(root) | tried_now
+    (root / RECORD).write_text("".join(f"{known[it]}  {it}\n" for it in files(root) if it in known), encoding="utf-8")
+
+
+def tell_tried(root):
+    """Prints which files were not tried as they are; whether there are such."""
+    known, now = recorded(root), checksums(root, files(root))
+    others = [file for file in now if known.get(file) != now[file]]
+    for file in others:
+        print(f"{file}: {'changed since it was tried' if file in known else f'not in {RECORD}'}")
+    print(f"{len(now) - len(others)} of {len(now)} files of Python were tried as they are")
+    return bool(others)
 
 
 def told(fates, known):
-    """Prints what saw the changes of each file, and those that nothing saw; whether there are such."""
+    """Prints what saw the changes of each file, and those that nothing saw; returns these."""
     survivors = [name for name, by in fates.items() if by is None and name not in known]
     for file in sorted({name.partition(":")[0] for name in fates}):
         of_file = {name: by for name, by in fates.items() if name.startswith(f"{file}:")}
         kinds = Counter(by or ("equivalent" if name in known else "SURVIVED") for name, by in of_file.items())
         print(f"{file}: {sum(kinds.values())} changes: {', '.join(f'{count} {kind}' for kind, count in kinds.most_common())}")
     print("".join(f"survived: {it}\n" for it in survivors), end="")
+    return survivors
+
+
+def tell_end(count, asked, start):
+    print(f"{count} of {len(asked)} changes of the tools were tried in {time.monotonic() - start:.0f} seconds")
+
+
+def sample(root, asked, day, seconds):
+    """Tries changes in the order of a day while there is time; whether one survives."""
+    known, start = listed(root), time.monotonic()
+    asked = [it for it in asked if it[1] not in known]
+    random.Random(day).shuffle(asked)
+    fates = tried(root, asked, start + seconds)
+    survivors = told(fates, known)
+    tell_end(len(fates), asked, start)
     return bool(survivors)
 
 
-def main(arguments, root):
-    known, end, start = set(listed(root)), None, time.monotonic()
-    files = [it for it in arguments if it.endswith(".py")] or tools(root)
-    asked = [(file, name, text) for file in files for name, text in mutants(root, file)]
-    if arguments[:1] == ["--list"]:
-        print("".join(f"{name}\n" for _, name, _ in asked), end="")
-        return False
-    if arguments[:1] == ["--sample"]:
-        day, seconds = map(int, arguments[1:3])
-        asked = [it for it in asked if it[1] not in known]
-        random.Random(day).shuffle(asked)
-        end = start + seconds
-    fates = tried(root, asked, end)
-    failed = told(fates, known)
-    if not end and len(fates) < len(asked):
+def whole(root, some, asked):
+    """Tries all changes of some files, and writes down those where all is as it has to be; whether there are others."""
+    known, start, tried_now = listed(root), time.monotonic(), checksums(root, some)
+    fates = tried(root, asked, None)
+    survivors = told(fates, known)
+    if len(fates) < len(asked):
         return f"{len(fates)} of {len(asked)} changes were tried"
-    stale = [] if end else [it for it in known if it.partition(":")[0] in files and (it, None) not in fates.items()]
+    stale = [it for it in known if it.partition(":")[0] in some and (it, None) not in fates.items()]
     print("".join(f"no longer survives, or is no longer there: {it}\n" for it in stale), end="")
-    print(f"{len(fates)} of {len(asked)} changes of the tools were tried in {time.monotonic() - start:.0f} seconds")
-    return failed or bool(stale)
+    tell_end(len(asked), asked, start)
+    faulty = {it.partition(":")[0] for it in [*survivors, *stale]}
+    record(root, {file: it for file, it in tried_now.items() if file not in faulty})
+    return bool(faulty)
+
+
+def tell_changes(asked):
+    print("".join(f"{name}\n" for _, name, _ in asked), end="")
+
+
+def main(arguments, root):
+    front = OPTIONS.get("".join(arguments[:1]), 0)
+    words, some = arguments[:front], arguments[front:] or [*files(root)]
+    unknown = [it for it in some if it not in files(root)]
+    if unknown:
+        return f"no file that is tried is named {unknown[0]}"
+    if words == ["--tried"]:
+        return tell_tried(root)
+    asked = [(file, name, text) for file in some for name, text in mutants(root, file)]
+    if words == ["--list"]:
+        return tell_changes(asked)
+    return sample(root, asked, *map(int, words[1:])) if words else whole(root, some, asked)

@@ -62,7 +62,9 @@ class TreeTest(unittest.TestCase):
                 if len(texts) == 2:
                     text, count = re.subn(texts[0], texts[1], read(self.root / path), flags=re.M)
                     self.assertTrue(count, (path, texts[0]))
-                self.write(path, text if len(texts) == 2 else texts[0])
+                else:
+                    [text] = texts
+                self.write(path, text)
             yield
         finally:
             for path, text in reversed(kept):

@@ -177,17 +177,19 @@ class Pages(TreeTest):
 
     def test_a_part_alone_is_written_and_the_drawing_with_the_curves(self):
         self.put(OF_CRATE.Bench, "curves", None)
-        parts = {it: lambda: print("told") for it in ("small", "means", "curves")}
+        parts = {it: lambda: print("told") for it in ("small", "means", "behind", "curves")}
         self.put(OF_CRATE.Bench, "parts", lambda bench: parts)
         self.put(OF_PORT, "parts_and_curves", lambda folder: (parts, lambda: None))
         self.put(sys, "stdout", io.StringIO())
-        for command, part, drawings in ((OF_CRATE, "small", 0), (OF_CRATE, "means", 1), (OF_PORT, "small", 0), (OF_PORT, "curves", 1)):
+        for command, part, drawings in ((OF_CRATE, "small", 0), (OF_CRATE, "means", 1), (OF_CRATE, "behind", 1), (OF_PORT, "small", 0),
+                                        (OF_PORT, "curves", 1)):
             written = []
             self.put(command, "drawing", lambda found: "<svg/>")
-            self.put(pages, "write", lambda page, name, told, drawn: written.append((page, told, len(drawn))))
+            self.put(pages, "write", lambda page, name, told, drawn: written.append((page, name, told, len(drawn))))
             self.put(sys, "argv", ["run", "--write", "--only", part])
             self.assertFalse(command.main())
-            self.assertEqual(written, [(command.PAGE, {part: "told\n"}, drawings)])
+            name = {OF_CRATE: "rust/bench/run", OF_PORT: "bench/run"}[command]
+            self.assertEqual(written, [(command.PAGE, name, {part: "told\n"}, drawings)])
 
     def test_each_page_has_the_parts_that_its_command_makes_in_their_order(self):
         self.assertEqual(list(pages.parts_of(read(OF_CRATE.PAGE), "rust/bench/run")), list(OF_CRATE.Bench(self.root).parts()))
@@ -215,7 +217,10 @@ calls=1 9
 7 13
 cfn=main::peers::counted_pop::<string::Limited<23>>
 calls=5 9
-7 61
+7 62
+cfn=<main::peers::counted_pop::<string::Limited<23>> as core::ops::FnOnce<()>>::call_once
+calls=5 9
+7 900
 """
 
     def test_what_a_call_takes_is_the_mean_over_all_of_its_callers(self):
@@ -240,6 +245,9 @@ calls=5 9
         self.assertEqual(said_by(counting.table_of_counts, "Call", [23, 63], rows),
                          "\n|Call|23|63|\n|---|---|---|\n|`pop`|**50**/**30**/10|10/30|\n|`trim`|–|**40**/10|\n"
                          "\nBehind the best peer: the port in 1, the crate in 2 of 3 cells.\n")
+        # (of a side that the table does not have nothing is told)
+        said = said_by(counting.table_of_counts, "Call", [23], [("`pop`", [{"crate": 10, "String": 30}])])
+        self.assertEqual(said.splitlines()[-1], "Behind the best peer: the crate in 0 of 1 cells.")
 
     def test_the_least_of_counts_is_of_those_that_the_first_has(self):
         for counts, least in (([{"a": 1}], {"a": 1}), ([{"a": 1}, {"a": 0, "b": 2}], {"a": 0})):
@@ -302,11 +310,13 @@ calls=5 9
         found = {"`pop`": {23: self.curve(crate=[1], String=[1]), 63: late, 255: late}}
         self.assertEqual(curves.means(late, SIDES), {"crate": 23, "String": 17, "arrayvec": 11})
         self.assertEqual((curves.worst(late, "crate"), curves.behind(late, "crate")), ("3.00@0", 2))
-        said = said_by(OF_CRATE.tell_where_behind, found)
-        self.assertIn("|`pop`, 63|2|3|3.00|0|\n|`pop`, 255|2|3|3.00|0|\n", said)
-        self.assertNotIn("`pop`, 23", said)
-        self.assertIn("the crate in 4 of 7 lengths", said)
-        self.assertIn("|`pop`|1|1|–|**23**|17|11|**23**|17|11|\n", said_by(OF_CRATE.tell_means, found))
+        self.assertEqual(said_by(OF_CRATE.tell_where_behind, found), (
+            "\n|Call, capacity|lengths behind|of|times the best peer, at worst|at length|\n|---|---|---|---|---|\n"
+            "|`pop`, 63|2|3|3.00|0|\n|`pop`, 255|2|3|3.00|0|\n\nBehind the best peer: the crate in 4 of 7 lengths.\n"))
+        columns = "|".join(f"{it} crate|String|arrayvec" for it in (23, 63, 255))
+        self.assertEqual(said_by(OF_CRATE.tell_means, found), (
+            f"\n|Mean of all lengths|{columns}|\n|---|{'---|' * 9}\n|`pop`|1|1|–|**23**|17|11|**23**|17|11|\n"
+            "\nBehind the best peer: the crate in 2 of 3 means.\n"))
 
     def test_calls_are_counted_five_times_at_each_capacity_and_of_two_drives_the_last_tells(self):
         asked = []
@@ -523,7 +533,7 @@ class Commands(TreeTest):
 
     def test_valgrind_runs_a_program_with_its_stack_at_a_place(self):
         out, log = self.root / "out", self.root / "log"
-        self.assertEqual(counting.under("callgrind", out, log, ["program", "a"], 7, 3), "counted")
+        self.assertEqual(counting.under("callgrind", out, log, ["program", "a"], 7, "xxx"), "counted")
         counting.under("callgrind", out, log, ["program"])
         for (_, more), given, place in zip(self.ran, (7, subprocess.DEVNULL), ("xxx", "")):
             self.assertEqual((more["stdin"], more["stdout"], more["stderr"].name), (given, subprocess.DEVNULL, str(log)))
@@ -531,6 +541,14 @@ class Commands(TreeTest):
             more["stderr"].close()
         valgrind = "valgrind --tool=callgrind --callgrind-out-file=FOLDER/out program"
         self.assertEqual(self.commands(), [f"{valgrind} a", valgrind])
+
+    def test_arrayvec_is_the_last_that_the_registry_of_debian_has(self):
+        self.assertIn(f"source.debian.directory='{counting.REGISTRY}'", read(ROOT / "tools/scripts.txt"))
+        self.assertEqual(counting.arrayvec_of(self.root), [])
+        for path in ("arrayvec-0.7.2/src/lib.rs", "arrayvec-0.5.2/src/lib.rs", "arrayvec-0.8.0/src/main.rs", 
+                     "smallvec-1/src/lib.rs", "deep/arrayvec-0.9.0/src/lib.rs"):
+            self.write(path, "")
+        self.assertEqual(counting.arrayvec_of(self.root), [self.root / "arrayvec-0.7.2/src/lib.rs"])
 
     def test_what_a_command_says_is_text_and_versions_are_told(self):
         self.assertEqual(counting.written("size", Path("a"), 3), "said\n")
@@ -558,10 +576,10 @@ class Commands(TreeTest):
 
     def test_calls_are_counted_fifty_times_with_the_stack_at_two_places(self):
         drive, asked = self.drive()
-        self.put(counting.Drive, "counted", lambda drive, place: {"a": 10 + place, "b": 3000 - place})
+        self.put(counting.Drive, "counted", lambda drive, place: {"a": 10 + len(place), "b": 3000 - len(place)})
         self.assertEqual(drive.count(23, "ascii", "front"), {"a": 10, "b": 1000})
         command = f"{self.COMPRESSED} program 23 ascii front 50"
-        self.assertEqual(asked, [("callgrind", "callgrind.out", "valgrind.log", command, it) for it in (0, 2000)])
+        self.assertEqual(asked, [("callgrind", "callgrind.out", "valgrind.log", command, it) for it in ("", "x" * 2000)])
         self.assertEqual(drive.counts(), {"a": 10, "b": 1000})
         self.assertEqual(asked[-1][3], f"{self.COMPRESSED} program")
 
@@ -570,7 +588,9 @@ class Commands(TreeTest):
         drive, asked = self.drive()
         self.put(counting, "written", lambda *words: asked.append(words) or "one\ntwo\nthree\n")
         self.put(counting.Drive, "counted", lambda drive, text: {("crate", text): len(text), ("crate", "remove"): 9})
-        (self.root / "curves.out.9").write_text("old", encoding="utf-8")
+        # (what lies deeper is of another bench)
+        for path in ("curves.out.9", "deep/curves.out.9"):
+            self.write(path, "old")
 
         def under(tool, out, log, command, place):
             asked.append((tool, out.name, log.name, " ".join(map(str, command)), place))
@@ -581,11 +601,11 @@ class Commands(TreeTest):
         # (the last of the calls of a part is the one that is told)
         wanted = {("crate", "one"): 9, ("crate", "two"): 9, ("crate", "three"): 9}
         self.assertEqual(drive.count_titled(23, "curves", 5, ["pop", "len"]), wanted)
-        self.assertFalse((self.root / "curves.out.9").exists())
+        self.assertEqual([(self.root / it).exists() for it in ("curves.out.9", "deep/curves.out.9")], [False, True])
         words = "program 23 ascii curves"
         before = f"{self.COMPRESSED} --dump-before=*::next_edge*"
         self.assertEqual(asked, [(*words.split(), "1", "pop", "len")] + [
-            ("callgrind", "curves.out", "valgrind.log", f"{before} {words} 5 pop len", it) for it in (0, 2000)])
+            ("callgrind", "curves.out", "valgrind.log", f"{before} {words} 5 pop len", it) for it in ("", "x" * 2000)])
         self.assertEqual(drive.count_titled(23, "short"), {("crate", "one"): 1, ("crate", "two"): 2, ("crate", "three"): 3})
         self.assertEqual(asked[-1][3], f"{before} program 23 ascii short 50")
 
@@ -651,6 +671,7 @@ REFERENCE = {
     "macro.arraystring.html": "", "macro.arraystring!.html": "", "fn.look.html": HEAD("<code>", "", "look"),
     "utils/fn.cut.html": HEAD("", "const ", "cut"), "fn.raw.html": HEAD("", "unsafe ", "raw"), "fn.text": HEAD("", "", "text"),
     "struct.Text.html": SECTION("method.pop", "method", "<b>pub</b> fn pop(unsafe: u8)")
+    + SECTION("method.trim", "method", '<a href="unsafe.rs.html">Source</a>pub fn trim')
     + SECTION("method.raw", "method", "pub unsafe fn raw") + SECTION("method.go-for-it", "method", "pub fn go")
     + SECTION("impl-From%3C%26str%3E-for-Text%3CN%3E", "impl", "impl From") + SECTION("impl-Copy-for-Text", "impl", "impl Copy")
     + SECTION("impl-Into%3CU%3E-for-T", "impl", "impl Into") + SECTION("impl-Text", "impl", "impl Text")
@@ -668,8 +689,8 @@ class Linked(TreeTest):
         for path, text in REFERENCE.items():
             self.write(f"doc/{path}", text)
         self.assertEqual(PROGRAMS.shown(self.root / "doc"), {
-            "arraystring!", "utils::look", "utils::cut", "Text::pop", "Text::go-for-it", "Text::first", "From<&str> for Text<N>",
-            "Error::source", "Peer for Error",
+            "arraystring!", "utils::look", "utils::cut", "Text::pop", "Text::trim", "Text::go-for-it", "Text::first",
+            "From<&str> for Text<N>", "Error::source", "Peer for Error",
         })
 
     def test_no_entry_is_empty(self):
@@ -680,6 +701,8 @@ class Linked(TreeTest):
             self.assertTrue(all(table) and all(table.values()), table)
 
     def test_each_name_has_its_call(self):
+        # (a folder above the sources of the crate has those of others, too)
+        self.assertTrue((PROGRAMS.SOURCES / "lib.rs").is_file())
         found = PROGRAMS.expressions()
         for name, call in (
             ("Index<RangeFrom<u8>> for ArrayString<N>", "v.s[v.at..].len()"),

@@ -1,13 +1,15 @@
 """Which changes of a tool are tried, on which tests and for how long, and what is said of those that a test sees, and of those
 that none does."""
+import hashlib
 import io
 import os
+import textwrap
 import time
 from contextlib import redirect_stderr, redirect_stdout
 
 import mutants
 from planted import TreeTest
-from repository import read
+from repository import ROOT, read
 
 TOOL = """\
 def is_small(number):
@@ -33,7 +35,7 @@ CHANGES = {
     "a is not b": ["a is b"], "a < b < c": ["a <= b < c", "a >= b < c", "a < b <= c", "a < b >= c"],
     "a and b or c": ["a or b or c", "a and b and c"], "a and b and c": ["a or b and c", "a and b or c"], "not a": ["bool(a)"],
     "a + b": ["a - b"], "a - b": ["a + b"], "a * b": ["a + b"], "a | b": ["a & b"], "a & b": ["a | b"], "a // b": ["a * b"],
-    "a % b": ["a * b"], "a ** b": [], "-a": [], "(a) + (b)": ["(a) - (b)"], "a not  in b": [],
+    "a % b": ["a * b"], "a ** b": [], "-a": [], "a.b": [], "(a) + (b)": ["(a) - (b)"], "a not  in b": [],
     "g(a + b) + c": ["g(a - b) + c", "g(a + b) - c"], "a not  in 'b not in c'": ['a not  in ""'],
     "3": ["4", "2"], "1.5": [], "'ab'": ['""'], "''": [], "True": ["False"], "None": [], "b'a'": [],
     "g(a, b)": ["g(b, a)"], "g(a, b, c)": ["g(b, a, c)", "g(a, c, b)"], "g(a, k=b)": [], "g(a, a)": [],
@@ -43,6 +45,10 @@ CHANGES = {
     "a if b else c": ["a if True else c", "a if False else c"], "[a for a in b]": [],
     "[a for a in b if c]": ["[a for a in b if True]", "[a for a in b if False]"],
     "lambda: a + b": ["lambda: a - b"], "'é' + a": ["'é' - a", '"" + a'], "g(a < b)": ["g(a <= b)", "g(a >= b)"],
+    # (what stands within a part is changed, too)
+    "(a + b).c": ["(a - b).c"], "not a in b": ["bool(a in b)", "not a not in b"],
+    "[a for a in b + c if not d]": [
+        "[a for a in b - c if not d]", *(f"[a for a in b + c if {it}]" for it in ("True", "False", "bool(d)"))],
     "a[1 + b:]": ["a[:]", "a[2 + b:]", "a[0 + b:]", "a[1 - b:]"],
 }
 WORDS = ("any all", "min max", "startswith endswith", "removeprefix removesuffix", "partition rpartition", "find rfind",
@@ -123,7 +129,8 @@ class Changes(TreeTest):
 class Fates(TreeTest):
     """What is asked of which tests, where nothing is run."""
 
-    FILES = {SUMS: TOOL, "rust/equivalent.txt": "It is so.\n    tools/a.py: f: `1` for `2`\n\n    tools/b.py: f: `1` for `2`\n"}
+    FILES = {SUMS: TOOL, "rust/equivalent.txt": "It is so.\n    tools/a.py: f: `1` for `2`\n\n    tools/b.py: f: `1` for `2`\n",
+             "tools/tried.txt": ""}
 
     def test_the_tests_that_reach_a_tool_are_asked_the_nearest_first(self):
         for file, text in (
@@ -131,13 +138,15 @@ class Fates(TreeTest):
             ("test_a", "import deeper\n"), ("test_z", "import unittest, sums\n"), ("test_run", ""),
             ("test_none", "import unittest\n"), ("test_zero", "import deep\nimport sums\n"), ("none_test", "import sums\n"),
             ("more/test_more", "import sums\n"),
+            ("test_bench_runs", ""), ("test_bench_all", ""), ("test_bench", ""), ("more/test_bench_run", ""), ("bench", ""),
         ):
             self.write(f"tools/{file}.py", text)
         self.write("tools/test_sums_of_sums.py", "import sums\n")
         wanted = ["test_sums_of_sums", "test_z", "test_zero", "test_a", "test_run"]
         self.assertEqual(mutants.tests_of(self.root, SUMS), wanted)
         for file in ("bench/sums.py", "rust/bench/sums.py"):
-            self.assertEqual(mutants.tests_of(self.root, file), ["test_bench"])
+            self.assertEqual(mutants.tests_of(self.root, file), ["test_bench", "test_bench_all", "test_bench_runs"])
+        self.assertEqual(mutants.tests_of(self.root, "bench/run"), ["test_bench_runs", "test_bench", "test_bench_all"])
         self.write("tools/test_run.py", "import sums\n")
         self.assertEqual(mutants.tests_of(self.root, SUMS), ["test_sums_of_sums", "test_z", "test_zero", "test_run", "test_a"])
 
@@ -168,10 +177,36 @@ class Fates(TreeTest):
     def test_what_nobody_can_see_is_listed_below_its_reason(self):
         self.assertEqual(mutants.listed(self.root), ["tools/a.py: f: `1` for `2`", "tools/b.py: f: `1` for `2`"])
 
-    def test_tools_are_the_files_that_are_no_tests(self):
-        for file in ("a.py", "test_a.py", "planted.py", "a.txt", "deep/b.py"):
-            self.write(f"tools/{file}", "")
-        self.assertEqual(mutants.tools(self.root), ["tools/a.py", SUMS])
+    def test_files_are_the_modules_and_the_programs_of_python_that_are_no_tests(self):
+        python, wanted = "#!/usr/bin/env python3\n", ["bench/a.py", "bench/run", "rust/bench/b.py", "tools/a.py", "tools/run", SUMS]
+        for file, text in (("bench/a.py", ""), ("bench/run", python), ("rust/bench/b.py", ""), ("tools/a.py", ""),
+                           ("tools/run", python), ("bench/time", "#!/bin/bash\n"), ("tools/a.txt", f"It begins with {python}"),
+                           ("tools/test_a.py", ""), ("tools/test_run", python), ("tools/deep/b.py", ""), ("rust/c.py", ""),
+                           ("run", python)):
+            self.write(file, text)
+        self.assertEqual([*mutants.files(self.root)], wanted)
+
+    def test_all_files_of_python_are_in_these_folders(self):
+        folders = (".ci", "bench", "crates/*", "docs", "rust", "rust/*", "tools")
+        found = {it.parent for folder in folders for it in ROOT.glob(f"{folder}/*")
+                 if it.suffix == ".py" or it.is_file() and b"python" in it.read_bytes().partition(b"\n")[0]}
+        self.assertEqual(found, {ROOT / it for it in mutants.FOLDERS})
+
+    def line(self, file, text):
+        """What is written down of a file that was tried with this text."""
+        return f"{hashlib.sha256(text.encode()).hexdigest()}  {file}\n"
+
+    def test_what_was_tried_as_it_is_is_told_by_its_checksum(self):
+        self.write("tools/other.py", "")
+        self.assertEqual(self.told(mutants, "--tried"), (
+            True, f"tools/other.py: not in tools/tried.txt\n{SUMS}: not in tools/tried.txt\n0 of 2 files of Python were tried as "
+            "they are\n"))
+        self.write("tools/tried.txt", self.line("tools/other.py", "") + self.line(SUMS, TOOL))
+        self.assertEqual(self.told(mutants, "--tried"), (False, "2 of 2 files of Python were tried as they are\n"))
+        self.write(SUMS, f"{TOOL}\n")
+        said = f"{SUMS}: changed since it was tried\n1 of 2 files of Python were tried as they are\n"
+        self.assertEqual(self.told(mutants, "--tried"), (True, said))
+        self.assertEqual(self.told(mutants, "--tried", "tools/none.py"), (True, "no file that is tried is named tools/none.py"))
 
     def main_told(self, *words, lacks=0):
         """What is told where no test sees the second change of `tools/sums.py`, and some are not tried."""
@@ -206,6 +241,35 @@ class Fates(TreeTest):
             counts = f"{SUMS}: 9 changes: 8 test_sums, 1 equivalent\n" if known else self.COUNTS
             self.assertEqual(self.main_told(SUMS), (failed, counts + said + self.TRIED.format(9)), lines)
 
+    def test_a_file_is_written_down_with_its_text_where_nothing_survives(self):
+        other, gone = self.line("tools/other.py", ""), self.line("tools/gone.py", "")
+        self.write("tools/other.py", "")
+        survives, stale = f"Why.\n    {self.SURVIVES}\n", "    tools/sums.py: is_small: `None` for `gone`\n"
+        for listed, words, before, after in (
+            ("", (), "", other), ("", (SUMS,), other, other), (survives, (SUMS,), other, other + self.line(SUMS, TOOL)),
+            (survives, (), gone, other + self.line(SUMS, TOOL)), (survives + stale, (), "", other),
+            # (one that was tried before with another text)
+            ("", (SUMS,), self.line(SUMS, ""), self.line(SUMS, "")),
+            (survives, (SUMS,), self.line(SUMS, ""), self.line(SUMS, TOOL)),
+            (survives, ("--sample", "7", "100"), "", ""), (survives, ("--list",), "", ""), (survives, ("--tried",), "", ""),
+        ):
+            self.write("rust/equivalent.txt", listed)
+            self.write("tools/tried.txt", before)
+            self.main_told(*words)
+            self.assertEqual(read(self.root / "tools/tried.txt"), after, (listed, words))
+        self.write("tools/tried.txt", "")
+        self.main_told("tools/other.py", SUMS, lacks=1)
+        self.assertEqual(read(self.root / "tools/tried.txt"), "")
+
+    def test_a_file_that_changes_meanwhile_is_written_down_as_it_was(self):
+        def tried(root, asked, end):
+            self.write(SUMS, "")
+            return {name: "test_sums" for _, name, _ in asked}
+
+        self.put(mutants, "tried", tried)
+        self.assertFalse(self.told(mutants, SUMS)[0])
+        self.assertEqual(read(self.root / "tools/tried.txt"), self.line(SUMS, TOOL))
+
     def test_changes_that_were_not_tried_are_a_fault(self):
         self.assertEqual(self.main_told(SUMS, lacks=1), (True, self.COUNTS.replace("9", "8", 1).replace("8 test", "7 test")
                                                          + "8 of 9 changes were tried"))
@@ -224,6 +288,9 @@ class Fates(TreeTest):
         self.assertEqual(len({tuple(it) for it in orders}), 3)
         self.assertNotIn(self.SURVIVES, orders[0])
 
+    def test_what_survives_in_a_sample_is_told_and_fails(self):
+        self.assertEqual(self.main_told("--sample", "7", "100", SUMS), (True, self.COUNTS + self.TRIED.format(9)))
+
     def test_changes_are_listed_and_none_is_tried(self):
         failed, said = self.main_told("--list", SUMS)
         self.assertEqual((failed, self.asked, said.splitlines()), (False, [], [it for it, _ in mutants.mutants(self.root, SUMS)]))
@@ -238,7 +305,7 @@ class Fates(TreeTest):
 class Mutants(TreeTest):
     """What is told of a tool where its tests are run."""
 
-    FILES = {SUMS: TOOL, "tools/test_sums.py": TESTS, "rust/equivalent.txt": ""}
+    FILES = {SUMS: TOOL, "tools/test_sums.py": TESTS, "rust/equivalent.txt": "", "tools/tried.txt": ""}
 
     def test_each_change_that_a_test_sees_is_counted(self):
         failed, said = self.told(mutants, SUMS)
@@ -274,7 +341,8 @@ class Mutants(TreeTest):
         copies = []
         self.put(mutants, "copied", lambda *words, copied=mutants.copied: copies.append(words) or copied(*words))
         asked = [(SUMS, name, text) for name, text in mutants.mutants(self.root, SUMS)]
-        for end, count in ((None, 9), (time.monotonic() + 1000, 9), (time.monotonic(), 0)):
+        self.put(time, "monotonic", lambda: 1000)
+        for end, count in ((None, 9), (1001, 9), (1000, 0)):
             with redirect_stdout(io.StringIO()) as said, redirect_stderr(io.StringIO()):
                 self.assertEqual(mutants.tried(self.root, asked, end), {name: "test_sums" for _, name, _ in asked[:count]})
             self.assertEqual(said.getvalue(), "")
@@ -296,6 +364,10 @@ class Runs(TreeTest):
         self.assertEqual(self.ran("self.assertEqual((closure.closed, os.listdir('.')), (3, ['closure.py', 'test_closure.py']))"
                                   .replace("os.listdir('.')", "sorted(os.listdir('.'))"))[0], 0)
         self.assertEqual(self.ran("self.assertEqual(closure.closed, 4)")[0], 1)
+
+    def test_it_has_the_modules_of_the_library_that_are_there_already(self):
+        self.put(textwrap, "__doc__", "as it was changed")
+        self.assertEqual(self.ran("import textwrap; self.assertEqual(textwrap.__doc__, 'as it was changed')")[0], 0)
 
     def test_it_reads_nothing_and_what_it_says_goes_nowhere(self):
         kept = [os.dup(it) for it in range(3)]
@@ -321,7 +393,7 @@ class Runs(TreeTest):
         long, short = self.ran(burns.format(0.5)), self.ran("pass")
         self.assertEqual((long[0], short[0]), (0, 0))
         self.assertTrue(0.3 < long[1] - short[1] < 2 and 0 <= short[1] < 0.3, (long, short))
-        status, seconds = self.ran(burns.format(60), seconds=1)
+        status, seconds = self.ran(burns.format(10), seconds=1)
         self.assertIn(status, mutants.TOO_LONG)
         self.assertLess(seconds, 4)
         # (one within it may have a higher limit)
@@ -330,7 +402,7 @@ class Runs(TreeTest):
 
     def test_what_waits_too_long_is_ended_with_what_it_began(self):
         self.put(mutants, "LONGEST", 2)
-        child = "child = subprocess.Popen(['sleep', '600']); open({!r}, 'w').write(str(child.pid)); time.sleep(600)"
+        child = "child = subprocess.Popen(['sleep', '20']); open({!r}, 'w').write(str(child.pid)); time.sleep(20)"
         status, _ = self.ran(child.format(str(self.root / "child")))
         self.assertEqual(status, -9)
         number = read(self.root / "child")

@@ -74,6 +74,15 @@ class Proved(TreeTest):
                               encoding="utf-8").stdout
         self.assertEqual(said, "".join(f"{it}: OK\n" for it in PATHS))
 
+    def test_the_line_ends_of_another_system_make_another_source(self):
+        source = self.root / "crates/arraystring/src/lib.rt"
+        source.write_bytes(b"abc\n")
+        self.told(proved)
+        source.write_bytes(b"abc\r\n")
+        failed, said = self.told(proved, "--check")
+        self.assertTrue(failed)
+        self.assertTrue(said.startswith(NOT_AS_IT_WAS("crates/arraystring/src/lib.rt")), said)
+
     def test_nothing_is_recorded_where_a_crate_is_not_proved(self):
         for crate in proved.CRATES:
             self.prove_where(lambda folder, crate=crate: folder.name != crate)
