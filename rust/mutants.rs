@@ -243,13 +243,11 @@ const SUBJECTS: &[Subject] = &[
     },
 ];
 
-/// With debug assertions, tests run some times as long where nothing is optimized.
+/// What survives the first tests is asked of all others, which take some times as long where nothing is optimized.
 const QUICK: &str = "profile.test.opt-level=1";
 
 /// The tests that see most changes of what is by hand, and of what a public call tests of its caller.
 const FIRST: &[&str] = &[
-    "--config",
-    QUICK,
     "--features",
     "checked,std",
     "--lib",
