@@ -181,6 +181,15 @@ struct Build {
     name: &'static str,
     /// What cargo or rustc is told.
     arguments: &'static [&'static str],
+    /// Which programs are built, the quick ones first, or none for all.
+    programs: &'static [&'static str],
+}
+
+impl Build {
+    /// The words of a call of cargo.
+    fn words(&self, first: &[&'static str], programs: &[&'static str]) -> Vec<&'static str> {
+        [first, self.arguments, programs].concat()
+    }
 }
 
 /// What has tests of its own.
@@ -190,7 +199,7 @@ struct Subject {
     /// The file that has the number of the change that runs.
     root_file: &'static str,
     builds: &'static [Build],
-    /// What runs the tests that have constants of the crate.
+    /// The programs that have constants of the crate.
     with_constants: &'static [&'static str],
     is_crate: bool,
 }
@@ -208,11 +217,11 @@ const SUBJECTS: &[Subject] = &[
         folder: "rust/arraystring",
         root_file: "rust/arraystring/src/lib.rs",
         builds: &[
-            Build { name: "first tests", arguments: FIRST },
-            Build { name: "debug", arguments: &["--config", QUICK, "--features", "checked,std"] },
-            Build { name: "plain debug", arguments: &["--config", QUICK] },
-            Build { name: "release", arguments: &["--release", "--features", "std"] },
-            Build { name: "release checked", arguments: &["--release", "--features", "checked,std"] },
+            Build { name: "first tests", arguments: &["--features", "checked,std"], programs: FIRST },
+            Build { name: "debug", arguments: &["--config", QUICK, "--features", "checked,std"], programs: &[] },
+            Build { name: "plain debug", arguments: &["--config", QUICK], programs: &[] },
+            Build { name: "release", arguments: &["--release", "--features", "std"], programs: &[] },
+            Build { name: "release checked", arguments: &["--release", "--features", "checked,std"], programs: &[] },
         ],
         with_constants: WITH_CONSTANTS,
         is_crate: true,
@@ -221,15 +230,15 @@ const SUBJECTS: &[Subject] = &[
         name: "arraystring_serde",
         folder: "rust/arraystring_serde",
         root_file: "rust/arraystring_serde/src/lib.rs",
-        builds: &[Build { name: "debug", arguments: &[DEBIAN[0], DEBIAN[1], DEBIAN[2], DEBIAN[3]] }],
-        with_constants: &["test"],
+        builds: &[Build { name: "debug", arguments: &[DEBIAN[0], DEBIAN[1], DEBIAN[2], DEBIAN[3]], programs: &[] }],
+        with_constants: &[],
         is_crate: true,
     },
     Subject {
         name: "compare",
         folder: "rust",
         root_file: "rust/compare.rs",
-        builds: &[Build { name: "tests", arguments: &[] }],
+        builds: &[Build { name: "tests", arguments: &[], programs: &[] }],
         with_constants: &[],
         is_crate: false,
     },
@@ -237,7 +246,7 @@ const SUBJECTS: &[Subject] = &[
         name: "meaning",
         folder: "rust",
         root_file: "rust/meaning.rs",
-        builds: &[Build { name: "tests", arguments: &[] }],
+        builds: &[Build { name: "tests", arguments: &[], programs: &[] }],
         with_constants: &[],
         is_crate: false,
     },
@@ -247,25 +256,12 @@ const SUBJECTS: &[Subject] = &[
 const QUICK: &str = "profile.test.opt-level=1";
 
 /// The tests that see most changes of what is by hand, and of what a public call tests of its caller.
-const FIRST: &[&str] = &[
-    "--features",
-    "checked,std",
-    "--lib",
-    "--test",
-    "by_hand",
-    "--test",
-    "traits",
-    "--test",
-    "constants",
-    "--test",
-    "preconditions",
-    "--test",
-    "panics",
-];
+const FIRST: &[&str] =
+    &["--lib", "--test=panics", "--test=preconditions", "--test=constants", "--test=traits", "--test=by_hand"];
 
 /// The tests in which a constant is made by the crate.
 const WITH_CONSTANTS: &[&str] =
-    &["test", "--test", "access", "--test", "beside", "--test", "by_hand", "--test", "constants", "--test", "moves"];
+    &["--test=access", "--test=beside", "--test=by_hand", "--test=constants", "--test=moves"];
 
 impl Subject {
     fn chosen(&self, root: &Path) -> Result<BTreeMap<String, Chosen>, String> {
@@ -823,10 +819,8 @@ impl<'a> Run<'a> {
     /// The tests of a build with all changes that share it.
     fn tests(&mut self, tree: &Tree, build: &Build) -> Result<Vec<Unit>, String> {
         let said = if self.subject.is_crate {
-            let no_tests = build.arguments.iter().position(|word| *word == "--lib").unwrap_or(build.arguments.len());
-            let check: Vec<&str> = ["check", "--lib"].iter().chain(&build.arguments[..no_tests]).copied().collect();
-            self.built(tree, &check, &Fate::NotCompiled)?;
-            let test: Vec<&str> = ["test", "--no-run"].iter().chain(build.arguments).copied().collect();
+            self.built(tree, &build.words(&["check", "--lib"], &[]), &Fate::NotCompiled)?;
+            let test = build.words(&["test", "--no-run"], build.programs);
             self.built(tree, &test, &Fate::Seen("(the build of the tests)".to_string()))?
         } else {
             let (words, _) = self.program(tree, &["-C", "codegen-units=2"])?;
@@ -911,7 +905,7 @@ impl<'a> Run<'a> {
 
     /// Asks the examples in the documentation of the changes that survived.
     fn try_examples(&mut self, tree: &Tree, build: &Build) -> Result<(), String> {
-        let words: Vec<&str> = ["test", "--doc"].iter().chain(build.arguments).copied().collect();
+        let words = build.words(&["test", "--doc"], &[]);
         for round in self.rounds(&self.left()) {
             if !self.is_over() {
                 let ask = |those: &[usize]| tree.seen_by_tests(self.subject, &words, ("MUTANT", &self.told(those)));
@@ -930,13 +924,10 @@ impl<'a> Run<'a> {
             return Ok(());
         }
         self.write(tree, &those)?;
-        let builds = self.subject.builds.iter().filter(|build| !build.arguments.contains(&"--lib"));
-        let with = |first: &[&'static str], build: &Build| -> Vec<&str> {
-            first.iter().chain(build.arguments).copied().collect()
-        };
+        let builds = self.subject.builds.iter().filter(|build| build.programs.is_empty());
         let mut asked: Vec<(&str, Vec<&str>)> =
-            builds.map(|build| (build.name, with(self.subject.with_constants, build))).collect();
-        asked.extend(self.subject.builds.last().map(|build| ("examples", with(&["test", "--doc"], build))));
+            builds.map(|build| (build.name, build.words(&["test"], self.subject.with_constants))).collect();
+        asked.extend(self.subject.builds.last().map(|build| ("examples", build.words(&["test", "--doc"], &[]))));
         for round in self.rounds(&those) {
             for (name, words) in &asked {
                 let left: Vec<usize> = round.iter().copied().filter(|at| self.fates[*at] == Fate::Survived).collect();
@@ -1023,16 +1014,18 @@ impl<'a> Run<'a> {
         if !self.subject.is_crate {
             return self.fate_of_program(tree);
         }
-        let with = |first: &[&'static str], build: &Build| -> Vec<&str> {
-            first.iter().chain(build.arguments).copied().collect()
-        };
         let whole = self.subject.builds.last().expect("a build");
-        if !tree.build(self.subject, &with(&["check", "--lib"], whole))?.0 {
+        if !tree.build(self.subject, &whole.words(&["check", "--lib"], &[]))?.0 {
             return Ok(Fate::NotCompiled);
         }
         for build in self.subject.builds {
-            if let Some(by) = tree.seen_by_tests(self.subject, &with(&["test"], build), ("MUTANT", ""))? {
-                return Ok(Fate::Seen(format!("{}: {by}", build.name)));
+            // (program by program, since most changes are seen before a long one is built)
+            let parts: Vec<&[&str]> =
+                if build.programs.is_empty() { vec![&[]] } else { build.programs.chunks(1).collect() };
+            for programs in parts {
+                if let Some(by) = tree.seen_by_tests(self.subject, &build.words(&["test"], programs), ("MUTANT", ""))? {
+                    return Ok(Fate::Seen(format!("{}: {by}", build.name)));
+                }
             }
         }
         Ok(Fate::Survived)

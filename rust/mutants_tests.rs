@@ -155,7 +155,7 @@ fn a_change_of_a_macro_may_be_refused_where_it_is_called() {
         name: "small",
         folder: "rust",
         root_file: "rust/small.rs",
-        builds: &[Build { name: "tests", arguments: &[] }],
+        builds: &[Build { name: "tests", arguments: &[], programs: &[] }],
         with_constants: &[],
         is_crate: false,
     };
@@ -195,8 +195,11 @@ fn what_the_list_has_runs_together_and_a_stale_line_is_told() {
         name: "little",
         folder: "little",
         root_file: "little/src/lib.rs",
-        builds: &[Build { name: "first tests", arguments: &["--lib"] }, Build { name: "debug", arguments: &[] }],
-        with_constants: &["test", "--test", "constants"],
+        builds: &[
+            Build { name: "first tests", arguments: &[], programs: &["--lib"] },
+            Build { name: "debug", arguments: &[], programs: &[] },
+        ],
+        with_constants: &["--test=constants"],
         is_crate: true,
     };
     let library = "//! Little.\n\npub const LEAST: u8 = 3;\npub const MOST: u8 = 7;\n\n\
@@ -301,8 +304,7 @@ fn each_test_with_a_constant_of_the_crate_is_named() {
             found.insert(path.file_stem().expect("a name").to_string_lossy().to_string());
         }
     }
-    let named = WITH_CONSTANTS.iter().skip(1).filter(|it| !it.starts_with("--"));
-    assert_eq!(found, named.map(|it| it.to_string()).collect());
+    assert_eq!(found, WITH_CONSTANTS.iter().map(|it| it.trim_start_matches("--test=").to_string()).collect());
 }
 
 /// The texts of all files below a folder.
