@@ -629,8 +629,9 @@ struct Run<'a> {
     /// Those of which the list says that nobody can see them.
     listed: BTreeSet<usize>,
     end: Option<Instant>,
-    /// Those that are tried now.
+    /// Those that are tried now: a part, and whether also of the list.
     part: Range<usize>,
+    has_listed: bool,
 }
 
 /// What sees some changes that are made together, if anything does.
@@ -663,7 +664,7 @@ impl<'a> Run<'a> {
         }
         let fates = vec![Fate::NotTried; mutants.len()];
         let listed = (0..mutants.len()).filter(|at| listed.contains_key(&mutants[*at].name())).collect();
-        Run { root, subject, mutants, fates, listed, end, part: 0..0 }
+        Run { root, subject, mutants, fates, listed, end, part: 0..0, has_listed: true }
     }
 
     /// What a changed program is told, so that it makes some changes.
@@ -697,8 +698,10 @@ impl<'a> Run<'a> {
 
     /// The changes that are in a build: those that share it, and are not seen yet.
     fn left(&self) -> Vec<usize> {
-        let is_left =
-            |at: &usize| self.mutants[*at].body.is_some() && matches!(self.fates[*at], Fate::NotTried | Fate::Survived);
+        let is_left = |at: &usize| {
+            let is_open = matches!(self.fates[*at], Fate::NotTried | Fate::Survived);
+            is_open && self.mutants[*at].body.is_some() && (self.has_listed || !self.listed.contains(at))
+        };
         self.part.clone().filter(is_left).collect()
     }
 
@@ -832,7 +835,7 @@ impl<'a> Run<'a> {
         Ok(units(&tree.programs(self.subject, &said), &tree.folder.join(self.subject.folder)))
     }
 
-    /// Tries the changes that share a build. The first tests see most of those that the list has not, so there these run one by one.
+    /// Tries the changes that share a build. The first build sees most of those that the list has not, so there these run one by one.
     /// What the list has, and what is left for later builds, is hardly ever seen, and runs together.
     fn try_switched(&mut self, tree: &Tree, build: &Build, is_first: bool) -> Result<(), String> {
         let units = self.tests(tree, build)?;
@@ -1054,6 +1057,8 @@ impl<'a> Run<'a> {
         for first in (0..count).step_by(together) {
             self.part = first..count.min(first.saturating_add(together));
             for (index, build) in self.subject.builds.iter().enumerate() {
+                // (a later build asks all tests of these)
+                self.has_listed = build.programs.is_empty();
                 if !self.left().is_empty() && !self.is_over() {
                     self.try_switched(tree, build, index == 0)?;
                 }

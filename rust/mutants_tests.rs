@@ -242,11 +242,11 @@ fn what_the_list_has_runs_together_and_a_stale_line_is_told() {
         ("1", in_constant),
         ("number - 0", "SURVIVED"),
         ("number + 1", in_constant),
-        ("Default::default()", "seen by first tests: src/lib::it_is_more"),
-        ("1", "seen by first tests: src/lib::it_is_more"),
+        ("Default::default()", "seen by debug: src/lib::it_is_more"),
+        ("1", "seen by debug: src/lib::it_is_more"),
         ("number.wrapping_add(1)", "SURVIVED"),
         ("number.saturating_add(2)", "seen by first tests: src/lib::it_is_more"),
-        ("number.saturating_add(0)", "seen by first tests: src/lib::it_is_more"),
+        ("number.saturating_add(0)", "seen by debug: src/lib::it_is_more"),
     ];
     assert_eq!(shown, wanted.map(|(change, fate)| format!("`{change}`: {fate}")));
 }
