@@ -26,9 +26,10 @@
 //! The repository is copied first, and never written. A change that takes too much of a processor is ended, and counts as seen. Nothing
 //! but tests is asked: what clippy says of a change is not heard.
 //!
-//! The file for serde takes one processor minute. One by hand takes some, most of them for the builds, and those that stand in each
-//! access (`access.rs`, `simd.rs`) more. `compare.rs` and `meaning.rs` have some thousand changes each. A sample has `SAMPLE` changes of
-//! one of the four parts, which follow each other day by day; what its time has no room for is counted as not tried.
+//! The file for serde takes one processor minute. One by hand takes some, most of them for the builds, which files share that are tried
+//! together. Those that stand in each access (`access.rs`, `simd.rs`) take more. `compare.rs` and `meaning.rs` have some thousand
+//! changes each. A sample has `SAMPLE` changes of one of the four parts, which follow each other day by day; what its time has no room
+//! for is counted as not tried.
 
 use std::collections::{BTreeMap, BTreeSet};
 use std::fmt::Write as _;
@@ -256,8 +257,17 @@ const SUBJECTS: &[Subject] = &[
 const QUICK: &str = "profile.test.opt-level=1";
 
 /// The tests that see most changes of what is by hand, and of what a public call tests of its caller.
-const FIRST: &[&str] =
-    &["--lib", "--test=panics", "--test=preconditions", "--test=constants", "--test=traits", "--test=by_hand"];
+const FIRST: &[&str] = &[
+    "--lib",
+    "--test=panics",
+    "--test=preconditions",
+    "--test=checked",
+    "--test=access",
+    "--test=constants",
+    "--test=beside",
+    "--test=traits",
+    "--test=by_hand",
+];
 
 /// The tests in which a constant is made by the crate.
 const WITH_CONSTANTS: &[&str] =
