@@ -17,14 +17,19 @@
 //! not compile is no change. An attribute that changes no result (`FREE`) is left.
 //!
 //! A body stands in the program once for each change and once as it is, and `MUTANT` in the environment says which runs. So changes
-//! share a build: all of a crate, and of a program some hundred (`TOGETHER`). What is outside of bodies has a build of its own, and so
-//! has what survives in a `const fn`, since a constant is made of the body as it is. The repository is copied first, and never written.
-//! A change that takes too much of a processor is ended, and counts as seen. Nothing but tests is asked: what clippy says of a change
-//! is not heard.
+//! share a build: all of a crate, and of a program some hundred (`TOGETHER`). What the list has is made together, one change of each
+//! body at a time, and so is what the first tests have not seen: if no test sees them all, it sees none of them, and if one does, it is
+//! asked of their halves. A constant is made of the body as it is. So what survives in a `const fn` is tried once more, in a build of
+//! the tests that have constants (`WITH_CONSTANTS`), in which `MUTANT_IN_CONSTANTS` tells the compiler what to make. What is outside of
+//! bodies has a build of its own, and what the list has of it has one together.
 //!
-//! The file for serde takes one processor minute. One by hand takes some, most of them for the builds, and those that stand in each
-//! access (`access.rs`, `simd.rs`) more. `compare.rs` and `meaning.rs` have some thousand changes each. A sample has `SAMPLE` changes of
-//! one of the four parts, which follow each other day by day; what its time has no room for is counted as not tried.
+//! The repository is copied first, and never written. A change that takes too much of a processor is ended, and counts as seen. Nothing
+//! but tests is asked: what clippy says of a change is not heard.
+//!
+//! The file for serde takes one processor minute. One by hand takes some, most of them for the builds, which files share that are tried
+//! together. Those that stand in each access (`access.rs`, `simd.rs`) take more. `compare.rs` and `meaning.rs` have some thousand
+//! changes each. A sample has `SAMPLE` changes of one of the four parts, which follow each other day by day; what its time has no room
+//! for is counted as not tried.
 
 use std::collections::{BTreeMap, BTreeSet};
 use std::fmt::Write as _;
@@ -32,7 +37,7 @@ use std::fs::{self, File};
 use std::ops::Range;
 use std::os::unix::process::ExitStatusExt;
 use std::path::{Path, PathBuf};
-use std::process::{Command, ExitCode, Stdio};
+use std::process::{Command, ExitCode, Output, Stdio};
 use std::sync::Mutex;
 use std::sync::atomic::{AtomicUsize, Ordering};
 use std::time::{Duration, Instant};
@@ -61,6 +66,8 @@ struct Mutant {
     edit: Edit,
     /// The body that stands in the program once for each of its changes, or none where the change has a build of its own.
     body: Option<Range<usize>>,
+    /// The number of the body or of what else it changes. Of changes with one number one at most is made at a time.
+    switch: usize,
 }
 
 impl Mutant {
@@ -111,7 +118,14 @@ fn mutants_of(root: &Path, file: &str, chosen: &Chosen) -> Result<Vec<Mutant>, S
                 let _ = write!(change, " #{times}");
             }
             let function = region.function.clone();
-            mutants.push(Mutant { file: file.to_string(), function, change, edit, body: region.body.clone() });
+            mutants.push(Mutant {
+                file: file.to_string(),
+                function,
+                change,
+                edit,
+                body: region.body.clone(),
+                switch: 0,
+            });
         }
     }
     Ok(mutants)
@@ -168,6 +182,15 @@ struct Build {
     name: &'static str,
     /// What cargo or rustc is told.
     arguments: &'static [&'static str],
+    /// Which programs are built, the quick ones first, or none for all.
+    programs: &'static [&'static str],
+}
+
+impl Build {
+    /// The words of a call of cargo.
+    fn words(&self, first: &[&'static str], programs: &[&'static str]) -> Vec<&'static str> {
+        [first, self.arguments, programs].concat()
+    }
 }
 
 /// What has tests of its own.
@@ -177,6 +200,8 @@ struct Subject {
     /// The file that has the number of the change that runs.
     root_file: &'static str,
     builds: &'static [Build],
+    /// The programs that have constants of the crate.
+    with_constants: &'static [&'static str],
     is_crate: bool,
 }
 
@@ -193,53 +218,60 @@ const SUBJECTS: &[Subject] = &[
         folder: "rust/arraystring",
         root_file: "rust/arraystring/src/lib.rs",
         builds: &[
-            Build { name: "first tests", arguments: FIRST },
-            Build { name: "debug", arguments: &["--features", "checked,std"] },
-            Build { name: "plain debug", arguments: &[] },
-            Build { name: "release", arguments: &["--release", "--features", "std"] },
-            Build { name: "release checked", arguments: &["--release", "--features", "checked,std"] },
+            Build { name: "first tests", arguments: &["--features", "checked,std"], programs: FIRST },
+            Build { name: "debug", arguments: &["--config", QUICK, "--features", "checked,std"], programs: &[] },
+            Build { name: "plain debug", arguments: &["--config", QUICK], programs: &[] },
+            Build { name: "release", arguments: &["--release", "--features", "std"], programs: &[] },
+            Build { name: "release checked", arguments: &["--release", "--features", "checked,std"], programs: &[] },
         ],
+        with_constants: WITH_CONSTANTS,
         is_crate: true,
     },
     Subject {
         name: "arraystring_serde",
         folder: "rust/arraystring_serde",
         root_file: "rust/arraystring_serde/src/lib.rs",
-        builds: &[Build { name: "debug", arguments: &[DEBIAN[0], DEBIAN[1], DEBIAN[2], DEBIAN[3]] }],
+        builds: &[Build { name: "debug", arguments: &[DEBIAN[0], DEBIAN[1], DEBIAN[2], DEBIAN[3]], programs: &[] }],
+        with_constants: &[],
         is_crate: true,
     },
     Subject {
         name: "compare",
         folder: "rust",
         root_file: "rust/compare.rs",
-        builds: &[Build { name: "tests", arguments: &[] }],
+        builds: &[Build { name: "tests", arguments: &[], programs: &[] }],
+        with_constants: &[],
         is_crate: false,
     },
     Subject {
         name: "meaning",
         folder: "rust",
         root_file: "rust/meaning.rs",
-        builds: &[Build { name: "tests", arguments: &[] }],
+        builds: &[Build { name: "tests", arguments: &[], programs: &[] }],
+        with_constants: &[],
         is_crate: false,
     },
 ];
 
+/// What survives the first tests is asked of all others, which take some times as long where nothing is optimized.
+const QUICK: &str = "profile.test.opt-level=1";
+
 /// The tests that see most changes of what is by hand, and of what a public call tests of its caller.
 const FIRST: &[&str] = &[
-    "--features",
-    "checked,std",
     "--lib",
-    "--test",
-    "by_hand",
-    "--test",
-    "traits",
-    "--test",
-    "constants",
-    "--test",
-    "preconditions",
-    "--test",
-    "panics",
+    "--test=panics",
+    "--test=preconditions",
+    "--test=checked",
+    "--test=access",
+    "--test=constants",
+    "--test=beside",
+    "--test=traits",
+    "--test=by_hand",
 ];
+
+/// The tests in which a constant is made by the crate.
+const WITH_CONSTANTS: &[&str] =
+    &["--test=access", "--test=beside", "--test=by_hand", "--test=constants", "--test=moves"];
 
 impl Subject {
     fn chosen(&self, root: &Path) -> Result<BTreeMap<String, Chosen>, String> {
@@ -251,29 +283,44 @@ impl Subject {
     }
 }
 
-/// What stands in the changed program: the number of the change that runs. In a constant none does.
+/// What stands in the changed program. It is told the numbers of the changes that run, each behind that of its switch: `3=17,5=21,`.
+/// The compiler is told those that are made in constants.
 const SWITCH: &str = "
 #[doc(hidden)]
 #[allow(warnings)]
 pub mod mutant_switch {
     extern crate std;
-    use std::sync::atomic::{AtomicU32, Ordering};
-    static NUMBER: AtomicU32 = AtomicU32::new(u32::MAX);
-    fn number() -> u32 {
-        match NUMBER.load(Ordering::Relaxed) {
-            u32::MAX => {
-                let told = std::env::var(\"MUTANT\").ok().and_then(|told| told.parse().ok()).unwrap_or(0);
-                NUMBER.store(told, Ordering::Relaxed);
-                told
+    use std::sync::OnceLock;
+    use std::vec::Vec;
+    const fn number_of(told: &[u8], switch: u32) -> u32 {
+        let (mut at, mut of, mut number) = (0, 0, 0);
+        while at < told.len() {
+            match told[at] {
+                b'=' => (of, number) = (number, 0),
+                b',' if of == switch => return number,
+                b',' => number = 0,
+                digit => number = 10 * number + (digit - b'0') as u32,
             }
-            told => told,
+            at += 1;
         }
-    }
-    const fn none() -> u32 {
         0
     }
-    pub const fn mutant() -> u32 {
-        core::intrinsics::const_eval_select((), none, number)
+    const fn in_constant(switch: u32) -> u32 {
+        match option_env!(\"MUTANT_IN_CONSTANTS\") {
+            Some(told) => number_of(told.as_bytes(), switch),
+            None => 0,
+        }
+    }
+    fn at_run_time(switch: u32) -> u32 {
+        static NUMBERS: OnceLock<Vec<u32>> = OnceLock::new();
+        let read = || {
+            let told = std::env::var(\"MUTANT\").unwrap_or_default();
+            (0..SWITCHES).map(|switch| number_of(told.as_bytes(), switch)).collect()
+        };
+        NUMBERS.get_or_init(read)[switch as usize]
+    }
+    pub const fn mutant(switch: u32) -> u32 {
+        core::intrinsics::const_eval_select((switch,), in_constant, at_run_time)
     }
 }
 ";
@@ -299,7 +346,8 @@ fn switched(text: &str, mutants: &[(usize, &Mutant)]) -> (String, Vec<(Range<usi
         made.push_str(&text[done..start]);
         // (what is unchanged comes first, since it says which type the others have to have)
         let numbers = others_than(changes.iter().map(|(number, _)| *number));
-        let _ = writeln!(made, " match crate::mutant_switch::mutant() {{ {numbers} => {{ {} }}", &text[start..end]);
+        let (switch, unchanged) = (changes[0].1.switch, &text[start..end]);
+        let _ = writeln!(made, " match crate::mutant_switch::mutant({switch}) {{ {numbers} => {{ {unchanged} }}");
         for (number, mutant) in changes {
             let (edit, from) = (&mutant.edit, line(&made));
             let (before, behind) = (&text[start..edit.at.start], &text[edit.at.end..end]);
@@ -346,6 +394,20 @@ impl Tree {
 
     /// Builds, and returns whether that worked, and what was said.
     fn build(&self, subject: &Subject, words: &[&str]) -> Result<(bool, String), String> {
+        let output = self.output(subject, words, ("MUTANT", ""))?;
+        Ok((output.status.success(), String::from_utf8_lossy(&output.stderr).to_string()))
+    }
+
+    /// What sees the changes that cargo's tests are told of, if anything does.
+    fn seen_by_tests(&self, subject: &Subject, words: &[&str], told: (&str, &str)) -> Sight {
+        let output = self.output(subject, words, told)?;
+        let (said, errors) = (String::from_utf8_lossy(&output.stdout), String::from_utf8_lossy(&output.stderr));
+        let program = errors.lines().find_map(|line| line.trim().strip_prefix("error: test failed, to rerun pass "));
+        let by = first_failed(&said).or(program).unwrap_or("(the build of the tests)").to_string();
+        Ok((!output.status.success()).then_some(by))
+    }
+
+    fn output(&self, subject: &Subject, words: &[&str], told: (&str, &str)) -> Result<Output, String> {
         let mut command = if subject.is_crate {
             let mut command = Command::new("cargo");
             command.args([words[0], "--offline", "-j", "2", "--message-format", "short"]).args(&words[1..]);
@@ -356,9 +418,8 @@ impl Tree {
             command
         };
         command.current_dir(self.folder.join(subject.folder)).env("CARGO_TARGET_DIR", &self.target);
-        command.env("RUSTC_BOOTSTRAP", "1").env("RUSTFLAGS", "--cap-lints allow");
-        let output = command.output().map_err(|error| format!("{command:?}: {error}"))?;
-        Ok((output.status.success(), String::from_utf8_lossy(&output.stderr).to_string()))
+        command.env("RUSTC_BOOTSTRAP", "1").env("RUSTFLAGS", "--cap-lints allow").env(told.0, told.1);
+        command.output().map_err(|error| format!("{command:?}: {error}"))
     }
 
     /// The programs with tests of a build, by their names.
@@ -451,18 +512,18 @@ impl Unit {
 
     /// How much of a processor the tests take where nothing is changed, or none where one fails.
     fn time(&self) -> Option<Duration> {
-        let output = self.command(TIMED).arg("--exact").args(&self.tests).env("MUTANT", "0").output().ok()?;
+        let output = self.command(TIMED).arg("--exact").args(&self.tests).env("MUTANT", "").output().ok()?;
         let said = String::from_utf8_lossy(&output.stdout).to_string();
         let words: Option<Vec<f64>> = said.lines().nth(1)?.split_whitespace().map(seconds_of).collect();
         words.filter(|_| output.status.success()).map(|words| Duration::from_secs_f64(words.iter().sum()))
     }
 
-    /// Runs the tests under a change. `Some` is what saw it.
-    fn seen_by(&self, number: usize) -> Option<String> {
+    /// Runs the tests under some changes. `Some` is what saw them.
+    fn seen_by(&self, told: &str) -> Option<String> {
         static LOGS: AtomicUsize = AtomicUsize::new(0);
         let log = self.path.with_extension(format!("{}.log", LOGS.fetch_add(1, Ordering::Relaxed)));
         let mut command = self.command(LIMITED);
-        command.arg("--exact").args(&self.tests).env("MUTANT", number.to_string()).stdout(File::create(&log).ok()?);
+        command.arg("--exact").args(&self.tests).env("MUTANT", told).stdout(File::create(&log).ok()?);
         let status = command.status();
         let text = String::from_utf8_lossy(&fs::read(&log).unwrap_or_default()).to_string();
         let _ = fs::remove_file(&log);
@@ -575,20 +636,82 @@ struct Run<'a> {
     subject: &'a Subject,
     mutants: Vec<Mutant>,
     fates: Vec<Fate>,
+    /// Those of which the list says that nobody can see them.
+    listed: BTreeSet<usize>,
     end: Option<Instant>,
-    /// Those that are tried now.
+    /// Those that are tried now: a part, and whether also of the list.
     part: Range<usize>,
+    has_listed: bool,
 }
 
-impl Run<'_> {
+/// What sees some changes that are made together, if anything does.
+type Sight = Result<Option<String>, String>;
+
+/// Those of some changes that are seen, and by what. If nothing sees them together, nothing is asked of each: what nobody can see hides
+/// no other change. (A change that no test sees yet may hide one. Both are survivors then, and the next run tells.)
+fn those_seen(those: &[usize], ask: &dyn Fn(&[usize]) -> Sight) -> Result<Vec<(usize, String)>, String> {
+    let Some(by) = (if those.is_empty() { None } else { ask(those)? }) else { return Ok(Vec::new()) };
+    if let [one] = those {
+        return Ok(vec![(*one, by)]);
+    }
+    let (front, back) = those.split_at(those.len() / 2);
+    Ok([those_seen(front, ask)?, those_seen(back, ask)?].concat())
+}
+
+impl<'a> Run<'a> {
+    fn new(
+        root: &'a Path,
+        subject: &'a Subject,
+        mut mutants: Vec<Mutant>,
+        listed: &BTreeMap<String, String>,
+        end: Option<Instant>,
+    ) -> Self {
+        let mut switches = BTreeMap::new();
+        for mutant in &mut mutants {
+            let body = mutant.body.as_ref().map(|body| body.start);
+            let (key, next) = ((mutant.file.clone(), mutant.function.clone(), body), switches.len());
+            mutant.switch = *switches.entry(key).or_insert(next);
+        }
+        let fates = vec![Fate::NotTried; mutants.len()];
+        let listed = (0..mutants.len()).filter(|at| listed.contains_key(&mutants[*at].name())).collect();
+        Run { root, subject, mutants, fates, listed, end, part: 0..0, has_listed: true }
+    }
+
+    /// What a changed program is told, so that it makes some changes.
+    fn told(&self, those: &[usize]) -> String {
+        those.iter().map(|at| format!("{}={},", self.mutants[*at].switch, at + 1)).collect()
+    }
+
+    /// The changes in rounds. Those of a round are made together, so it has one of a switch at most.
+    fn rounds(&self, those: &[usize]) -> Vec<Vec<usize>> {
+        let (mut rounds, mut times) = (Vec::<Vec<usize>>::new(), BTreeMap::<usize, usize>::new());
+        for &at in those {
+            let round = times.entry(self.mutants[at].switch).or_default();
+            if *round == rounds.len() {
+                rounds.push(Vec::new());
+            }
+            rounds[*round].push(at);
+            *round += 1;
+        }
+        rounds
+    }
+
+    /// What stands in the changed program beside its changes.
+    fn switch(&self) -> String {
+        let count = self.mutants.iter().map(|mutant| mutant.switch + 1).max().unwrap_or(0);
+        SWITCH.replace("SWITCHES", &count.to_string())
+    }
+
     fn is_over(&self) -> bool {
         self.end.is_some_and(|end| Instant::now() > end)
     }
 
     /// The changes that are in a build: those that share it, and are not seen yet.
     fn left(&self) -> Vec<usize> {
-        let is_left =
-            |at: &usize| self.mutants[*at].body.is_some() && matches!(self.fates[*at], Fate::NotTried | Fate::Survived);
+        let is_left = |at: &usize| {
+            let is_open = matches!(self.fates[*at], Fate::NotTried | Fate::Survived);
+            is_open && self.mutants[*at].body.is_some() && (self.has_listed || !self.listed.contains(at))
+        };
         self.part.clone().filter(is_left).collect()
     }
 
@@ -601,7 +724,7 @@ impl Run<'_> {
                 if name.ends_with(".rs") { format!("{folder}/{name}") } else { format!("{folder}/{name}/main.rs") };
             let Ok(text) = read(&self.root.join(&file)) else { continue };
             if text.lines().any(|line| line.starts_with("#[path = \"../") && line.contains("/src/")) {
-                tree.write(&file, &format!("{FEATURES}{text}{SWITCH}"))?;
+                tree.write(&file, &format!("{FEATURES}{text}{}", self.switch()))?;
             }
         }
         Ok(())
@@ -623,7 +746,7 @@ impl Run<'_> {
             }
             if file == self.subject.root_file {
                 // (the features stand before all, and move each line)
-                text = format!("{FEATURES}{text}{SWITCH}");
+                text = format!("{FEATURES}{text}{}", self.switch());
                 let moved = FEATURES.matches('\n').count();
                 at.iter_mut().for_each(|(range, _)| *range = range.start + moved..range.end + moved);
             }
@@ -711,10 +834,8 @@ impl Run<'_> {
     /// The tests of a build with all changes that share it.
     fn tests(&mut self, tree: &Tree, build: &Build) -> Result<Vec<Unit>, String> {
         let said = if self.subject.is_crate {
-            let no_tests = build.arguments.iter().position(|word| *word == "--lib").unwrap_or(build.arguments.len());
-            let check: Vec<&str> = ["check", "--lib"].iter().chain(&build.arguments[..no_tests]).copied().collect();
-            self.built(tree, &check, &Fate::NotCompiled)?;
-            let test: Vec<&str> = ["test", "--no-run"].iter().chain(build.arguments).copied().collect();
+            self.built(tree, &build.words(&["check", "--lib"], &[]), &Fate::NotCompiled)?;
+            let test = build.words(&["test", "--no-run"], build.programs);
             self.built(tree, &test, &Fate::Seen("(the build of the tests)".to_string()))?
         } else {
             let (words, _) = self.program(tree, &["-C", "codegen-units=2"])?;
@@ -726,21 +847,31 @@ impl Run<'_> {
         Ok(units(&tree.programs(self.subject, &said), &tree.folder.join(self.subject.folder)))
     }
 
-    /// Tries the changes that share a build, two at a time. What saw another change of the function is asked first.
-    fn try_switched(&mut self, tree: &Tree, build: &Build) -> Result<(), String> {
+    /// Tries the changes that share a build. The first build sees most of those that the list has not, so there these run one by one.
+    /// What the list has, and what is left for later builds, is hardly ever seen, and runs together.
+    fn try_switched(&mut self, tree: &Tree, build: &Build, is_first: bool) -> Result<(), String> {
         let units = self.tests(tree, build)?;
         let left = self.left();
         eprintln!("mutants: {} {}: {} changes in one build", self.subject.name, build.name, left.len());
+        let (one_by_one, together): (Vec<_>, Vec<_>) =
+            left.into_iter().partition(|at| is_first && !self.listed.contains(at));
+        self.try_one_by_one(build, &units, &one_by_one);
+        self.try_together(build, &units, &together)
+    }
+
+    /// Tries changes by themselves, two at a time. What saw another change of the function is asked first.
+    fn try_one_by_one(&mut self, build: &Build, units: &[Unit], those: &[usize]) {
         let helpful = Mutex::new(BTreeMap::<&str, Vec<usize>>::new());
-        let found = of_each(left.len(), |index| {
-            let at = left[index];
+        let found = of_each(those.len(), |index| {
+            let at = those[index];
             if self.is_over() {
                 return self.fates[at].clone();
             }
             let function = self.mutants[at].function.as_str();
             let mut order = helpful.lock().expect("no thread panics").get(function).cloned().unwrap_or_default();
             order.extend((0..units.len()).filter(|unit| !order.contains(unit)).collect::<Vec<_>>());
-            let Some((unit, by)) = order.into_iter().find_map(|unit| Some((unit, units[unit].seen_by(at + 1)?))) else {
+            let told = self.told(&[at]);
+            let Some((unit, by)) = order.into_iter().find_map(|unit| Some((unit, units[unit].seen_by(&told)?))) else {
                 eprintln!("mutants: {}: not seen by {}", self.mutants[at].name(), build.name);
                 return Fate::Survived;
             };
@@ -752,46 +883,120 @@ impl Run<'_> {
             Fate::Seen(format!("{}: {by}", build.name))
         });
         for (index, fate) in found {
-            self.fates[left[index]] = fate;
+            self.fates[those[index]] = fate;
         }
+    }
+
+    /// Tries changes in rounds, two at a time. Each test is asked of a whole round.
+    fn try_together(&mut self, build: &Build, units: &[Unit], those: &[usize]) -> Result<(), String> {
+        let rounds = self.rounds(those);
+        let found = of_each(rounds.len(), |index| {
+            let (mut left, mut seen) = (rounds[index].clone(), Vec::new());
+            for unit in units {
+                if !self.is_over() {
+                    let more = those_seen(&left, &|those| Ok(unit.seen_by(&self.told(those))))?;
+                    left.retain(|at| more.iter().all(|(other, _)| other != at));
+                    seen.extend(more);
+                }
+            }
+            Ok::<_, String>(seen)
+        });
+        // (where the time is over, what survived is taken back at the end)
+        those.iter().for_each(|at| self.fates[*at] = Fate::Survived);
+        for (_, seen) in found {
+            self.note_seen(build.name, seen?);
+        }
+        let survived = those.iter().filter(|at| self.fates[**at] == Fate::Survived).count();
+        eprintln!("mutants: {survived} of {} changes that ran together are not seen by {}", those.len(), build.name);
         Ok(())
+    }
+
+    fn note_seen(&mut self, where_seen: &str, seen: Vec<(usize, String)>) {
+        for (at, by) in seen {
+            eprintln!("mutants: {}: {where_seen}: {by}", self.mutants[at].name());
+            self.fates[at] = Fate::Seen(format!("{where_seen}: {by}"));
+        }
     }
 
     /// Asks the examples in the documentation of the changes that survived.
     fn try_examples(&mut self, tree: &Tree, build: &Build) -> Result<(), String> {
-        let words: Vec<&str> = ["test", "--doc"].iter().chain(build.arguments).copied().collect();
-        for at in self.left() {
-            if self.is_over() {
-                return Ok(());
-            }
-            let number = (at + 1).to_string();
-            let mut command = Command::new("cargo");
-            command.args([words[0], "--offline", "-j", "2"]).args(&words[1..]).env("MUTANT", number);
-            command.current_dir(tree.folder.join(self.subject.folder)).env("CARGO_TARGET_DIR", &tree.target);
-            command.env("RUSTC_BOOTSTRAP", "1").env("RUSTFLAGS", "--cap-lints allow");
-            let output = command.output().map_err(|error| format!("{command:?}: {error}"))?;
-            if !output.status.success() {
-                let said = String::from_utf8_lossy(&output.stdout).to_string();
-                self.fates[at] = Fate::Seen(format!("examples: {}", first_failed(&said).unwrap_or("(no name)")));
+        let words = build.words(&["test", "--doc"], &[]);
+        for round in self.rounds(&self.left()) {
+            if !self.is_over() {
+                let ask = |those: &[usize]| tree.seen_by_tests(self.subject, &words, ("MUTANT", &self.told(those)));
+                let seen = those_seen(&round, &ask)?;
+                self.note_seen("examples", seen);
             }
         }
         Ok(())
     }
 
-    /// Tries what has a build of its own, and what survived in a `const fn`, which the shared build runs as it is in a constant.
-    fn try_alone(&mut self, tree: &Tree) -> Result<(), String> {
-        for at in 0..self.mutants.len() {
-            let is_due =
-                self.mutants[at].body.is_none() || self.mutants[at].edit.is_const && self.fates[at] == Fate::Survived;
-            if is_due && !self.is_over() {
-                let file = self.mutants[at].file.clone();
-                let text = read(&self.root.join(&file))?;
-                let edit = &self.mutants[at].edit;
-                tree.write(&file, &format!("{}{}{}", &text[..edit.at.start], edit.text, &text[edit.at.end..]))?;
-                self.fates[at] = self.fate_alone(tree)?;
-                eprintln!("mutants: {}: {}", self.mutants[at].name(), self.shown(at));
-                tree.write(&file, &text)?;
+    /// Tries in constants what survived in a `const fn`: in the tests that have some, and in the examples.
+    fn try_in_constants(&mut self, tree: &Tree) -> Result<(), String> {
+        let survived = |at: &usize| self.mutants[*at].edit.is_const && self.fates[*at] == Fate::Survived;
+        let those: Vec<usize> = self.left().into_iter().filter(survived).collect();
+        if those.is_empty() || !self.subject.is_crate {
+            return Ok(());
+        }
+        self.write(tree, &those)?;
+        let builds = self.subject.builds.iter().filter(|build| build.programs.is_empty());
+        let mut asked: Vec<(&str, Vec<&str>)> =
+            builds.map(|build| (build.name, build.words(&["test"], self.subject.with_constants))).collect();
+        asked.extend(self.subject.builds.last().map(|build| ("examples", build.words(&["test", "--doc"], &[]))));
+        for round in self.rounds(&those) {
+            for (name, words) in &asked {
+                let left: Vec<usize> = round.iter().copied().filter(|at| self.fates[*at] == Fate::Survived).collect();
+                if !self.is_over() {
+                    let ask = |those: &[usize]| {
+                        tree.seen_by_tests(self.subject, words, ("MUTANT_IN_CONSTANTS", &self.told(those)))
+                    };
+                    let seen = those_seen(&left, &ask)?;
+                    self.note_seen(&format!("{name}, in a constant"), seen);
+                }
             }
+        }
+        Ok(())
+    }
+
+    /// Tries what has a build of its own: one by one, and those of the list together.
+    fn try_apart(&mut self, tree: &Tree) -> Result<(), String> {
+        let is_due = |at: &usize| {
+            let is_constant = self.mutants[*at].edit.is_const && self.fates[*at] == Fate::Survived;
+            self.mutants[*at].body.is_none() || !self.subject.is_crate && is_constant
+        };
+        let due: Vec<usize> = (0..self.mutants.len()).filter(is_due).collect();
+        let (listed, others): (Vec<_>, Vec<_>) = due.into_iter().partition(|at| self.listed.contains(at));
+        for those in others.into_iter().map(|at| vec![at]).chain(self.rounds(&listed)) {
+            self.try_those_apart(tree, &those)?;
+        }
+        Ok(())
+    }
+
+    fn try_those_apart(&mut self, tree: &Tree, those: &[usize]) -> Result<(), String> {
+        if self.is_over() {
+            return Ok(());
+        }
+        let files: BTreeSet<String> = those.iter().map(|at| self.mutants[*at].file.clone()).collect();
+        for file in &files {
+            let mut text = read(&self.root.join(file))?;
+            let edits = those.iter().map(|at| &self.mutants[*at]).filter(|mutant| mutant.file == *file);
+            let mut edits: Vec<&Edit> = edits.map(|mutant| &mutant.edit).collect();
+            edits.sort_by_key(|edit| std::cmp::Reverse(edit.at.start));
+            edits.iter().for_each(|edit| text.replace_range(edit.at.clone(), &edit.text));
+            tree.write(file, &text)?;
+        }
+        let fate = self.fate_apart(tree)?;
+        for file in &files {
+            tree.write(file, &read(&self.root.join(file))?)?;
+        }
+        if those.len() > 1 && fate != Fate::Survived {
+            let (front, back) = those.split_at(those.len() / 2);
+            self.try_those_apart(tree, front)?;
+            return self.try_those_apart(tree, back);
+        }
+        for &at in those {
+            self.fates[at] = fate.clone();
+            eprintln!("mutants: {}: {}", self.mutants[at].name(), self.shown(at));
         }
         Ok(())
     }
@@ -816,25 +1021,26 @@ impl Run<'_> {
         let (program, folder) = (self.subject.name.to_string(), tree.folder.join(self.subject.folder));
         let all = Unit { program, path, folder, tests: Vec::new(), seconds: 60 };
         let all = Unit { tests: all.names(), ..all };
-        Ok(all.seen_by(0).map_or(Fate::Survived, Fate::Seen))
+        Ok(all.seen_by("").map_or(Fate::Survived, Fate::Seen))
     }
 
-    fn fate_alone(&self, tree: &Tree) -> Result<Fate, String> {
+    /// The fate of what the files of the tree have.
+    fn fate_apart(&self, tree: &Tree) -> Result<Fate, String> {
         if !self.subject.is_crate {
             return self.fate_of_program(tree);
         }
-        let with = |first: &[&'static str], build: &Build| -> Vec<&str> {
-            first.iter().chain(build.arguments).copied().collect()
-        };
         let whole = self.subject.builds.last().expect("a build");
-        if !tree.build(self.subject, &with(&["check", "--lib"], whole))?.0 {
+        if !tree.build(self.subject, &whole.words(&["check", "--lib"], &[]))?.0 {
             return Ok(Fate::NotCompiled);
         }
         for build in self.subject.builds {
-            let (is_green, said) = tree.build(self.subject, &with(&["test"], build))?;
-            if !is_green {
-                let by = said.lines().find_map(|line| line.trim().strip_prefix("error: test failed, to rerun pass "));
-                return Ok(Fate::Seen(format!("{}: {}", build.name, by.unwrap_or("(the build of the tests)"))));
+            // (program by program, since most changes are seen before a long one is built)
+            let parts: Vec<&[&str]> =
+                if build.programs.is_empty() { vec![&[]] } else { build.programs.chunks(1).collect() };
+            for programs in parts {
+                if let Some(by) = tree.seen_by_tests(self.subject, &build.words(&["test"], programs), ("MUTANT", ""))? {
+                    return Ok(Fate::Seen(format!("{}: {by}", build.name)));
+                }
             }
         }
         Ok(Fate::Survived)
@@ -862,20 +1068,23 @@ impl Run<'_> {
         let (count, together) = (self.mutants.len(), if self.subject.is_crate { usize::MAX } else { TOGETHER });
         for first in (0..count).step_by(together) {
             self.part = first..count.min(first.saturating_add(together));
-            for build in self.subject.builds {
+            for (index, build) in self.subject.builds.iter().enumerate() {
+                // (a later build asks all tests of these)
+                self.has_listed = build.programs.is_empty();
                 if !self.left().is_empty() && !self.is_over() {
-                    self.try_switched(tree, build)?;
+                    self.try_switched(tree, build, index == 0)?;
                 }
             }
         }
         self.part = 0..count;
         if self.subject.is_crate && !self.is_over() {
             self.try_examples(tree, self.subject.builds.last().expect("a build"))?;
+            self.try_in_constants(tree)?;
         }
         for file in self.mutants.iter().map(|mutant| mutant.file.as_str()).chain([self.subject.root_file]) {
             tree.write(file, &read(&self.root.join(file))?)?;
         }
-        self.try_alone(tree)?;
+        self.try_apart(tree)?;
         if self.is_over() {
             // (what no test has seen yet, others were not asked of)
             self.fates.iter_mut().filter(|fate| **fate == Fate::Survived).for_each(|fate| *fate = Fate::NotTried);
@@ -1025,9 +1234,8 @@ fn run_all(root: &Path, asked: &Asked) -> Result<bool, String> {
         if mutants.is_empty() {
             continue;
         }
-        let fates = vec![Fate::NotTried; mutants.len()];
         let end = asked.sample.map(|(_, seconds)| start + Duration::from_secs(seconds));
-        let mut run = Run { root, subject, mutants, fates, end, part: 0..0 };
+        let mut run = Run::new(root, subject, mutants, &listed, end);
         run.all()?;
         tried += run.fates.iter().filter(|fate| matches!(fate, Fate::Seen(_) | Fate::Survived)).count();
         is_well &= told(&run, &listed, &mut met);

@@ -155,7 +155,8 @@ fn a_change_of_a_macro_may_be_refused_where_it_is_called() {
         name: "small",
         folder: "rust",
         root_file: "rust/small.rs",
-        builds: &[Build { name: "tests", arguments: &[] }],
+        builds: &[Build { name: "tests", arguments: &[], programs: &[] }],
+        with_constants: &[],
         is_crate: false,
     };
     let text = "macro_rules! more {\n    ($of:expr) => {\n        Some(u8::saturating_add($of?, 1))\n    };\n}\n\n\
@@ -166,8 +167,7 @@ fn a_change_of_a_macro_may_be_refused_where_it_is_called() {
     fs::write(root.join("rust/small.rs"), text).expect("a file");
     let whole = Chosen { is_whole: true, ..Chosen::default() };
     let mutants = mutants_of(&root, "rust/small.rs", &whole).expect("changes");
-    let fates = vec![Fate::NotTried; mutants.len()];
-    let mut run = Run { root: &root, subject: &SMALL, mutants, fates, end: None, part: 0..0 };
+    let mut run = Run::new(&root, &SMALL, mutants, &BTreeMap::new(), None);
     run.all().expect("it runs");
     fs::remove_dir_all(&root).expect("a folder");
     let shown: Vec<String> = (0..run.fates.len())
@@ -186,4 +186,137 @@ fn a_change_of_a_macro_may_be_refused_where_it_is_called() {
         "`more!(given.last().copied())`: SURVIVED".to_string(),
     ];
     assert_eq!(shown, wanted);
+}
+
+/// A crate with changes of each way to be tried, and a list of which some lines are stale.
+#[test]
+fn what_the_list_has_runs_together_and_a_stale_line_is_told() {
+    static CRATE: Subject = Subject {
+        name: "little",
+        folder: "little",
+        root_file: "little/src/lib.rs",
+        builds: &[
+            Build { name: "first tests", arguments: &[], programs: &["--lib"] },
+            Build { name: "debug", arguments: &[], programs: &[] },
+        ],
+        with_constants: &["--test=constants"],
+        is_crate: true,
+    };
+    let library = "//! Little.\n\npub const LEAST: u8 = 3;\npub const MOST: u8 = 7;\n\n\
+                   pub const fn twice(number: u8) -> u8 {\n    number + 0\n}\n\n\
+                   pub fn more(number: u8) -> u8 {\n    number.saturating_add(1)\n}\n\n\
+                   #[test]\nfn it_is_more() {\n    assert_eq!(more(4), 5);\n}\n";
+    let constants = "const FOUR: u8 = little::twice(4);\n\n#[test]\nfn it_is_made() {\n    assert_eq!(FOUR, 4);\n}\n\n\
+                     #[test]\nfn the_least_is_three() {\n    assert_eq!(little::LEAST, 3);\n}\n";
+    let root = std::env::temp_dir().join(format!("mutants-crate-{}", std::process::id()));
+    let files = [
+        ("Cargo.toml", "[package]\nname = \"little\"\nedition = \"2024\"\n\n[workspace]\n"),
+        ("src/lib.rs", library),
+        ("tests/constants.rs", constants),
+    ];
+    for (file, text) in files {
+        let path = root.join("little").join(file);
+        fs::create_dir_all(path.parent().expect("a folder")).expect("a folder");
+        fs::write(path, text).expect("a file");
+    }
+    let whole = Chosen { is_whole: true, ..Chosen::default() };
+    let mutants = mutants_of(&root, CRATE.root_file, &whole).expect("changes");
+    let listed = mutants.iter().map(|mutant| (mutant.name(), String::new()));
+    // What adds two is not in the list, nor is one of the other constant.
+    let listed = listed.filter(|(name, _)| !name.contains("saturating_add(2)") && !name.contains("u8 = 6"));
+    let listed: BTreeMap<String, String> = listed.collect();
+    let mut run = Run::new(&root, &CRATE, mutants, &listed, None);
+    assert_eq!(run.rounds(&[0, 1, 2, 3]), [[0, 2], [1, 3]]);
+    run.all().expect("it runs");
+    fs::remove_dir_all(&root).expect("a folder");
+    let shown: Vec<String> = (0..run.fates.len())
+        .map(|at| format!("{}: {}", run.mutants[at].change.split(" for ").next().unwrap_or_default(), run.shown(at)))
+        .collect();
+    let in_constant = "seen by debug, in a constant: it_is_made";
+    let wanted = [
+        ("pub const LEAST: u8 = 4;", "seen by debug: the_least_is_three"),
+        ("pub const LEAST: u8 = 2;", "seen by debug: the_least_is_three"),
+        ("pub const MOST: u8 = 8;", "SURVIVED"),
+        ("pub const MOST: u8 = 6;", "SURVIVED"),
+        ("Default::default()", "does not compile"),
+        ("1", in_constant),
+        ("number - 0", "SURVIVED"),
+        ("number + 1", in_constant),
+        ("Default::default()", "seen by debug: src/lib::it_is_more"),
+        ("1", "seen by debug: src/lib::it_is_more"),
+        ("number.wrapping_add(1)", "SURVIVED"),
+        ("number.saturating_add(2)", "seen by first tests: src/lib::it_is_more"),
+        ("number.saturating_add(0)", "seen by debug: src/lib::it_is_more"),
+    ];
+    assert_eq!(shown, wanted.map(|(change, fate)| format!("`{change}`: {fate}")));
+}
+
+/// The names of functions that a text defines as `const`.
+fn constant_functions(text: &str) -> Vec<String> {
+    let all = tokens(text, Language::Rust).expect("tokens");
+    let heads = all.windows(4).filter(|it| it[0].is("const") && (it[1].is("fn") || it[2].is("fn")));
+    heads.map(|it| it[if it[1].is("fn") { 2 } else { 3 }].text.clone()).collect()
+}
+
+/// What is behind an item or a block that begins at a token: its `;`, or the bracket that closes the block.
+fn end_of_constant(all: &[compare::Token], from: usize) -> usize {
+    let mut depth = 0;
+    let is_end = |at: &usize| {
+        match all[*at].text.as_str() {
+            "(" | "[" | "{" => depth += 1,
+            ")" | "]" | "}" => depth -= 1,
+            _ => {}
+        }
+        depth == 0 && (all[*at].is(";") || all[*at].is("}"))
+    };
+    (from..all.len()).find(is_end).expect("it ends")
+}
+
+/// Whether a text has an item or a block that is `const` or `static`, in which one of some functions is called.
+fn has_constant(text: &str, calls: &BTreeSet<String>) -> bool {
+    let all = tokens(text, Language::Rust).expect("tokens");
+    let of_std = ["BTreeSet", "Cell", "Mutex", "Once", "RefCell"];
+    let is_call = |at: usize| {
+        let is_called = ["(", "!", "::"].iter().any(|sign| all[at + 1].is(sign));
+        is_called && calls.contains(&all[at].text) && !of_std.iter().any(|name| all[at - 2].is(name))
+    };
+    (0..all.len().saturating_sub(2)).any(|at| {
+        // (`const N: usize` is a parameter)
+        let name = all[at + 1].text.as_str();
+        let is_named = all[at + 2].is(":") && name.len() > 1 && name == name.to_uppercase();
+        let is_constant = (all[at].is("const") || all[at].is("static")) && (name == "{" || is_named);
+        is_constant && (at + 1..end_of_constant(&all, at + 1)).any(is_call)
+    })
+}
+
+#[test]
+fn each_test_with_a_constant_of_the_crate_is_named() {
+    let root = std::env::current_dir().expect("a folder");
+    let root = root.ancestors().find(|it| it.join("rust/equivalent.txt").is_file()).expect("the repository");
+    let of_crate = texts_below(&root.join("rust/arraystring/src"));
+    let mut calls: BTreeSet<String> = of_crate.iter().flat_map(|text| constant_functions(text)).collect();
+    calls.extend(["arraystring".to_string(), "split_at_unchecked".to_string()]);
+    let mut found = BTreeSet::new();
+    for entry in fs::read_dir(root.join("rust/arraystring/tests")).expect("a folder") {
+        let path = entry.expect("an entry").path();
+        let texts = if path.is_dir() { texts_below(&path) } else { vec![read(&path).expect("a file")] };
+        if texts.iter().any(|text| has_constant(text, &calls)) {
+            found.insert(path.file_stem().expect("a name").to_string_lossy().to_string());
+        }
+    }
+    assert_eq!(found, WITH_CONSTANTS.iter().map(|it| it.trim_start_matches("--test=").to_string()).collect());
+}
+
+/// The texts of all files below a folder.
+fn texts_below(folder: &Path) -> Vec<String> {
+    let mut texts = Vec::new();
+    for entry in fs::read_dir(folder).expect("a folder") {
+        let path = entry.expect("an entry").path();
+        if path.is_dir() {
+            texts.extend(texts_below(&path));
+        } else {
+            texts.push(read(&path).expect("a file"));
+        }
+    }
+    texts
 }

@@ -337,3 +337,15 @@ fn what_is_written_or_moved_lies_in_the_array() {
     at_each_capacity!(encoded);
     at_each_capacity!(shifted);
 }
+
+/// A release without `checked` has none of the lines that test, and so not their words either.
+#[test]
+fn the_words_of_what_is_tested_stand_in_the_program_where_it_is_tested() {
+    let program = std::fs::read(std::env::current_exe().expect("a path")).expect("a program");
+    // (backwards, so that the words of this test are no others)
+    for backwards in ["yradnuob_si.fles` taht deriuqer si ti", "N =< morf` taht deriuqer si ti"] {
+        let words: Vec<u8> = backwards.bytes().rev().collect();
+        let is_there = program.windows(words.len()).any(|part| part == words);
+        assert_eq!(is_there, IS_TESTED, "{backwards}");
+    }
+}

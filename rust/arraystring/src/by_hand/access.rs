@@ -186,7 +186,7 @@ mod tests {
     /// What is not within panics, where that is tested.
     #[test]
     fn what_is_not_within_panics_where_it_is_tested() {
-        if !super::IS_TESTED {
+        if !crate::access::IS_TESTED {
             return;
         }
         let panics = |edit: fn(&mut [u8], usize), past: usize| {

@@ -37,9 +37,13 @@ fn moves_are_counted_to_the_end() {
 fn looks_are_counted_to_the_end() {
     for below in BELOW {
         let mut steps = Steps { looked: u64::MAX - below, moved: 7 };
+        let mut of_bodies = steps;
         for looks in 1..=300 {
             assert_eq!(look(b"abc", 1, &mut steps), b'b');
             assert_eq!((u64::MAX - steps.looked(), steps.moved()), (below.saturating_sub(looks), 7));
+            // SAFETY: it is within.
+            assert_eq!(unsafe { look_unchecked(b"abc", 1, &mut of_bodies) }, b'b');
+            assert_eq!(of_bodies, steps);
         }
     }
 }

@@ -23,12 +23,15 @@ macro_rules! is_copied {
         assert!(matches!(lent, Cow::Borrowed(lent) if lent == text && lent.as_ptr() == string.as_str().as_ptr()));
         #[cfg(feature = "std")]
         assert_eq!((AsRef::<OsStr>::as_ref(&string), AsRef::<Path>::as_ref(&string)), (text.as_ref(), text.as_ref()));
-        let joined = text.repeat(3);
-        assert_eq!([string; 3].into_iter().collect::<String>(), joined);
-        assert_eq!(&*[string; 3].into_iter().collect::<Box<str>>(), joined);
-        assert_eq!([string; 3].into_iter().collect::<Cow<str>>(), joined);
+        // (another one in front, so that their order shows)
+        let (mut less, mut shorter) = (string, text.to_string());
+        assert_eq!(less.pop(), shorter.pop());
+        let (strings, joined) = ([less, string, string], [&*shorter, text, text].concat());
+        assert_eq!(strings.into_iter().collect::<String>(), joined);
+        assert_eq!(&*strings.into_iter().collect::<Box<str>>(), joined);
+        assert_eq!(strings.into_iter().collect::<Cow<str>>(), joined);
         let mut extended = String::from("~");
-        extended.extend([string; 3]);
+        extended.extend(strings);
         assert_eq!(extended, format!("~{joined}"));
     }};
 }

@@ -18,24 +18,28 @@ macro_rules! at_each_size {
 }
 
 /// How many bytes the arrays of these tests have.
-const SIZE: usize = 80;
+const SIZE: usize = 96;
 
-/// Bytes of which no two within 80 are alike.
+/// Bytes of which no two are alike.
 fn bytes() -> [u8; SIZE] {
     std::array::from_fn(|at| 200 - at as u8)
 }
 
+/// Bytes that begin where a word of 16 bytes may: what starts at one of the first 16 lies beside one in each way.
+#[repr(align(16))]
+struct Aligned([u8; SIZE]);
+
 #[test]
 fn the_first_bytes_are_read_and_written() {
     fn at<const K: usize>() {
-        let source = bytes();
-        for start in 0..=8 {
-            for end in start + K..=start + K + 8 {
-                let mut written = [1; SIZE];
+        let Aligned(source) = &Aligned(bytes());
+        for start in 0..16 {
+            for end in start + K..=start + K + 16 {
+                let Aligned(written) = &mut Aligned([1; SIZE]);
                 Simd::<u8, K>::from_slice(&source[start..end]).copy_to_slice(&mut written[start..end]);
                 let mut wanted = [1; SIZE];
                 wanted[start..start + K].copy_from_slice(&source[start..start + K]);
-                assert_eq!(written, wanted, "{K} {start} {end}");
+                assert_eq!(*written, wanted, "{K} {start} {end}");
             }
         }
     }
