@@ -456,6 +456,8 @@ pub struct Item {
     /// By this a made item finds its source: the modules in its file and the head of its impl, by their tokens; what it is, and
     /// its name. No two of a file have the same.
     pub key: String,
+    /// How much of the key is what is around it.
+    pub around: usize,
     /// By this a list names it. It is shorter: functions of two impls of a type may have the same.
     pub path: String,
     /// Without their `#[` and `]`, and without blanks. The visibility of a `use` is one, too.
@@ -602,7 +604,7 @@ impl Items<'_> {
                 _ => return fault(self.line(), "`#` that begins no attribute"),
             };
             let words: String = inner.iter().map(|token| token.text.as_str()).collect();
-            let is_tactic = self.origin.language == Language::Rattle && words.starts_with("tactic(");
+            let is_tactic = self.origin.language == Language::Rattle && inner.starts_with(&pattern("tactic("));
             if is_tactic && !inner.iter().all(is_of_tactic) {
                 return fault(self.line(), "a tactic that is more than paths: its end would not be clear");
             }
@@ -626,6 +628,7 @@ impl Items<'_> {
         let Some((first, last)) = tokens.first().zip(tokens.last()) else { return };
         self.found.push(Item {
             key: format!("{}{key}", around.key),
+            around: around.key.len(),
             path: joined(&around.path, name),
             attributes,
             head: tokens.to_vec(),

@@ -357,6 +357,7 @@ fn an_attribute_takes_nothing_of_its_line_along() {
     }
     differs("#[inline] #[cfg(test)] fn f() {}\n", "#[inline]\nfn f() {}\n", "[] for [\"cfg(test)\"]");
     differs("#[tactic::more]\nfn f() {}\n", "fn f() {}\n", "[] for [\"tactic::more\"]");
+    differs("#[tac tic(auto)]\nfn f() {}\n", "fn f() {}\n", "[] for [\"tactic(auto)\"]");
     differs("fn f() {}\n", "#[cold]\nfn f() {}\n", "[\"cold\"] for []");
     differs("#[derive(Clone)]\nstruct A;\n", "#[derive(Clone, Copy)]\nstruct A;\n", "derive(Clone,Copy)");
     differs("#[a]\n#[b]\nstruct A;\n", "#[b]\n#[a]\nstruct A;\n", "[\"b\", \"a\"] for [\"a\", \"b\"]");

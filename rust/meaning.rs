@@ -49,7 +49,7 @@ impl Part {
 
     /// What it is and its name, without what is around it.
     fn last(&self) -> &str {
-        self.item.key.rsplit_once(" / ").map_or(&self.item.key, |(_, last)| last)
+        &self.item.key[self.item.around..]
     }
 
     /// What it is and its name, of what has a name of one word.
@@ -68,7 +68,7 @@ impl Part {
 
     /// The tokens of the impl around it, and of the modules in its file.
     fn around(&self) -> Vec<Token> {
-        with_single_closings(pattern(self.item.key.rsplit_once(" / ").map_or("", |(around, _)| around)))
+        with_single_closings(pattern(self.item.key[..self.item.around].trim_end_matches(" / ")))
     }
 }
 
@@ -103,8 +103,8 @@ impl Access {
         Ok(Access { macros, untested, methods })
     }
 
-    fn has(&self, name: &Token) -> bool {
-        self.macros.contains(&name.text) || self.methods.contains(&name.text)
+    fn has(&self, name: &str) -> bool {
+        self.macros.contains(name) || self.methods.contains(name)
     }
 
     /// The name of the macro without a test that begins at an index.
@@ -389,7 +389,7 @@ fn takes_code(part: &Part, check: &mut Check) -> bool {
     let (around, head) = (part.around(), &part.item.head);
     let mut parameters = generics_of(head).into_iter().chain(generics_of(&around));
     let has_type = parameters.any(|parameter| !is_asked_once(parameter, &part.item, check));
-    let is_word = |token: &Token| ["impl", "dyn", "Formatter"].iter().any(|word| token.is(word));
+    let is_word = |token: &Token| ["impl", "dyn", "where", "Formatter"].iter().any(|word| token.is(word));
     has_type || position(head, &pattern("fn(")).is_some() || head.iter().any(is_word)
 }
 
@@ -888,17 +888,25 @@ const LISTS: Lists =
 
 // ---- Names ----
 
-/// How an impl of a trait begins that says what an index or a point means.
-const TRAITS_OF_PLACES: &[&str] = &["Index<", "IndexMut<", "Deref for", "DerefMut for"];
+/// The traits that say what an index or a point means.
+const TRAITS_OF_PLACES: &[&str] = &["Index", "IndexMut", "Deref", "DerefMut"];
+
+/// Whether an item is an impl of such a trait.
+fn is_of_places(item: &Item) -> bool {
+    let is_it = |(name, next): (&Token, &Token)| {
+        TRAITS_OF_PLACES.iter().any(|of_place| name.is(of_place)) && (next.is("<") || next.is("for"))
+    };
+    !item.is_function && item.head.iter().any(|token| token.is("impl")) && neighbours(&item.head).any(is_it)
+}
 
 impl Check {
     /// No name of the sources stands for what an access macro is called or calls.
     fn names(&mut self, program: &Program, files: &Files) {
         for part in program.sources.iter().chain(&program.made) {
-            let words = pattern(part.last());
-            if words.last().filter(|name| program.access.has(name)).is_some() {
+            let name = part.last().rsplit([' ', ':']).next();
+            if name.is_some_and(|name| program.access.has(name)) {
                 self.refused.push(part.refused(part.item.line, TAKEN_NAME));
-            } else if TRAITS_OF_PLACES.iter().any(|head| position(&words, &pattern(head)).is_some()) {
+            } else if is_of_places(&part.item) {
                 self.refused.push(part.refused(part.item.line, OWN_PLACES));
             }
         }
@@ -907,7 +915,7 @@ impl Check {
         for (path, text) in files.iter().filter(|(path, _)| is_by_hand(path)) {
             let tokens = tokens(text, Language::Rust).unwrap_or_default();
             let names = ["fn", "macro_rules!"].into_iter().flat_map(|word| named_behind(&tokens, word));
-            for (name, _) in names.filter(|(name, _)| program.access.has(name)) {
+            for (name, _) in names.filter(|(name, _)| program.access.has(&name.text)) {
                 self.refused.push(format!("{path}:{}: {TAKEN_NAME}", name.line));
             }
         }
@@ -941,8 +949,9 @@ fn bound_names(part: &Part) -> BTreeSet<String> {
     }
     for pattern in body.iter().enumerate().map(|(at, _)| pattern_at(body, at)) {
         let is_bound = |token: &Token| token.text.starts_with(|ch: char| ch.is_ascii_lowercase()) && !is_keyword(token);
-        let is_head = |at: usize| pattern.get(at + 1).is_some_and(|next| next.is("::"));
-        let bound = pattern.iter().enumerate().filter(|(at, token)| is_bound(token) && !is_head(*at));
+        // (what begins a path is none, and neither is a field that stands before its pattern)
+        let is_other = |at: usize| pattern.get(at + 1).is_some_and(|next| next.is("::") || next.is(":"));
+        let bound = pattern.iter().enumerate().filter(|(at, token)| is_bound(token) && !is_other(*at));
         names.extend(bound.map(|(_, token)| token.text.clone()));
     }
     names

@@ -128,6 +128,7 @@ fn each_bound_is_a_callers_code() {
 fn a_bound_in_another_form_is_a_callers_code() {
     for (head, word) in [
         ("pub fn f<T>(a: T) -> u8 where T: Ord ", "`where`"),
+        ("pub fn f(a: u8) -> u8 where u8: Ord ", "`where`"),
         ("pub fn f(a: &dyn Fn(char)) -> u8 ", "`dyn`"),
         ("pub fn f<T: Borrow<str>>(a: T) -> u8 ", "`Borrow`"),
         ("pub fn f<T: AsRef<u8>>(a: T) -> u8 ", "`AsRef`"),
@@ -577,11 +578,24 @@ fn a_macro_a_trait_or_a_static_of_the_sources_is_refused() {
 
 #[test]
 fn an_index_of_the_sources_is_refused() {
-    for name in ["Index<usize>", "IndexMut<usize>", "Deref", "DerefMut", "core::ops::Index<usize>"] {
-        let own = format!("pub struct A(u8);\nimpl {name} for A {{}}\n");
-        let found = refused(&pair(&own, &own), &RULES);
-        let why = "makes an index, or a method behind a point, mean this in an access";
-        assert!(found[0].starts_with(&format!("{SOURCE}:2: ")) && found[0].contains(why), "{found:#?}");
+    for name in [
+        "Index",
+        "Index<usize>",
+        "IndexMut",
+        "IndexMut<usize>",
+        "Deref",
+        "Deref<u8>",
+        "DerefMut",
+        "DerefMut<u8>",
+        "core::ops::Index<usize>",
+    ] {
+        for attribute in ["", "#[doc = \"a / b\"] "] {
+            let own = format!("pub struct A(u8);\n{attribute}impl {name} for A {{}}\n");
+            let found = refused(&pair(&own, &own), &RULES);
+            let why = "makes an index, or a method behind a point, mean this in an access";
+            let is_it = |told: &String| told.starts_with(&format!("{SOURCE}:2: ")) && told.contains(why);
+            assert!(found.iter().any(is_it), "{found:#?}");
+        }
     }
 }
 
@@ -1349,6 +1363,8 @@ fn the_names_that_an_item_binds_are_known() {
         ("fn f() {}", ""),
         ("fn f<T: A, const N: usize>(a: T, b: u8) {}", "N T a b"),
         ("fn f() { let (a, mut b) = c; }", "a b"),
+        ("fn f() { let A { b: c, d } = e; }", "c d"),
+        ("fn f() { match a { A { b: c, d } => e } }", "c d"),
         ("fn f() { for a in b {} }", "a"),
         ("fn f() { g(|a, b| c); }", "a b"),
         ("fn f() { match a { B(c) if d => e, f => g, h::I => j } }", "c f"),
@@ -1359,6 +1375,20 @@ fn the_names_that_an_item_binds_are_known() {
     }
     let of_impl = part_of("impl<T: A, const N: usize> B<T> { fn f(c: T) {} }", "fn f");
     assert_eq!(bound_names(&of_impl).into_iter().collect::<Vec<_>>().join(" "), "N T c");
+}
+
+#[test]
+fn an_attribute_is_read_whatever_text_it_has() {
+    for text in ["a / b", "impl Deref for A", "/ impl Deref for A"] {
+        let own = format!("#![doc = \"{text}\"]\nfn f() {{}}\n");
+        let words: Vec<_> = refused(&pair(&own, &own), &RULES);
+        let wanted = ["#", "doc"]
+            .map(|word| format!("{SOURCE}:1: `arraystring_base::a::attribute #![doc=\"{text}\"]` has `{word}`, which"));
+        assert!(
+            words.len() == 2 && words.iter().zip(&wanted).all(|(told, wanted)| told.starts_with(wanted)),
+            "{words:#?}"
+        );
+    }
 }
 
 #[test]
