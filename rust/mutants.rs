@@ -1024,6 +1024,14 @@ impl<'a> Run<'a> {
         Ok(all.seen_by("").map_or(Fate::Survived, Fate::Seen))
     }
 
+    /// What is asked of a change with a build of its own: each quick program in each build, since most changes are seen there, then all.
+    fn asked_apart(&self) -> Vec<(&'static Build, Vec<&'static str>)> {
+        let builds = self.subject.builds;
+        let of_each = |program: &'static &'static str| builds.iter().map(move |build| (build, vec![*program]));
+        let all = builds.iter().filter(|build| build.programs.is_empty()).map(|build| (build, Vec::new()));
+        builds[0].programs.iter().flat_map(of_each).chain(all).collect()
+    }
+
     /// The fate of what the files of the tree have.
     fn fate_apart(&self, tree: &Tree) -> Result<Fate, String> {
         if !self.subject.is_crate {
@@ -1033,14 +1041,9 @@ impl<'a> Run<'a> {
         if !tree.build(self.subject, &whole.words(&["check", "--lib"], &[]))?.0 {
             return Ok(Fate::NotCompiled);
         }
-        for build in self.subject.builds {
-            // (program by program, since most changes are seen before a long one is built)
-            let parts: Vec<&[&str]> =
-                if build.programs.is_empty() { vec![&[]] } else { build.programs.chunks(1).collect() };
-            for programs in parts {
-                if let Some(by) = tree.seen_by_tests(self.subject, &build.words(&["test"], programs), ("MUTANT", ""))? {
-                    return Ok(Fate::Seen(format!("{}: {by}", build.name)));
-                }
+        for (build, programs) in self.asked_apart() {
+            if let Some(by) = tree.seen_by_tests(self.subject, &build.words(&["test"], &programs), ("MUTANT", ""))? {
+                return Ok(Fate::Seen(format!("{}: {by}", build.name)));
             }
         }
         Ok(Fate::Survived)

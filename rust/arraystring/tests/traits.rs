@@ -435,6 +435,53 @@ fn each_impl_has_a_kind() {
     }
 }
 
+/// Whether a type has a trait. rustc takes the constant of the impl if its bound holds, and otherwise that of the trait.
+macro_rules! has {
+    ($type:ty: $($bound:tt)+) => {{
+        #[allow(dead_code)]
+        struct Asked<T: ?Sized>(std::marker::PhantomData<T>);
+        #[allow(dead_code)]
+        trait Otherwise {
+            const ANSWER: bool = false;
+        }
+        impl<T: ?Sized> Otherwise for Asked<T> {}
+        #[allow(dead_code)]
+        impl<T: ?Sized + $($bound)+> Asked<T> {
+            const ANSWER: bool = true;
+        }
+        Asked::<$type>::ANSWER
+    }};
+}
+
+/// A program without an allocator can't link what `alloc` brings.
+#[test]
+fn a_feature_brings_its_impls_and_no_other_build_has_them() {
+    assert_eq!([has!(Name: AsRef<str>), has!(Name: AsRef<String>)], [true, false]);
+    let copied = [
+        has!(String: From<Name>),
+        has!(Box<str>: From<CacheString>),
+        has!(Cow<'static, str>: From<Name>),
+        has!(Cow<'static, str>: From<&'static CacheString>),
+        has!(Vec<u8>: From<Name>),
+        has!(String: FromIterator<CacheString>),
+        has!(Box<str>: FromIterator<Name>),
+        has!(Cow<'static, str>: FromIterator<CacheString>),
+        has!(String: Extend<Name>),
+    ];
+    let owned = [
+        has!(Name: PartialEq<String>),
+        has!(String: PartialEq<CacheString>),
+        has!(CacheString: PartialEq<Cow<'static, str>>),
+        has!(Cow<'static, str>: PartialEq<Name>),
+        has!(Name: FromIterator<String>),
+        has!(CacheString: FromIterator<Box<str>>),
+        has!(Name: Extend<Cow<'static, str>>),
+    ];
+    let paths = [has!(Name: AsRef<std::path::Path>), has!(CacheString: AsRef<std::ffi::OsStr>)];
+    assert_eq!((copied, owned), ([cfg!(feature = "alloc"); 9], [cfg!(feature = "alloc"); 7]));
+    assert_eq!(paths, [cfg!(feature = "std"); 2]);
+}
+
 #[cfg(feature = "alloc")]
 mod owned {
     use arraystring::{ArrayString, CacheString};
