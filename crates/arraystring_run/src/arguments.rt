@@ -6,9 +6,9 @@ ghost use Rattle.arraystring_run.specs.Arguments.{IsOnlyWord};
 use arraystring::MaxString;
 use std::env::{Env, FillError};
 
-/// The arguments of a program. This trait names what they return (`gives`), so that a contract can
-/// speak of it. The contracts of the kit's `Env` do not say what its calls return. So for an `Env` it is
-/// only tested that its arguments are read.
+/// The arguments of a program. The ghost `gives` says what `argument` may return, so that a contract can
+/// speak of it. The contracts of the kit's `Env` do not say what its calls return. So only tests show that
+/// the arguments of an `Env` are read.
 pub trait Arguments {
     /// What `argument` may return for an index, and what may then be in the buffer.
     ghost gives: { Self → ℕ → Result ℕ Fault → List ℕ → Type 0 };
@@ -31,11 +31,11 @@ impl<E: Env> Arguments for E {
 }
 
 /// Returns the only argument of the program. Returns `None` if there is no argument, if there are two
-/// or more, if it is not UTF-8, or if it takes more than 255 bytes. The call allocates nothing, so it has
-/// room for 255 bytes. No name of a capacity is longer.
+/// or more, if it is not UTF-8, or if it takes more than 255 bytes. The call reads it into a buffer of 255
+/// bytes, and allocates nothing. No name of a capacity is longer.
 ///
 /// The contract speaks of what `arguments` returns (`gives`). No contract says what an `Env` returns. So
-/// for a program it is only tested that the word is its argument.
+/// only tests show that the word is the argument of the program.
 pub fn given_word<A: Arguments>(arguments: &A) -> Option<MaxString>
     ensures { (count : Result ℕ Fault) × (first : List ℕ) × (second : Result ℕ Fault) × (rest : List ℕ)
         × A.gives arguments.now 1 count first × A.gives arguments.now 2 second rest

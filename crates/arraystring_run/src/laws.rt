@@ -6,7 +6,7 @@ ghost use Rattle.arraystring_run.specs.Line.{arguments, line_of, AreArguments, I
 ghost use Rattle.arraystring_run.specs.ScriptLines.{lines, with_newline, joined_lines, IsOneLine, AreOneLine, AreLinesOf, IsBadAt};
 ghost use Rattle.arraystring_run.specs.declared.commands.Command.{Command};
 
-/// A command is tight if it is refused because its result does not fit, or if it adds only a part of
+/// A command is tight if it is refused because its result does not fit, or if it adds less than all of
 /// what it is given. If `first_tight` of a run is a position, then the command there is tight on the
 /// text that the commands before it leave, and no command before it is tight. If `first_tight` is
 /// `None`, no command of the run is tight.
@@ -15,8 +15,8 @@ pub fn first_tight_position()
         → MatchOption (first_tight_from 0 cs t n) (NoneTight cs t n) (IsFirstTight cs t n) }
 {}
 
-/// If an input is made of lines that are each followed by a line feed, it has exactly these lines. If the
-/// last line is not empty, its line feed may be missing. Each input has one of these two forms.
+/// If an input is made of lines that are each followed by a line feed, it has exactly these lines. The lines
+/// are the same if a last line that is not empty lacks its line feed. Each input has one of these two forms.
 pub fn lines_of_input()
     ensures all_ended { (all : List (List ℕ)) → AreOneLine all → lines (joined_lines all) ≡ all }
     ensures last_open { (all : List (List ℕ)) (last : List ℕ) → AreOneLine all → IsOneLine last → 0 < length last
