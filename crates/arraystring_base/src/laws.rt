@@ -63,9 +63,9 @@ pub fn borrowed_text(given: &str)
     ensures bytes { bytes (chars given.now) ≡ given.now }
 {}
 
-/// Two texts compare by their bytes as they compare by their characters. The bytes of `a` are less
-/// than those of `b` if and only if `a` comes before `b`. They are equal if and only if `a` and `b`
-/// are the same text.
+/// Two texts `a` and `b` compare by their bytes as they compare by their characters. The bytes of `a`
+/// are less than those of `b` if and only if `a` comes before `b`. They are equal if and only if `a` and
+/// `b` are the same text.
 #[tactic(auto, using(crate::proofs::OrderLaws::order_of_bytes))]
 pub fn order_of_bytes()
     ensures same { (a b : List ℕ) → slice_cmp nat_cmp (bytes a) (bytes b) ≡ slice_cmp nat_cmp a b }

@@ -166,7 +166,7 @@ fn char_before_end(text: &str, steps: &mut Steps) -> (usize, char)
 ///
 /// # Precondition
 ///
-/// `at` plus that number must be at most `N`.
+/// `at` plus the number of bytes of the UTF-8 of `ch` must be at most `N`.
 #[inline(always)]
 #[tactic(auto, unfolding(crate::specs::Text::width, crate::specs::Text::utf8))]
 pub fn encode<const N: usize>(ch: char, array: &mut [u8; N], at: usize) -> usize

@@ -238,8 +238,8 @@ impl<const N: usize> ArrayString<N> {
 
     /// Most programs need `trim`, and none of the counted calls. Trims as `trim` does, and counts in
     /// `steps` its looks at the end of the text. It looks at each character that it removes there, and
-    /// at the last one that it keeps. Each of these characters costs one to four looks. Looks at the
-    /// start of the text are not counted. It moves no byte.
+    /// at the character before them, if there is one. Each of these characters costs one to four looks.
+    /// Looks at the start of the text are not counted. It moves no byte.
     ///
     /// # Precondition
     ///

@@ -34,7 +34,7 @@ impl<const N: usize> ArrayString<N> {
     ///
     /// # Precondition
     ///
-    /// The pieces that the iterator returns must fit, joined. The iterator must end, and until then
+    /// All pieces that the iterator returns must fit together. The iterator must end, and until then
     /// the precondition of its `next` must hold.
     pub fn from_iterator_unchecked<'a, I: IntoIterator<Item = &'a str> + Drop>(pieces: I) -> Self
         requires ends { IsFiniteIterable I.into_iter_gives I.IntoIter.can_next I.IntoIter.remaining pieces }
