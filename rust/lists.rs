@@ -430,7 +430,7 @@ pub const PLACES: &[Place] = &[
             pub struct Units<'a> {
                 rest: &'a [u16],
             }",
-        why: "an iterator is cloned and printed in Rust, as each of std's is",
+        why: "it also implements `Clone` and `Debug`, as the iterators of std do",
     },
     Place {
         path: "arraystring_base::utils::is_inside_boundary",
@@ -796,12 +796,13 @@ pub const ADDED: &[Added] = &[
 
 /// The files by hand, and what is in each. Each other one is made of the source of its path.
 pub const BY_HAND: &[(&str, &str)] = &[
-    ("by_hand.rs", "the module of the files below, and this page"),
+    ("by_hand.rs", "it has the files below as its modules, and this page as its module `trust`"),
     (
         "by_hand/traits.rs",
-        "`Deref`, `AsRef`, `Borrow`, `FromIterator`, `Extend`, `Index` and some `From`. Each is one call of the string. `DerefMut` of \
-         `CacheString` lends the string inside. `==` with a `str` on the left, `PartialOrd` with one on the right, and `AddAssign`. \
-         Each is one call of the texts. `Debug`, `Default`, `PartialEq` and `Eq` of `Steps`, and `Hash` of the errors of one case",
+        "these are each one call of the string: `Deref`, `AsRef`, `Borrow`, `FromIterator`, `Extend`, `Index`, `AddAssign` and some \
+         `From`. `DerefMut` of `CacheString` lends the string inside. Comparisons with a `str`, on either side, are each one \
+         comparison of the texts. The file also has `Debug`, `Default`, `PartialEq` and `Eq` of `Steps`, and `Hash` of the errors of \
+         one case",
     ),
     (
         "by_hand/loan.rs",
@@ -810,8 +811,8 @@ pub const BY_HAND: &[(&str, &str)] = &[
     ),
     (
         "by_hand/constructors.rs",
-        "`const_try_from_str`, in which a fault could break UTF-8. `try_from_format`, over `try_write`, and `From<char>`. Each of the \
-         two is one call of the string",
+        "`const_try_from_str`, in which a fault could break UTF-8. The file also has `try_from_format`, over `try_write`, and \
+         `From<char>`. Each of these two is one call of the string",
     ),
     (
         "by_hand/owned.rs",

@@ -173,7 +173,7 @@ impl CacheString {
         CacheString(ArrayString::from_iterator_unchecked(pieces))
     }
 
-    /// Creates a string from all characters.
+    /// Creates a string from all characters that the iterator returns.
     ///
     /// # Errors
     ///
@@ -224,7 +224,7 @@ impl CacheString {
         CacheString(ArrayString::from_chars(characters))
     }
 
-    /// Creates a string from all characters.
+    /// Creates a string from all characters that the iterator returns.
     ///
     /// # Precondition
     ///

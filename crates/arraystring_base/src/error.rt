@@ -46,7 +46,7 @@ impl Error {
     }
 }
 
-/// Prints `Error::` and the name.
+/// Prints the case with its type, such as `Error::Utf8`.
 ///
 /// # Examples
 ///
@@ -157,7 +157,7 @@ impl From<Utf8Error> for Error {
     }
 }
 
-/// Writes the name to the hasher, as `str` does.
+/// Hashes as the `&str` of the case's name does.
 ///
 /// # Examples
 ///
@@ -190,7 +190,7 @@ impl Hash for Error {
 #[derive(Clone, Copy, Default, PartialEq, Eq)]
 pub struct Utf8;
 
-/// Prints the name alone.
+/// Prints `Utf8`.
 ///
 /// # Examples
 ///
@@ -205,7 +205,7 @@ impl fmt::Debug for Utf8 {
     }
 }
 
-/// Prints the name alone.
+/// Prints `Utf8`. A width in the format does not pad it.
 ///
 /// # Examples
 ///
@@ -255,7 +255,7 @@ impl From<Utf8Error> for Utf8 {
 #[derive(Clone, Copy, Default, PartialEq, Eq)]
 pub struct Utf16;
 
-/// Prints the name alone.
+/// Prints `Utf16`.
 ///
 /// # Examples
 ///
@@ -270,7 +270,7 @@ impl fmt::Debug for Utf16 {
     }
 }
 
-/// Prints the name alone.
+/// Prints `Utf16`. A width in the format does not pad it.
 ///
 /// # Examples
 ///
@@ -307,7 +307,7 @@ impl StdError for Utf16 {}
 #[derive(Clone, Copy, Default, PartialEq, Eq)]
 pub struct OutOfBounds;
 
-/// Prints the name alone.
+/// Prints `OutOfBounds`.
 ///
 /// # Examples
 ///
@@ -322,7 +322,7 @@ impl fmt::Debug for OutOfBounds {
     }
 }
 
-/// Prints the name alone.
+/// Prints `OutOfBounds`. A width in the format does not pad it.
 ///
 /// # Examples
 ///

@@ -102,7 +102,7 @@ fn move_long_run(all: &mut [u8], from: usize, to: usize, len: usize)
     }
 }
 
-/// Moves more than 64 bytes, of at most `N`. More than `N` are not tested for.
+/// Moves `len` bytes: more than 64, and at most `N`. No test is made for sizes above `N`.
 #[inline(always)]
 fn move_long_run_of_array<const N: usize>(all: &mut [u8], from: usize, to: usize, len: usize)
     requires source { from + len ≤ length all.old }
@@ -120,7 +120,7 @@ fn move_long_run_of_array<const N: usize>(all: &mut [u8], from: usize, to: usize
     }
 }
 
-/// Moves fewer than 16 bytes, of at most `N`. More than `N` are not tested for.
+/// Moves `len` bytes: fewer than 16, and at most `N`. No test is made for sizes above `N`.
 #[inline(always)]
 fn move_short_run<const N: usize>(all: &mut [u8], from: usize, to: usize, len: usize)
     requires source { from + len ≤ length all.old }
@@ -142,7 +142,7 @@ fn move_short_run<const N: usize>(all: &mut [u8], from: usize, to: usize, len: u
     }
 }
 
-/// Moves `K` to `2 * K` bytes.
+/// Moves `len` bytes, from `K` to `2 * K` of them: the first `K` and the last `K`, which may overlap.
 #[inline(always)]
 fn move_ends<const K: usize>(all: &mut [u8], from: usize, to: usize, len: usize)
     requires source { from + len ≤ length all.old }
@@ -158,7 +158,7 @@ fn move_ends<const K: usize>(all: &mut [u8], from: usize, to: usize, len: usize)
     put_bytes(all, to + rest, last);
 }
 
-/// Moves `2 * K` to `4 * K` bytes.
+/// Moves `len` bytes, from `2 * K` to `4 * K` of them: two times `K` at each end, which may overlap.
 #[inline(always)]
 fn move_pairs<const K: usize>(all: &mut [u8], from: usize, to: usize, len: usize)
     requires source { from + len ≤ length all.old }
@@ -226,7 +226,7 @@ fn write_long_run(all: &mut [u8], given: &[u8], at: usize)
     write_by_call(all, at, given);
 }
 
-/// Writes fewer than 16 bytes, of at most `N`. More than `N` are not tested for.
+/// Writes `given`: fewer than 16 bytes, and at most `N`. No test is made for sizes above `N`.
 #[inline(always)]
 fn write_short_run<const N: usize>(all: &mut [u8], at: usize, given: &[u8])
     requires room { at + length given.now ≤ length all.old }
@@ -248,7 +248,7 @@ fn write_short_run<const N: usize>(all: &mut [u8], at: usize, given: &[u8])
     }
 }
 
-/// Writes `K` to `2 * K` bytes.
+/// Writes `given`, from `K` to `2 * K` bytes: the first `K` and the last `K`, which may overlap.
 #[inline(always)]
 fn copy_ends<const K: usize>(all: &mut [u8], at: usize, given: &[u8])
     requires room { at + length given.now ≤ length all.old }

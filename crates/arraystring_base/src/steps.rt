@@ -3,9 +3,9 @@ ghost use Rattle.std.specs.Prelude.{◌≡◌, ◌+◌, ◌-◌, ◌^◌, ◌<�
 
 use std::marker::Model;
 
-/// Most programs need no counter. It counts the looks and the moves of calls that end in `_counted`. A look
-/// is one call of `look`. A move is one byte that `shift` takes to another offset. Bytes that a call reads
-/// without `look` are not counted.
+/// Counts the looks and the moves of calls that end in `_counted`. A look is one call of `look`. A move is
+/// one byte that `shift` takes to another offset. Bytes that a call reads without `look` are not counted.
+/// Most programs need no such counter.
 ///
 /// # Examples
 ///
@@ -92,8 +92,8 @@ impl Steps {
     }
 }
 
-/// Most programs need no look, and write `bytes[at]`. Returns the byte at the index `at`, counted
-/// as one look.
+/// Returns the byte of `bytes` at the index `at`, and counts one look in `steps`. Most programs need
+/// no count, and write `bytes[at]`.
 ///
 /// # Precondition
 ///

@@ -25,12 +25,12 @@ mod traits;
 #[derive(Clone, Copy)]
 pub struct Drain<const N: usize> {
     // The numbers lie before the array: so the compiler knows that no read of a byte of it reads them.
-    /// The index in the removed text at which what is left begins. A character begins there, or the
-    /// text ends, so it is at most `size`.
+    /// What is left begins at this index of the removed text. The index is a boundary, so it is at most
+    /// `size`.
     front: u8,
     /// The offset of the removed text. `start + size` is at most the lesser of `N` and 255.
     start: u8,
-    /// The size of the removed text, without what was given from the back.
+    /// The size of the removed text, without what was returned from the back.
     size: u8,
     /// The array of the string, as it was before the removal. The `size` bytes from `start` on are
     /// UTF-8.

@@ -166,8 +166,8 @@ pub fn json_reads_back()
     ensures { (t : List ℕ) (n : ℕ) → IsText t → size t ≤ n → text_within (json_text t) n ≡ Some t }
 {}
 
-/// Make a JSON value of a text. Read back as a whole, it gives that text. What any JSON value gives
-/// within `n` bytes is its whole text cut to `n` bytes. If that fits, it is the whole text.
+/// If a JSON value was made of a text, its whole text is that text. Reading any JSON value within `n`
+/// bytes (`text_within`) cuts its whole text to `n` bytes. A whole text of at most `n` bytes is not cut.
 #[tactic(auto, using(crate::proofs::JsonLaws::whole))]
 pub fn json_reads_whole()
     ensures back { (t : List ℕ) → IsText t → whole_text (json_text t) ≡ Some t }

@@ -19,9 +19,10 @@ pub trait Arguments {
         ensures { gives self.now index result buffer.new };
 }
 
-/// Whatever the environment returns. No clause says that it is asked: an impl that never returns an
-/// argument would prove, too. So tests show it: `program` and `words` of `crates/arraystring_run_tests` ask
-/// environments of their own, and `crates/arraystring_cli/try` gives the built program its arguments.
+/// `argument` returns what the environment returns. No contract says that it asks the environment: an impl
+/// that never returns an argument could be proved, too. So tests show it. `program` and `words` of
+/// `crates/arraystring_run_tests` ask environments of their own, and `crates/arraystring_cli/try` gives
+/// the built program its arguments.
 impl<E: Env> Arguments for E {
     ghost gives = { λ _ _ _ _. ⊤ };
 

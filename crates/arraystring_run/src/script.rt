@@ -37,8 +37,8 @@ pub(crate) fn parse_script(alloc: Global, script: &[u8]) -> Result<Vec<Command<'
     Ok(commands)
 }
 
-/// The command of the line from `start` to `end`. `text` is the script as a text, if all of it is
-/// UTF-8: no line has to be tested for that then.
+/// The command of the line from `start` to `end`. `text` is the whole script as a text, if it is UTF-8. Then
+/// no line is tested for UTF-8. Otherwise each line is.
 #[inline(always)]
 fn command_between<'a>(
     script: &'a [u8],

@@ -232,7 +232,7 @@ fn any_number_of_reads_is_gone_on_with(rt: HostRuntime) {
     }
 }
 
-/// A read fails before each byte and before the end, and no word lets it pass.
+/// For each word, and for each byte of the script and its end, a read before it fails. Each is reported.
 #[test]
 fn failed_reads_are_served(rt: HostRuntime) {
     for word in WORDS {
@@ -254,7 +254,8 @@ fn failed_reads_are_served(rt: HostRuntime) {
     }
 }
 
-/// A write fails before each byte, or the flush after the last.
+/// For each byte of the output, a write before it fails or takes nothing. After the last byte, the flush
+/// fails.
 #[test]
 fn failed_writes_are_served(rt: HostRuntime) {
     let whole = OUTPUT.as_bytes();

@@ -66,7 +66,8 @@ fn no_kind_is_left_out(rt: HostRuntime) {
     agree(&rt, "the last place", ErrorKind::Uncategorized as u8, 41);
 }
 
-/// A read fails with each kind before each byte, the first too, and before the end.
+/// For each byte of the script and for its end, a read before it fails with each kind of error. Only an
+/// interrupted read is tried again.
 #[test]
 fn reads_of_each_kind(rt: HostRuntime) {
     for kind in KINDS {
@@ -113,7 +114,7 @@ fn plays_into(
     (played, buffered.output)
 }
 
-/// A write fails with each kind before each byte; so it does behind a buffer.
+/// For each byte of the output, a write before it fails with each kind of error, with a buffer and without.
 #[test]
 fn writes_of_each_kind(rt: HostRuntime) {
     let whole = OUTPUT.as_bytes();

@@ -360,7 +360,7 @@ const LISTS: usize = 50000;
 /// How much more memory than that is enough, and how much less is not.
 const MARGIN: usize = 4000;
 
-/// As many commands as there are replies in `LISTS` bytes, of which each has so many.
+/// As many commands as there are replies of `size` bytes in `LISTS` bytes.
 fn commands_for<'a>(commands: &'a [Command<'a>], size: usize) -> &'a [Command<'a>] {
     let count = LISTS.checked_div(size).unwrap_or(0);
     commands.get(..count).unwrap_or(&[])

@@ -7,7 +7,7 @@ use std::fmt::Debug;
 use std::process::Abort;
 use test_support::printing::{Alone, first_debug_difference};
 
-/// Types whose derived forms are those of replies and faults.
+/// Types whose derived `Debug` prints what the `Debug` of replies and faults has to print.
 mod derived {
     use super::Alone;
 

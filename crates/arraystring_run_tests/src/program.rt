@@ -145,7 +145,8 @@ fn words_are_judged_without_memory(rt: HostRuntime) -> Result<(), Fail> {
     Ok(())
 }
 
-/// Before it writes it takes memory: so many bytes, which it lets go again.
+/// A writer that takes `wants` bytes of memory before it writes, and frees them again. `refused` says whether
+/// it got none.
 #[derive(Drop)]
 struct Wanting {
     alloc: Global,
@@ -218,8 +219,8 @@ const MANY: usize = 600;
 
 const LETTERS: &str = "abcdefghijklmnopqrstuvw";
 
-/// A script of so many replies, and what is printed of it. The lines that stand next to each other
-/// differ, so that none can be lost or come twice.
+/// A script of `count` replies, and what it prints. Each two lines that follow each other differ. So a test
+/// sees a line that is lost or comes twice.
 fn script_of(rt: &(impl Abort + AllocGlobal), count: usize) -> (String, String) {
     let mut script = String::new(rt.alloc());
     let mut wanted = String::new(rt.alloc());

@@ -7,7 +7,7 @@ use arraystring_run::{Command, Outcome, Reply, play, run, run_both, serve};
 use std::io;
 use std::process::Abort;
 
-/// Plays so many lines, and serves the same with a bad one behind them, which is named by its number.
+/// Plays `count` lines. Serves the same lines and a bad one after them, which is named by its number.
 fn plays_lines(rt: &(impl Abort + AllocGlobal), count: usize) {
     let alloc = rt.alloc();
     let script = "len\n".repeat(alloc, count).expect(rt, "memory");
@@ -38,10 +38,10 @@ fn long_scripts_are_played(rt: HostRuntime) {
     }
 }
 
-/// More commands than a million, and than 20 bits can count. Those before the last five only look.
+/// How many commands `len` come before the five that push: over a million, and more than 20 bits can count.
 const MANY: usize = 1048577;
 
-/// Compares a run of `MANY` commands `len`, and five that push a letter, of which so many fit.
+/// Compares a run of `MANY` commands `len`, and five that push a letter. `fit` of the letters fit.
 fn pushed<const N: usize>(
     rt: &impl Abort,
     outcome: &Outcome<N>,

@@ -9,8 +9,8 @@ pub(super) fn agree<T: PartialEq + Debug + Drop>(rt: &impl Abort, case: &str, ga
     assert_eq!(rt; gave, wanted, "{case}");
 }
 
-/// What is printed of a run: the replies, which are written with `, ` between them, and the last
-/// text.
+/// What a run prints: a line for each reply, and `final` with the last text. In `replies`, `, ` is between
+/// two replies.
 pub(super) fn printed(rt: &(impl Abort + AllocGlobal), replies: &str, last: &str) -> String {
     let mut lines = String::new(rt.alloc());
     for reply in replies.split_terminator(", ") {

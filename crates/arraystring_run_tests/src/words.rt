@@ -36,7 +36,8 @@ fn is_refused(rt: &(impl Abort + AllocGlobal), word: &str) {
     }
 }
 
-/// Before each of the words, behind it, on both sides and inside.
+/// Puts each of `MORE` before each word, after it, on both sides and inside, and puts two words together. Each
+/// is refused.
 #[test]
 fn words_with_more_are_refused(rt: HostRuntime) {
     let mut count = 0u32;

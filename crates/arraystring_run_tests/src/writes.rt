@@ -24,7 +24,7 @@ impl io::Write for CountingWriter {
     }
 }
 
-/// Serves a script of which so many bytes are printed, and says how many writes that may take.
+/// Serves a script that prints `bytes` bytes, and asserts that it takes few writes.
 fn takes_few_writes(rt: &(impl Abort + AllocGlobal), word: &str, script: &str, bytes: usize) {
     let mut input = script.as_bytes();
     let mut errors = Vec::new(rt.alloc());
@@ -68,8 +68,8 @@ fn outputs_of_each_size_take_few_writes(rt: HostRuntime) {
     }
 }
 
-/// A text of each size is printed 200 times: its line, which is longer than it by six bytes, is written in
-/// three pieces.
+/// Prints a text of each size 200 times. Its line is `text `, the text and a newline. These are three pieces,
+/// and six bytes more than the text.
 #[test]
 fn texts_of_each_size_take_few_writes(rt: HostRuntime) {
     let asks = "as_str\n".repeat(rt.alloc(), 200).expect(&rt, "memory");

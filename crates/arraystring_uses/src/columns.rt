@@ -10,7 +10,7 @@ use arraystring::{ArrayString, Error};
 ///
 /// # Errors
 ///
-/// Returns `Err(OutOfBounds)` if the whole does not fit.
+/// Returns `Err(Error::OutOfBounds)` if the whole does not fit.
 pub fn padded<const N: usize>(text: &str, count: u8) -> Result<ArrayString<N>, Error>
     ensures { IsWholeOrRefused (chars text.now ++ replicate count 0x20) (cap N) result }
 {

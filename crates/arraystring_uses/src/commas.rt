@@ -11,7 +11,7 @@ use arraystring::{ArrayString, Error};
 ///
 /// # Errors
 ///
-/// Returns `Err(OutOfBounds)` if the whole does not fit.
+/// Returns `Err(Error::OutOfBounds)` if the whole does not fit.
 pub fn with_commas<const N: usize>(text: &str) -> Result<ArrayString<N>, Error>
     ensures { IsWholeOrRefused (with_commas (chars text.now)) (cap N) result }
 {

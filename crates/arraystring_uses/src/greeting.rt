@@ -5,12 +5,12 @@ ghost use Rattle.arraystring.specs.Text.{size, cut};
 
 use arraystring::{ArrayString, Error};
 
-/// Returns the longest prefix of whole characters of `@`, the name and `, welcome back` that fits
-/// into 20 bytes.
+/// Greets `name`. The greeting is `@`, the name and `, welcome back`, one after the other. It is cut to
+/// the longest prefix of whole characters that fits into 20 bytes.
 ///
 /// # Errors
 ///
-/// Returns `Err(OutOfBounds)` if `@` and the name do not fit.
+/// Returns `Err(Error::OutOfBounds)` if `@` and the name do not fit.
 pub fn greet(name: &str) -> Result<ArrayString<20>, Error>
     ensures text { IfOk result (λ greeting. greeting.text ≡ cut (codes "@" ++ (chars name.now ++ codes ", welcome back")) 20) }
     ensures fits { IsOk result ↔ (size (chars name.now) < 20) }

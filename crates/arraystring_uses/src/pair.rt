@@ -11,7 +11,7 @@ use arraystring::{ArrayString, Error};
 ///
 /// # Errors
 ///
-/// Returns `Err(OutOfBounds)` if `line` has no `=`, or a part does not fit.
+/// Returns `Err(Error::OutOfBounds)` if `line` has no `=`, or a part does not fit.
 pub fn pair(line: &str) -> Result<(ArrayString<20>, ArrayString<40>), Error>
     ensures key { IfOk result (λ pair. pair.0.text ≡ before_first (λ c. c == 61) (chars line.now)) }
     ensures value { IfOk result (λ pair. pair.1.text ≡ after_first (λ c. c == 61) (chars line.now)) }
@@ -45,8 +45,8 @@ pub fn pair_of(line: &ArrayString<64>) -> Result<(ArrayString<20>, ArrayString<4
     pair(line.as_str())
 }
 
-/// Takes the first `=` of `line` and all after it out, and returns that. Returns `None` if there is
-/// no `=`. `line` is then as it was.
+/// Removes the first `=` and all that comes after it from `line`, and returns the removed text. If there
+/// is no `=`, returns `None` and changes nothing.
 pub fn split_value(line: &mut ArrayString<64>) -> Option<ArrayString<64>>
     ensures { MatchOption result
         ((line.new.text ≡ line.old.text) × (position_or_len (λ c. c == 61) line.old.text ≡ length line.old.text))

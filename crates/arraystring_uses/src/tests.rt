@@ -219,7 +219,7 @@ const BEFORE: &str = "aé€🤔bè₭🤕cd";
 /// A text with `=` in it. Its 41 bytes are one more than fit in a value.
 const BEHIND: &str = "é=€🤔==bcdefghijklmnopqrstuvwxyz0123";
 
-/// Asserts what a line of these parts gives, of which the first has no `=`.
+/// Asserts what the line `before`, `=`, `behind` gives. There is no `=` in `before`.
 fn check_line(rt: &impl Abort, before: &str, behind: &str) {
     let mut line = ArrayString::<64>::from_str_truncate(before);
     agree(rt, line.try_push_str("="), Ok(()));
@@ -248,7 +248,7 @@ fn check_line_without_sign(rt: &impl Abort, text: &str) {
     agree(rt, line.as_str(), text);
 }
 
-/// The first sign at each boundary, and nothing, a sign, and so on behind it.
+/// Puts `=` after each prefix of `BEFORE`, and after it each prefix and each suffix of `BEHIND`.
 #[test]
 fn lines_are_split_at_their_first_sign(rt: HostRuntime) {
     let (mut without, mut lines) = (0u32, 0u32);

@@ -12,7 +12,7 @@ use arraystring::{ArrayString, Error};
 ///
 /// # Errors
 ///
-/// Returns `Err(OutOfBounds)` if the whole does not fit.
+/// Returns `Err(Error::OutOfBounds)` if the whole does not fit.
 pub fn lines<const N: usize>(words: &[&str]) -> Result<ArrayString<N>, Error>
     ensures { IsWholeOrRefused (lines words.now) (cap N) result }
 {
@@ -29,7 +29,7 @@ pub fn lines<const N: usize>(words: &[&str]) -> Result<ArrayString<N>, Error>
 ///
 /// # Errors
 ///
-/// Returns `Err(OutOfBounds)` if the whole does not fit.
+/// Returns `Err(Error::OutOfBounds)` if the whole does not fit.
 pub fn path<const N: usize>(words: &[&str]) -> Result<ArrayString<N>, Error>
     ensures { IsWholeOrRefused (path words.now) (cap N) result }
 {
@@ -49,7 +49,7 @@ pub fn path<const N: usize>(words: &[&str]) -> Result<ArrayString<N>, Error>
 ///
 /// # Errors
 ///
-/// Returns `Err(OutOfBounds)` if not both fit. The text is then unchanged.
+/// Returns `Err(Error::OutOfBounds)` if not both fit. The text is then unchanged.
 pub fn add_both(line: &mut ArrayString<24>, first: &str, last: &str) -> Result<(), Error>
     ensures { Makes (addition line.old.text (chars first.now ++ chars last.now) 24) line.old.text result line.new.text }
 {

@@ -122,7 +122,7 @@ pub fn decode(given: &[u8]) -> Result<User, RecordFault>
     Ok(user)
 }
 
-/// Writes a text into a field of zero bytes.
+/// Writes a text into a field whose bytes are all 0.
 #[tactic(auto, using(crate::proofs::RecordLemmas::written))]
 fn write_field<const N: usize>(field: &mut [u8], text: &ArrayString<N>)
     requires { field.old ≡ replicate (suc N) 0 }

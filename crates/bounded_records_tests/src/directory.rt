@@ -80,7 +80,7 @@ fn many_users_are_kept_and_replaced(rt: HostRuntime) {
     check_ranked(&rt, &users, "new");
 }
 
-/// So many that the directory grows a third layer of nodes.
+/// How many users make the directory grow a third layer of nodes.
 const COUNT: u8 = 200;
 
 /// The user of a number, in letters. The usernames ascend with the numbers.
@@ -111,8 +111,8 @@ fn check_first(rt: &impl Abort, users: &Directory, count: u8) {
     agree(rt, names.next(), None);
 }
 
-/// With ever more memory, from none up, each growth is refused in turn until it is met. A user that
-/// is there already is replaced without any.
+/// Memory grows from none in small steps. A growth of the directory is refused until there is memory for it.
+/// A user that is there already is replaced without memory.
 #[test]
 fn each_refused_growth_changes_nothing(rt: HostRuntime) -> Result<(), Fail> {
     let mut users = Directory::new(rt.alloc());
@@ -146,8 +146,9 @@ fn each_refused_growth_changes_nothing(rt: HostRuntime) -> Result<(), Fail> {
     Ok(())
 }
 
-/// How many users are put in. A factor that neither 2 nor 5 divides runs through all of them: 1 gives
-/// the ascending order, 4999 the descending one, and another a mixed one.
+/// How many users are put in. `at_turn` takes them in the order that a factor gives. If neither 2 nor 5 divides
+/// the factor, it takes each once. The factor 1 gives the ascending order. The factor 4999 gives user 0, and
+/// then the others in descending order. Another factor gives a mixed order.
 const USERS: u16 = 5000;
 
 /// The user of a number: four digits, and the last of them again. The usernames ascend with the
@@ -167,7 +168,7 @@ fn at_turn(turn: u16, factor: u32) -> User {
     numbered((factor.wrapping_mul(turn as u32) % USERS as u32) as u16)
 }
 
-/// So many are left of both iterators.
+/// Asserts that both iterators have `left` users left.
 fn has_left(rt: &impl Abort, names: &Names, users: &Users, left: usize) {
     agree(rt, (names.len(), users.len()), (left, left));
     agree(rt, names.size_hint(), (left, Some(left)));

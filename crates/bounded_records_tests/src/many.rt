@@ -3,11 +3,11 @@ use super::users::{agree, finds, user};
 use bounded_records::{Directory, User};
 use std::process::Abort;
 
-/// How many users are put in, 2^16 and 64 more. A factor that neither 2, 5 nor 41 divides runs through all of
-/// them.
+/// How many users are put in: 2^16 and 64 more. If none of 2, 5 and 41 divides a factor, its order takes each
+/// user once.
 const USERS: u32 = 65_600;
 
-/// So many are changed and taken out, and then fewer than 2^16 are left.
+/// How many users are changed, and then removed. After that, fewer than 2^16 are left.
 const SOME: u32 = 128;
 
 /// The user of a number: its five digits, as the username and as the role. The usernames ascend with the

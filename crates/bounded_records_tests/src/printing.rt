@@ -7,7 +7,7 @@ use std::fmt::Debug;
 use std::process::Abort;
 use test_support::printing::first_debug_difference;
 
-/// Types whose derived forms are those of a user.
+/// Types whose derived `Debug` prints what the `Debug` of a user has to print.
 mod derived {
     #[derive(Clone, Copy, PartialEq, Eq, PartialOrd, Ord, Debug)]
     pub(super) struct ArrayString<'a> {

@@ -36,7 +36,7 @@ fn each_type_has_its_traits(_rt: HostRuntime) {
     is_iterator::<User, Users<'static>>();
 }
 
-/// The position of a test among the four. There is no other case.
+/// The position of a fault among the four. The `match` has no wildcard, so a fifth would not compile.
 fn position(fault: RecordFault) -> u8 {
     match fault {
         RecordFault::Length => 0,

@@ -5,7 +5,7 @@ ghost use Rattle.bounded_records.specs.Records.{IsFirstFault, IsRecord};
 use arraystring::ArrayString;
 use bounded_records::{RecordFault, decode};
 
-/// Returns the role of the user whose record `given` is.
+/// Reads `given` as the record of a user, and returns the role of this user.
 ///
 /// # Errors
 ///

@@ -93,8 +93,8 @@ fn check_first(rt: &impl Abort, users: &Directory, count: u8) {
     agree(rt, all.next(), None);
 }
 
-/// In a directory of each size, each user is renamed to a free name, to a taken one, and back. All are
-/// dumped, and at last struck off.
+/// In a directory of each size, each user is renamed to a free name and back. A rename to a taken name, and a
+/// rename of a missing user, are refused. All users are dumped, and at last struck off.
 #[test]
 fn directories_of_each_size(rt: HostRuntime) {
     let mut users = Directory::new(rt.alloc());
@@ -125,8 +125,8 @@ fn directories_of_each_size(rt: HostRuntime) {
     agree(&rt, users.is_empty(), true);
 }
 
-/// With ever more memory, from none up, each growth is refused in turn until it is met. If a user
-/// is refused, so is a new name instead of it.
+/// Memory grows from none in small steps. A growth of the directory is refused until there is memory for it.
+/// If a user is refused, a rename of the last user to the name of this user is refused, too.
 #[test]
 fn each_refused_growth_changes_nothing(rt: HostRuntime) -> Result<(), Fail> {
     let mut users = Directory::new(rt.alloc());

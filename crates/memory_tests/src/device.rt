@@ -3,7 +3,7 @@ use arraystring::MaxString;
 use std::io::{ErrorKind, Read, Write};
 use std::{io, str};
 
-/// Gives at most 16 bytes a read, so that the memory for a script of more grows more than once.
+/// Gives at most 16 bytes a read. So the memory for a longer script grows more than once.
 #[derive(Drop)]
 pub struct SlowReader<'a> {
     pub bytes: &'a [u8],

@@ -9,7 +9,8 @@ mod device;
 use arraystring_run::program::given_word;
 use std::io;
 
-/// The calls, each of which takes memory or may: `_nothing` is one that has nothing to put there.
+/// The names of the calls. Each allocates, or may. A call whose name ends in `_nothing` runs no commands, or
+/// makes a value of an empty text.
 const CALLS: [&str; 10] = [
     "run",
     "run_nothing",

@@ -26,8 +26,8 @@ pub(crate) fn forms<T: Debug>(
     )
 }
 
-/// Returns how two values are printed for debugging at the first width, of those below 30, at which they
-/// are printed differently in some form, or `None` if there is no such width.
+/// Looks for the first width below 30 at which two values are printed differently for debugging, in some
+/// form. Returns what is printed of each value at that width, or `None` if there is no such width.
 ///
 /// # Errors
 ///

@@ -14,7 +14,7 @@ pub fn rows(table: &str) -> Lines {
 }
 
 /// Returns a column of a row, without the spaces round it and without the quotes in which a text
-/// may be. `255 x` is so many letters.
+/// may be. `255 x` means 255 letters.
 pub fn column(row: &str, at: usize) -> &str {
     let column = row
         .split('|')

@@ -1,5 +1,5 @@
-//! How tables are read, which values are told apart, how values are printed for debugging, and
-//! that all memory is taken but for what is left.
+//! Tests how tables are read, which values are told apart, how values are printed for debugging, and
+//! that `ScarceMemory` takes all memory except what it leaves.
 use crate::equality::first_mistaken;
 use crate::memory::ScarceMemory;
 use crate::printing::{Alone, first_debug_difference, forms};

@@ -3,9 +3,9 @@ use std::alloc::Global;
 use std::io;
 use std::io::{ErrorKind, Write};
 
-/// Takes at most `step` bytes a write. After the first `room` bytes, as many writes as `faults`
-/// says fail with `kind`, or take nothing if there is no `kind`; after each later one, as many as
-/// `again` says. A flush fails if `flushes` is false.
+/// Takes at most `step` bytes a write. After the first `room` bytes, `faults` writes fail: each returns
+/// the error `kind`, or takes nothing if there is no `kind`. After each later write that succeeds, `again`
+/// writes fail in the same way. A flush fails if `flushes` is false.
 #[derive(Drop)]
 pub struct FakeWriter {
     pub taken: Vec<u8>,
@@ -18,7 +18,8 @@ pub struct FakeWriter {
 }
 
 impl FakeWriter {
-    /// A writer of which one write fails, the first after `room` bytes.
+    /// A writer that takes `room` bytes. The next write fails with `kind`, or takes nothing if there is no
+    /// `kind`. All later writes succeed.
     pub fn new(alloc: Global, room: usize, kind: Option<ErrorKind>) -> FakeWriter {
         FakeWriter {
             taken: Vec::new(alloc),

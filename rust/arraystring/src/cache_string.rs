@@ -1,3 +1,4 @@
+// NOT PROVED: rust/proved.txt does not have the source of this file as it is.
 // Made from crates/arraystring/src/cache_string.rt by rust/erase. The proof is there. A change goes there.
 //! `CacheString`: a string of at most 63 bytes under a name of its own. Each call is that of the
 //! string inside. `traits` has its impls of traits.
@@ -219,7 +220,7 @@ impl CacheString {
         CacheString(ArrayString::from_iterator(pieces))
     }
 
-    /// Creates a string from all characters.
+    /// Creates a string from all characters that the iterator returns.
     ///
     /// # Errors
     ///
@@ -580,7 +581,7 @@ impl CacheString {
         CacheString(unsafe { ArrayString::from_iterator_unchecked(pieces) })
     }
 
-    /// Creates a string from all characters.
+    /// Creates a string from all characters that the iterator returns.
     ///
     /// # Safety
     ///

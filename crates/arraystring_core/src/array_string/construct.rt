@@ -119,7 +119,7 @@ impl<const N: usize> ArrayString<N> {
         ArrayString { array, start, size }
     }
 
-    /// Creates a string from all characters.
+    /// Creates a string from all characters that the iterator returns.
     ///
     /// # Errors
     ///

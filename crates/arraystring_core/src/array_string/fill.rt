@@ -21,8 +21,9 @@ pub(super) fn fill<const N: usize>(array: &mut [u8; N], given: &[u8])
 }
 
 /// Writes `given` at the start of a new array, or nothing if it is larger than the capacity. Returns
-/// whether it is refused, and how many bytes were written. It has no branch of its own: where branches
-/// join, the compiler copies the array once more.
+/// whether it is refused, and how many bytes were written. In an array of more than 64 bytes one write
+/// serves both cases. If the cases were two branches, the compiler would copy the array once more where
+/// they join.
 #[inline(always)]
 pub(super) fn try_fill<const N: usize>(array: &mut [u8; N], given: &[u8]) -> (bool, u8)
     ensures len { length array.new ≡ N }

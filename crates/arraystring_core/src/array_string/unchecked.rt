@@ -57,7 +57,7 @@ impl<const N: usize> ArrayString<N> {
         }
     }
 
-    /// Creates a string from all characters.
+    /// Creates a string from all characters that the iterator returns.
     ///
     /// # Precondition
     ///

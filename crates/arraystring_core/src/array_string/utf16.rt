@@ -155,7 +155,7 @@ impl<const N: usize> ArrayString<N> {
 }
 
 /// Writes the units before the first that is not ASCII as bytes at the start of the array, as far as
-/// the capacity goes. Returns how many: so many bytes are then a text.
+/// the capacity goes. Returns how many. These bytes are a text then.
 #[inline(always)]
 fn write_ascii<const N: usize>(array: &mut [u8; N], units: &[u16]) -> usize
     ensures within { result ≤ length units.now }

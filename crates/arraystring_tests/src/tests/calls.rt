@@ -4,7 +4,7 @@
 //!
 //! With no text before, the call goes on with the string that the row above left; `new` is a new
 //! string, and `again` the last one that a row began with. Several calls may be in a row, each on
-//! the text before. A text in quotes keeps its spaces, and `255 x` is a text of so many letters.
+//! the text before. A text in quotes keeps its spaces, and `255 x` is a text of 255 letters.
 //! Pieces are written with `,` between them.
 //!
 //! The result is a text or a character itself, `ok` for a call that returns nothing, `None`, or the
@@ -449,7 +449,8 @@ fn exhausted() -> RangeInclusive<u8> {
     range
 }
 
-/// An index in a range, or any if none is written.
+/// The index that is written at an end of a range, without a `=` before it. If none is written, it is 0 and
+/// not used.
 fn index(rt: &impl Abort, written: &str) -> u8 {
     let digits = written.trim_start_matches('=');
     if digits.is_empty() {

@@ -66,8 +66,8 @@ pub(super) fn next<'a>(rt: &impl Abort, row: &'a str, ch: Option<char>, piece: O
     agree(rt, row, piece.unwrap_or("None"), column(row, 5));
 }
 
-/// What a caller knows of the characters of a text, and what the unchecked constructors make of a text
-/// that fits.
+/// Creates a string of a text by the constructor that cuts, and, if all fits, by each unchecked one. The
+/// contract says that a caller knows the text of the first.
 fn of_text<const N: usize>(text: &str) -> (ArrayString<N>, [Option<ArrayString<N>>; 3])
     ensures { result.0.text ≡ cut (chars text.now) (cap N) }
 {
@@ -85,7 +85,8 @@ fn of_text<const N: usize>(text: &str) -> (ArrayString<N>, [Option<ArrayString<N
     }
 }
 
-/// What a caller knows of the pieces of a slice, and what the unchecked constructor makes of them if they fit.
+/// Creates a string of pieces by the constructor that cuts, and, if all fit, by the unchecked one. The
+/// contract says that a caller knows both texts.
 fn of_pieces<const N: usize>(pieces: &[&str]) -> (ArrayString<N>, Option<ArrayString<N>>)
     ensures cut { result.0.text ≡ cut (joined_pieces pieces.now) (cap N) }
     ensures unchecked { IfSome result.1 (λ made. made.text ≡ joined_pieces pieces.now) }

@@ -105,7 +105,7 @@ fn walk_by(rt: &(impl Abort + AllocGlobal), text: &str, choice: u32) {
     agree(rt, text, drain.next_back(), None);
 }
 
-/// Iterates over texts in so many ways. The columns are how many, and the text.
+/// Iterates over texts in several ways. The columns are how many ways, and the text.
 fn check_walks(rt: &(impl Abort + AllocGlobal), table: &str) {
     for row in rows(table) {
         for choice in 0..number(rt, row, 0) {

@@ -13,7 +13,7 @@ use test_support::memory::{ScarceMemory, TIMES};
 /// As many letters as fit.
 const LETTERS: &str = "abcdefghijklmnopqrstuvwxyzABCDEFGHIJKLMNOPQRSTUVWXYZabcdefghijk";
 
-/// The longest prefix of whole characters that takes at most so many bytes.
+/// The longest prefix of whole characters that takes at most `most` bytes.
 fn prefix(text: &str, most: usize) -> &str {
     for size in (0..=most).rev() {
         if let Some(front) = text.get(..size) {
@@ -23,7 +23,8 @@ fn prefix(text: &str, most: usize) -> &str {
     text
 }
 
-/// Asserts that what was made of a JSON text is the text, that it is written as it, and read back.
+/// Asserts that the string that is read from a JSON text has the text `wanted`. Asserts that it is written as
+/// the same JSON text, and read back from it.
 fn kept<S: Json>(rt: &(impl Abort + AllocGlobal), given: &Value, wanted: &str) {
     let string = S::read(given).expect(rt, "a string of a JSON text");
     agree(rt, wanted, string.text(), wanted);

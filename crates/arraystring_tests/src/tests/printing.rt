@@ -33,7 +33,7 @@ pub(crate) fn debugs<T: Debug>(rt: &(impl Abort + AllocGlobal), value: &T, wante
     agree(rt, "each form", printed.as_str(), wanted);
 }
 
-/// Types whose derived forms are those of the strings.
+/// Types whose derived `Debug` prints what the `Debug` of strings has to print.
 pub(crate) mod derived {
     #[derive(Debug, Drop)]
     pub(crate) struct ArrayString<'a> {

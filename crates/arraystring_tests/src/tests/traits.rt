@@ -177,9 +177,9 @@ fn is_less<T: Ord>(rt: &impl Abort, row: &str, less: &T, greater: &T) {
     agree(rt, row, results, [true; 4]);
 }
 
-/// A pair of `w` bytes stands at each index up to the capacity less `w`, and is compared in one size more at
-/// the index before: so the sizes are the sum of the numbers up to the capacity and 1 less `w`. The short
-/// are that up to 64 less `w`.
+/// The greater text of a pair has `w` bytes. At index 0 the pair is compared in `capacity - w + 1` sizes, and
+/// at each next index in one size fewer. So it is compared in as many sizes as the sum of the numbers from 1
+/// to `capacity - w + 1`. As many of them as the sum of the numbers from 1 to `64 - w` are below 64.
 #[test]
 fn texts_of_each_size_are_ordered(rt: HostRuntime) {
     check_orders::<255>(

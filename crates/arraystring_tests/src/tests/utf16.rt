@@ -12,7 +12,7 @@ use test_support::table::{column, rows};
 ///
 ///     units in hexadecimal | `try_from_utf16` | `from_utf16` | `from_utf16_lossy`
 ///
-/// if the last three are texts, or the names of refusals.
+/// Each of the last three has the text that its call makes, or the name of its refusal.
 fn check_table<const N: usize>(rt: &impl Abort, table: &str)
     requires { N ≤ 300 }
 {

@@ -20,7 +20,7 @@ fn sizes_inside_a_limit(rt: HostRuntime) {
     agree(&rt, "inside a character", inside, Err(Utf8));
 }
 
-/// Each index to past 256 of a text of each size to past 256: those to the size are boundaries, and
+/// Tests the indices 0 to 262 of texts of 0 to 260 letters. The indices up to the size are boundaries, and
 /// inside the limit.
 #[test]
 fn each_index_of_each_size(rt: HostRuntime) {
@@ -41,7 +41,8 @@ fn each_index_of_each_size(rt: HostRuntime) {
     }
 }
 
-/// Each index to past 256 of characters of two bytes: each second index is inside one.
+/// Tests the indices 0 to 262 of a text of 130 characters of two bytes. Each odd index below 260 is inside a
+/// character.
 #[test]
 fn each_index_of_wide_characters(rt: HostRuntime) {
     let text = "é".repeat(rt.alloc(), 130).expect(&rt, "memory");

@@ -1,3 +1,4 @@
+// NOT PROVED: rust/proved.txt does not have the source of this file as it is.
 // Made from crates/arraystring_base/src/error.rt by rust/erase. The proof is there. A change goes there.
 //! The errors, and the conversions to `Error`. When an error is printed, a width and a precision in the
 //! format are ignored.
@@ -52,7 +53,7 @@ impl Error {
     }
 }
 
-/// Prints `Error::` and the name.
+/// Prints the case with its type, such as [`Error::Utf8`](crate::Error::Utf8).
 ///
 /// # Examples
 ///
@@ -234,7 +235,7 @@ impl From<Utf8Error> for Error {
     }
 }
 
-/// Writes the name to the hasher, as `str` does.
+/// Hashes as the `&str` of the case's name does.
 ///
 /// # Examples
 ///
@@ -279,7 +280,7 @@ impl Hash for Error {
 #[derive(Clone, Copy, Default, PartialEq, Eq)]
 pub struct Utf8;
 
-/// Prints the name alone.
+/// Prints [`Utf8`](crate::error::Utf8).
 ///
 /// # Examples
 ///
@@ -305,7 +306,7 @@ impl fmt::Debug for Utf8 {
     }
 }
 
-/// Prints the name alone.
+/// Prints [`Utf8`](crate::error::Utf8). A width in the format does not pad it.
 ///
 /// # Examples
 ///
@@ -373,7 +374,7 @@ impl From<Utf8Error> for Utf8 {
 #[derive(Clone, Copy, Default, PartialEq, Eq)]
 pub struct Utf16;
 
-/// Prints the name alone.
+/// Prints [`Utf16`](crate::error::Utf16).
 ///
 /// # Examples
 ///
@@ -399,7 +400,7 @@ impl fmt::Debug for Utf16 {
     }
 }
 
-/// Prints the name alone.
+/// Prints [`Utf16`](crate::error::Utf16). A width in the format does not pad it.
 ///
 /// # Examples
 ///
@@ -451,7 +452,7 @@ impl StdError for Utf16 {}
 #[derive(Clone, Copy, Default, PartialEq, Eq)]
 pub struct OutOfBounds;
 
-/// Prints the name alone.
+/// Prints [`OutOfBounds`](crate::error::OutOfBounds).
 ///
 /// # Examples
 ///
@@ -477,7 +478,7 @@ impl fmt::Debug for OutOfBounds {
     }
 }
 
-/// Prints the name alone.
+/// Prints [`OutOfBounds`](crate::error::OutOfBounds). A width in the format does not pad it.
 ///
 /// # Examples
 ///

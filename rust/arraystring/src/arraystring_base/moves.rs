@@ -1,3 +1,4 @@
+// NOT PROVED: rust/proved.txt does not have the source of this file as it is.
 // Made from crates/arraystring_base/src/moves.rt by rust/erase. The proof is there. A change goes there.
 //! How a run of bytes is moved inside an array or a slice: as its first `K` and its last `K` bytes, which
 //! may overlap, and both are read before the first is written. `memmove` moves short runs in this way
@@ -120,7 +121,7 @@ pub unsafe fn move_bytes(all: &mut [u8], from: usize, to: usize, len: usize) {
     unsafe { copy_within_unchecked!(all, from..from + len, to) };
 }
 
-/// Moves more than 64 bytes, of at most `N`. More than `N` are not tested for.
+/// Moves `len` bytes: more than 64, and at most `N`. No test is made for sizes above `N`.
 ///
 /// # Safety
 ///
@@ -149,7 +150,7 @@ unsafe fn move_long_run_of_array<const N: usize>(all: &mut [u8], from: usize, to
     unsafe { move_bytes(all, from, to, len) };
 }
 
-/// Moves fewer than 16 bytes, of at most `N`. More than `N` are not tested for.
+/// Moves `len` bytes: fewer than 16, and at most `N`. No test is made for sizes above `N`.
 ///
 /// # Safety
 ///
@@ -193,7 +194,7 @@ unsafe fn move_short_run<const N: usize>(all: &mut [u8], from: usize, to: usize,
     }
 }
 
-/// Moves `K` to `2 * K` bytes.
+/// Moves `len` bytes, from `K` to `2 * K` of them: the first `K` and the last `K`, which may overlap.
 ///
 /// # Safety
 ///
@@ -317,7 +318,7 @@ unsafe fn write_long_run(all: &mut [u8], given: &[u8], at: usize) {
     unsafe { write_by_call(all, at, given) };
 }
 
-/// Writes fewer than 16 bytes, of at most `N`. More than `N` are not tested for.
+/// Writes `given`: fewer than 16 bytes, and at most `N`. No test is made for sizes above `N`.
 ///
 /// # Safety
 ///
@@ -360,7 +361,7 @@ unsafe fn write_short_run<const N: usize>(all: &mut [u8], at: usize, given: &[u8
     }
 }
 
-/// Writes `K` to `2 * K` bytes.
+/// Writes `given`, from `K` to `2 * K` bytes: the first `K` and the last `K`, which may overlap.
 ///
 /// # Safety
 ///

@@ -1,9 +1,10 @@
+// NOT PROVED: rust/proved.txt does not have the source of this file as it is.
 // Made from crates/arraystring_base/src/steps.rt by rust/erase. The proof is there. A change goes there.
 //! Counting what a call does to bytes.
 
-/// Most programs need no counter. It counts the looks and the moves of calls that end in `_counted`. A look
-/// is one call of [`look`](crate::utils::look). A move is one byte that [`shift`](crate::utils::shift) takes to another offset. Bytes that a call reads
-/// without [`look`](crate::utils::look) are not counted.
+/// Counts the looks and the moves of calls that end in `_counted`. A look is one call of [`look`](crate::utils::look). A move is
+/// one byte that [`shift`](crate::utils::shift) takes to another offset. Bytes that a call reads without [`look`](crate::utils::look) are not counted.
+/// Most programs need no such counter.
 ///
 /// # Examples
 ///
@@ -128,8 +129,8 @@ impl Steps {
     }
 }
 
-/// Most programs need no look, and write `bytes[at]`. Returns the byte at the index `at`, counted
-/// as one look.
+/// Returns the byte of `bytes` at the index `at`, and counts one look in `steps`. Most programs need
+/// no count, and write `bytes[at]`.
 ///
 /// # Panics
 ///

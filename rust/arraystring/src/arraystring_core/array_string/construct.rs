@@ -1,3 +1,4 @@
+// NOT PROVED: rust/proved.txt does not have the source of this file as it is.
 // Made from crates/arraystring_core/src/array_string/construct.rt by rust/erase. The proof is there. A change goes there.
 //! The constructors: from a `&str`, from pieces, from characters and from bytes of UTF-8.
 
@@ -172,7 +173,7 @@ impl<const N: usize> ArrayString<N> {
         ArrayString { array, start, size }
     }
 
-    /// Creates a string from all characters.
+    /// Creates a string from all characters that the iterator returns.
     ///
     /// # Errors
     ///

@@ -1,3 +1,4 @@
+// NOT PROVED: rust/proved.txt does not have the source of this file as it is.
 // Made from crates/arraystring_core/src/array_string/fill.rt by rust/erase. The proof is there. A change goes there.
 //! How the array of a new string is filled.
 
@@ -34,8 +35,9 @@ pub(super) unsafe fn fill<const N: usize>(array: &mut [u8; N], given: &[u8]) {
 }
 
 /// Writes `given` at the start of a new array, or nothing if it is larger than the capacity. Returns
-/// whether it is refused, and how many bytes were written. It has no branch of its own: where branches
-/// join, the compiler copies the array once more.
+/// whether it is refused, and how many bytes were written. In an array of more than 64 bytes one write
+/// serves both cases. If the cases were two branches, the compiler would copy the array once more where
+/// they join.
 ///
 /// <details><summary>Contract</summary>
 ///

@@ -1,3 +1,4 @@
+// NOT PROVED: rust/proved.txt does not have the source of this file as it is.
 // Made from crates/arraystring_core/src/array_string/unchecked.rt by rust/erase. The proof is there. A change goes there.
 //! The calls that leave a test to the caller, of which most programs need none.
 
@@ -99,7 +100,7 @@ impl<const N: usize> ArrayString<N> {
         ArrayString { array, start: 0, size: end as u8 }
     }
 
-    /// Creates a string from all characters.
+    /// Creates a string from all characters that the iterator returns.
     ///
     /// # Safety
     ///

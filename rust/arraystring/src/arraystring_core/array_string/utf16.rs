@@ -1,3 +1,4 @@
+// NOT PROVED: rust/proved.txt does not have the source of this file as it is.
 // Made from crates/arraystring_core/src/array_string/utf16.rt by rust/erase. The proof is there. A change goes there.
 //! Strings from UTF-16.
 
@@ -212,7 +213,7 @@ impl<const N: usize> ArrayString<N> {
 }
 
 /// Writes the units before the first that is not ASCII as bytes at the start of the array, as far as
-/// the capacity goes. Returns how many: so many bytes are then a text.
+/// the capacity goes. Returns how many. These bytes are a text then.
 ///
 /// <details><summary>Contract</summary>
 ///
