@@ -1,4 +1,3 @@
-// NOT PROVED: rust/proved.txt does not have the source of this file as it is.
 // Made from crates/arraystring/src/cache_string.rt by rust/erase. The proof is there. A change goes there.
 //! `CacheString`: a string of at most 63 bytes under a name of its own. Each call is that of the
 //! string inside. `traits` has its impls of traits.

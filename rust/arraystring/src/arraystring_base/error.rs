@@ -1,4 +1,3 @@
-// NOT PROVED: rust/proved.txt does not have the source of this file as it is.
 // Made from crates/arraystring_base/src/error.rt by rust/erase. The proof is there. A change goes there.
 //! The errors, and the conversions to `Error`. When an error is printed, a width and a precision in the
 //! format are ignored.

@@ -1,4 +1,3 @@
-// NOT PROVED: rust/proved.txt does not have the source of this file as it is.
 // Made from crates/arraystring_base/src/moves.rt by rust/erase. The proof is there. A change goes there.
 //! How a run of bytes is moved inside an array or a slice: as its first `K` and its last `K` bytes, which
 //! may overlap, and both are read before the first is written. `memmove` moves short runs in this way

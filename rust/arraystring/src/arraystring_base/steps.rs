@@ -1,4 +1,3 @@
-// NOT PROVED: rust/proved.txt does not have the source of this file as it is.
 // Made from crates/arraystring_base/src/steps.rt by rust/erase. The proof is there. A change goes there.
 //! Counting what a call does to bytes.
 

@@ -1,4 +1,3 @@
-// NOT PROVED: rust/proved.txt does not have the source of this file as it is.
 // Made from crates/arraystring_core/src/drain.rt by rust/erase. The proof is there. A change goes there.
 //! `Drain`: the characters that were removed from a string, from both ends. `traits` has its impls of traits.
 

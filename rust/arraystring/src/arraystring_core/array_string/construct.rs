@@ -1,4 +1,3 @@
-// NOT PROVED: rust/proved.txt does not have the source of this file as it is.
 // Made from crates/arraystring_core/src/array_string/construct.rt by rust/erase. The proof is there. A change goes there.
 //! The constructors: from a `&str`, from pieces, from characters and from bytes of UTF-8.
 

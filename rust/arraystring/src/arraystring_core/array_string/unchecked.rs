@@ -1,4 +1,3 @@
-// NOT PROVED: rust/proved.txt does not have the source of this file as it is.
 // Made from crates/arraystring_core/src/array_string/unchecked.rt by rust/erase. The proof is there. A change goes there.
 //! The calls that leave a test to the caller, of which most programs need none.
 

