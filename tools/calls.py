@@ -249,7 +249,7 @@ def faults_of_pages(root):
 
 def faults_of_made(root):
     """The files of the Rust crate that have other calls than their source: where rust/erase/run stops, it writes nothing."""
-    for file in sorted(root.glob("rust/arraystring/src/**/*.rs")):
+    for file in sorted((root / "rust/arraystring/src").rglob("*.rs")):
         origin = re.search(r"(?m)^// Made from (\S+) by ", read(file))
         there, due = (calls_of(read(it)) for it in (file, root / origin[1] if origin else file))
         for told, names in (("lacks", due - there), ("has", there - due)):
