@@ -796,13 +796,13 @@ pub const ADDED: &[Added] = &[
 
 /// The files by hand, and what is in each. Each other one is made of the source of its path.
 pub const BY_HAND: &[(&str, &str)] = &[
-    ("by_hand.rs", "it has the files below as its modules, and this page as its module `trust`"),
+    ("by_hand.rs", "it has some of the files below as its modules, and this page as its module `trust`"),
     (
         "by_hand/traits.rs",
-        "these are each one call of the string: `Deref`, `AsRef`, `Borrow`, `FromIterator`, `Extend`, `Index`, `AddAssign` and some \
-         `From`. `DerefMut` of `CacheString` lends the string inside. Comparisons with a `str`, on either side, are each one \
-         comparison of the texts. The file also has `Debug`, `Default`, `PartialEq` and `Eq` of `Steps`, and `Hash` of the errors of \
-         one case",
+        "these are each one call of the string: `AsRef`, `Borrow`, `FromIterator`, `Extend`, `Index`, `AddAssign`, `Deref` of \
+         `ArrayString`, and `From<&str>` of `CacheString`. `Deref` and `DerefMut` of `CacheString` lend the string inside. `==` with \
+         a `str` on either side, and `<` with one on the right, are each one comparison of the texts. The file also has `Debug`, \
+         `Default`, `PartialEq` and `Eq` of `Steps`, `Hash` of the errors of one case, and `From` of errors of `core` for an `Error`",
     ),
     (
         "by_hand/loan.rs",

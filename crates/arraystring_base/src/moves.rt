@@ -102,7 +102,7 @@ fn move_long_run(all: &mut [u8], from: usize, to: usize, len: usize)
     }
 }
 
-/// Moves `len` bytes: more than 64, and at most `N`. No test is made for sizes above `N`.
+/// Moves `len` bytes: more than 64, and at most `N`. The branches for sizes above `N` are left out.
 #[inline(always)]
 fn move_long_run_of_array<const N: usize>(all: &mut [u8], from: usize, to: usize, len: usize)
     requires source { from + len ≤ length all.old }
@@ -120,7 +120,7 @@ fn move_long_run_of_array<const N: usize>(all: &mut [u8], from: usize, to: usize
     }
 }
 
-/// Moves `len` bytes: fewer than 16, and at most `N`. No test is made for sizes above `N`.
+/// Moves `len` bytes: fewer than 16, and at most `N`. The branches for sizes above `N` are left out.
 #[inline(always)]
 fn move_short_run<const N: usize>(all: &mut [u8], from: usize, to: usize, len: usize)
     requires source { from + len ≤ length all.old }
@@ -226,7 +226,7 @@ fn write_long_run(all: &mut [u8], given: &[u8], at: usize)
     write_by_call(all, at, given);
 }
 
-/// Writes `given`: fewer than 16 bytes, and at most `N`. No test is made for sizes above `N`.
+/// Writes `given`: fewer than 16 bytes, and at most `N`. The branches for sizes above `N` are left out.
 #[inline(always)]
 fn write_short_run<const N: usize>(all: &mut [u8], at: usize, given: &[u8])
     requires room { at + length given.now ≤ length all.old }

@@ -232,7 +232,8 @@ fn any_number_of_reads_is_gone_on_with(rt: HostRuntime) {
     }
 }
 
-/// For each word, and for each byte of the script and its end, a read before it fails. Each is reported.
+/// With each word, the read before each byte of the script fails, and so does the one at its end. Each failure
+/// is reported.
 #[test]
 fn failed_reads_are_served(rt: HostRuntime) {
     for word in WORDS {
@@ -254,8 +255,7 @@ fn failed_reads_are_served(rt: HostRuntime) {
     }
 }
 
-/// For each byte of the output, a write before it fails or takes nothing. After the last byte, the flush
-/// fails.
+/// The write before each byte of the output fails, or takes nothing. After the last byte, the flush fails.
 #[test]
 fn failed_writes_are_served(rt: HostRuntime) {
     let whole = OUTPUT.as_bytes();

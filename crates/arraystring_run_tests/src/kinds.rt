@@ -66,8 +66,8 @@ fn no_kind_is_left_out(rt: HostRuntime) {
     agree(&rt, "the last place", ErrorKind::Uncategorized as u8, 41);
 }
 
-/// For each byte of the script and for its end, a read before it fails with each kind of error. Only an
-/// interrupted read is tried again.
+/// With each kind of error, the read before each byte of the script fails, and so does the one at its end.
+/// Only an interrupted read is tried again.
 #[test]
 fn reads_of_each_kind(rt: HostRuntime) {
     for kind in KINDS {
@@ -114,7 +114,7 @@ fn plays_into(
     (played, buffered.output)
 }
 
-/// For each byte of the output, a write before it fails with each kind of error, with a buffer and without.
+/// With each kind of error, the write before each byte of the output fails, with a buffer and without.
 #[test]
 fn writes_of_each_kind(rt: HostRuntime) {
     let whole = OUTPUT.as_bytes();

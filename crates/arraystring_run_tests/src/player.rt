@@ -160,7 +160,8 @@ fn scripts_of_three_mebibytes_are_played(rt: HostRuntime) {
     }
 }
 
-/// For each number up to 300, the line of this number is the first bad one. Other bad lines follow it.
+/// For each number up to 300, the line of this number is the first bad one. In all cases but the last, other bad
+/// lines follow it.
 #[test]
 fn the_first_bad_line_is_reported(rt: HostRuntime) {
     for number in 1..=300usize {

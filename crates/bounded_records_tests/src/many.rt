@@ -3,8 +3,8 @@ use super::users::{agree, finds, user};
 use bounded_records::{Directory, User};
 use std::process::Abort;
 
-/// How many users are put in: 2^16 and 64 more. If none of 2, 5 and 41 divides a factor, its order takes each
-/// user once.
+/// How many users are put in: 2^16 and 64 more. `at_turn` multiplies by 30011, which none of 2, 5 and 41
+/// divides. So it takes each user once.
 const USERS: u32 = 65_600;
 
 /// How many users are changed, and then removed. After that, fewer than 2^16 are left.

@@ -5,7 +5,7 @@ use std::io::{ErrorKind, Write};
 
 /// Takes at most `step` bytes a write. After the first `room` bytes, `faults` writes fail: each returns
 /// the error `kind`, or takes nothing if there is no `kind`. After each later write that succeeds, `again`
-/// writes fail in the same way. A flush fails if `flushes` is false.
+/// writes fail in the same way. `again` is 0 or `faults`. A flush fails if `flushes` is false.
 #[derive(Drop)]
 pub struct FakeWriter {
     pub taken: Vec<u8>,

@@ -23,8 +23,8 @@ fn prefix(text: &str, most: usize) -> &str {
     text
 }
 
-/// Asserts that the string that is read from a JSON text has the text `wanted`. Asserts that it is written as
-/// the same JSON text, and read back from it.
+/// Asserts that the string that is read from the JSON text `given` has the text `wanted`, is written as a JSON
+/// text of `wanted`, and is read back from that.
 fn kept<S: Json>(rt: &(impl Abort + AllocGlobal), given: &Value, wanted: &str) {
     let string = S::read(given).expect(rt, "a string of a JSON text");
     agree(rt, wanted, string.text(), wanted);
