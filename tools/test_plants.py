@@ -6,7 +6,7 @@ from unittest import mock
 import plants
 import trusted
 from planted import TreeTest
-from repository import read
+from repository import ROOT, read
 
 # Says what stands in the file `said` of the crate, if it is called as it has to be, and ends as the last line of that says.
 STAND_IN = """\
@@ -192,6 +192,10 @@ class Plants(TreeTest):
     def test_what_is_wrong_with_a_crate_is_seen_when_it_is_over_and_the_counts_are_told_last(self):
         self.says(more=ends("numbers_more"))
         self.assertEqual(self.seen_at_once(plants), gone(ROWS[5]))
+
+    def test_the_rows_of_this_repository_name_functions_that_are_there(self):
+        self.root = ROOT
+        self.assertEqual(self.told(plants, "--check")[0], False)
 
     def test_the_crates_that_callers_use_are_the_libraries(self):
         self.assertIs(LIBRARIES, trusted.LIBRARIES)
