@@ -36,6 +36,7 @@ from collections import Counter
 from contextlib import ExitStack
 from pathlib import Path
 
+import listed
 from closure import closed
 from repository import read
 from repository_copy import copied
@@ -316,12 +317,6 @@ def tried(root, asked, end):
     return fates
 
 
-def listed(root):
-    """The names of the changes that nobody can see."""
-    lines = read(root / LISTED).splitlines()
-    return [it.strip() for it in lines if it.startswith("    ")]
-
-
 def files(root):
     """The files of Python that are tried: modules, and programs, of which the first line says what they are."""
     for file in (it for folder in FOLDERS for it in sorted((root / folder).glob("*")) if it.is_file()):
@@ -372,7 +367,7 @@ def tell_end(count, asked, start):
 
 def sample(root, asked, day, seconds):
     """Tries changes in the order of a day while there is time; whether one survives."""
-    known, start = listed(root), time.monotonic()
+    known, start = listed.rows(root, LISTED), time.monotonic()
     asked = [it for it in asked if it[1] not in known]
     random.Random(day).shuffle(asked)
     fates = tried(root, asked, start + seconds)
@@ -383,7 +378,7 @@ def sample(root, asked, day, seconds):
 
 def whole(root, some, asked):
     """Tries all changes of some files, and writes down those where all is as it has to be; whether there are others."""
-    known, start, tried_now = listed(root), time.monotonic(), checksums(root, some)
+    known, start, tried_now = listed.rows(root, LISTED), time.monotonic(), checksums(root, some)
     fates = tried(root, asked, None)
     survivors = told(fates, known)
     if len(fates) < len(asked):

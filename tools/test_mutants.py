@@ -129,8 +129,7 @@ class Changes(TreeTest):
 class Fates(TreeTest):
     """What is asked of which tests, where nothing is run."""
 
-    FILES = {SUMS: TOOL, "rust/equivalent.txt": "It is so.\n    tools/a.py: f: `1` for `2`\n\n    tools/b.py: f: `1` for `2`\n",
-             "tools/tried.txt": ""}
+    FILES = {SUMS: TOOL, "rust/equivalent.txt": "", "tools/tried.txt": ""}
 
     def test_the_tests_that_reach_a_tool_are_asked_the_nearest_first(self):
         for file, text in (
@@ -173,9 +172,6 @@ class Fates(TreeTest):
             self.assertEqual(self.seen((status, 9), tests=["test_b"])[0], f"test_b{said}")
         self.assertEqual(read(self.root / SUMS), TOOL)
         self.assertRaisesRegex(SystemExit, "^test_a fails without a change$", self.seen, (1, 9))
-
-    def test_what_nobody_can_see_is_listed_below_its_reason(self):
-        self.assertEqual(mutants.listed(self.root), ["tools/a.py: f: `1` for `2`", "tools/b.py: f: `1` for `2`"])
 
     def test_files_are_the_modules_and_the_programs_of_python_that_are_no_tests(self):
         python, wanted = "#!/usr/bin/env python3\n", ["bench/a.py", "bench/run", "rust/bench/b.py", "tools/a.py", "tools/run", SUMS]

@@ -65,7 +65,7 @@ class Door(unittest.TestCase):
             self.assertEqual(status, 2)
             commands = re.search(r"The commands are (.*)\.", said)[1].split(", ")
             wanted = {"check", "trusted", "words", "promises", "dead", "imported", "equality", "quotes", "calls", "evidence",
-                      "controls", "reasons", "proved", "cost", "goals", "refused", "mutants"}
+                      "controls", "reasons", "proved", "cost", "goals", "refused", "plants", "mutants"}
             self.assertEqual({*commands}, wanted)
 
     def test_each_command_says_what_it_does(self):
@@ -74,7 +74,8 @@ class Door(unittest.TestCase):
             self.assertEqual((status, len(said) > 100), (0, True), said)
 
     def test_a_crate_that_is_not_there_is_refused(self):
-        for words in (["cost", "letters"], ["goals", "letters"], ["controls", "letters"], ["controls", "--edits"]):
+        for words in (["cost", "letters"], ["goals", "letters"], ["plants", "letters"], ["controls", "letters"],
+                      ["controls", "--edits"]):
             self.assertEqual(self.called(*words), (1, f"tools/run {words[0]}: no crate is named {words[1]}\n"))
 
     def test_a_reader_that_has_seen_enough_is_told_nothing(self):
