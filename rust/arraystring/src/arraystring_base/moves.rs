@@ -120,7 +120,7 @@ pub unsafe fn move_bytes(all: &mut [u8], from: usize, to: usize, len: usize) {
     unsafe { copy_within_unchecked!(all, from..from + len, to) };
 }
 
-/// Moves `len` bytes: more than 64, and at most `N`. No test is made for sizes above `N`.
+/// Moves `len` bytes: more than 64, and at most `N`. The branches for sizes above `N` are left out.
 ///
 /// # Safety
 ///
@@ -149,7 +149,7 @@ unsafe fn move_long_run_of_array<const N: usize>(all: &mut [u8], from: usize, to
     unsafe { move_bytes(all, from, to, len) };
 }
 
-/// Moves `len` bytes: fewer than 16, and at most `N`. No test is made for sizes above `N`.
+/// Moves `len` bytes: fewer than 16, and at most `N`. The branches for sizes above `N` are left out.
 ///
 /// # Safety
 ///
@@ -317,7 +317,7 @@ unsafe fn write_long_run(all: &mut [u8], given: &[u8], at: usize) {
     unsafe { write_by_call(all, at, given) };
 }
 
-/// Writes `given`: fewer than 16 bytes, and at most `N`. No test is made for sizes above `N`.
+/// Writes `given`: fewer than 16 bytes, and at most `N`. The branches for sizes above `N` are left out.
 ///
 /// # Safety
 ///

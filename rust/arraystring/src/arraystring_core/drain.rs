@@ -24,8 +24,8 @@ mod traits;
 #[derive(Clone, Copy)]
 pub struct Drain<const N: usize> {
     // The numbers lie before the array: so the compiler knows that no read of a byte of it reads them.
-    /// What is left begins at this index of the removed text. The index is a boundary, so it is at most
-    /// `size`.
+    /// What is left begins at this index of the removed text. It is a boundary of the first `size` bytes of
+    /// that text, so it is at most `size`.
     front: u8,
     /// The offset of the removed text. `start + size` is at most the lesser of `N` and 255.
     start: u8,
