@@ -124,6 +124,20 @@ fn the_list_has_a_reason_above_its_names_and_each_is_a_change() {
     assert!(stale.is_empty(), "no such changes: {stale:#?}");
 }
 
+/// Each part that can be built has its day, in turn. Without a sample all are tried.
+#[test]
+fn each_part_has_a_day_of_the_samples() {
+    let name_at = |day, has_serde| subjects(Some((day, 60)), has_serde).iter().map(|it| it.name).collect::<Vec<_>>();
+    let names: Vec<_> = (0..8).map(|day| name_at(day, true)).collect();
+    assert_eq!(names, [["arraystring"], ["arraystring_serde"], ["compare"], ["meaning"]].repeat(2));
+    let names: Vec<_> = (0..6).map(|day| name_at(day, false)).collect();
+    assert_eq!(names, [["arraystring"], ["compare"], ["meaning"]].repeat(2));
+    assert_eq!(subjects(None, false).len(), 4);
+    let packages =
+        std::process::Command::new("sh").args(["-c", "ls -d /usr/share/cargo/registry/serde_json-*"]).output();
+    assert_eq!(has_serde(), packages.expect("a shell").status.success());
+}
+
 /// What a macro makes is changed as what stands in the file, and so are the attributes inside of a body.
 #[test]
 fn what_a_macro_makes_is_changed() {
