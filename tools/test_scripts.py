@@ -120,7 +120,9 @@ class Gate(ScriptTest):
         os.utime(self.root / self.PROGRAM, (0, 0))
         self.proves(self.RAN, self.RAN)
         self.refuses("144 growths of 44 calls, in 13 builds, 0 differ")
+        self.stand_in("bin/date", "echo 332")
         self.stand_in("bin/cargo")
+        self.stand_in("rust/mutants", "echo 'mutants: 60 changes were tried in 59 seconds'")
         self.checks("0 skipped")
         self.stand_in("crates/arraystring_cli/try", self.TRIED)
 
@@ -128,9 +130,10 @@ class Gate(ScriptTest):
         """`rt ci` does this, and leaves a program."""
         self.stand_in("bin/rt", program, *lines)
 
-    def refuses(self, count, status=0):
-        """`tools/run refused` says this, and ends so."""
-        self.stand_in("tools/run", f"[ $1 != refused ] || {{ echo 'refused: {count}'; exit {status}; }}")
+    def refuses(self, count, status=0, sampled="7 of 9 changes of the tools were tried in 60 seconds"):
+        """`tools/run refused` says this, and ends so; `tools/run mutants` says what it tried."""
+        self.stand_in("tools/run", f"[ $1 != mutants ] || echo '{sampled}'",
+                      f"[ $1 != refused ] || {{ echo 'refused: {count}'; exit {status}; }}")
 
     def checks(self, skipped):
         self.stand_in("rust/check", f"echo 'rust/check: 12 passed, {skipped}'")
@@ -163,6 +166,17 @@ class Gate(ScriptTest):
             self.assert_refused("growths were refused, and 144 are due")
         self.refuses("144 growths of 44 calls, in 13 builds, 0 differ", status=1)
         self.assert_refused("")
+
+    def test_a_sample_that_tried_no_change_is_refused(self):
+        refused = "144 growths of 44 calls, in 13 builds, 0 differ"
+        for said in ("0 of 9 changes of the tools were tried in 60 seconds", "nothing"):
+            self.refuses(refused, sampled=said)
+            said = self.assert_refused("run: the sample has tried no change")
+            self.assertNotIn("all memory is taken", said)
+        self.refuses(refused)
+        for said in ("mutants: 0 changes were tried in 120 seconds", "mutants: built"):
+            self.stand_in("rust/mutants", f"echo '{said}'")
+            self.assert_refused("run: the sample has tried no change")
 
     def test_where_there_is_no_cargo_it_says_what_was_not_checked(self):
         (self.root / "bin/cargo").unlink()
