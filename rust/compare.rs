@@ -164,23 +164,16 @@ impl Lexer<'_> {
         if self.language == Language::Rattle {
             return fault(line, "a comment of the form `/* */`: each line of a source has its own `//`");
         }
-        let mut depth = 0;
-        loop {
+        self.pass(2);
+        let mut depth = 1;
+        while depth > 0 {
             let Some(next) = self.rest().find(['/', '*']) else { return fault(line, "a comment without its end") };
             self.pass(next);
-            match (self.starts("/*"), self.starts("*/")) {
-                (true, _) => depth += 1,
-                (_, true) => depth -= 1,
-                _ => {
-                    self.pass(1);
-                    continue;
-                }
-            }
-            self.pass(2);
-            if depth == 0 {
-                return Ok(());
-            }
+            let (opens, closes) = (self.starts("/*"), self.starts("*/"));
+            depth += i32::from(opens) - i32::from(closes);
+            self.pass(if opens || closes { 2 } else { 1 });
         }
+        Ok(())
     }
 
     fn push(&mut self, kind: Kind, from: (usize, usize)) {

@@ -1053,6 +1053,8 @@ fn each_literal_is_one_token() {
         ("a/*/ b */c", &["a", "c"]),
         ("a/* /* */* */c", &["a", "c"]),
         ("a/***/c", &["a", "c"]),
+        ("a/* /*/ */ */c", &["a", "c"]),
+        ("a/* é */c", &["a", "c"]),
         ("a/**/b//c\nd", &["a", "b", "d"]),
     ] {
         assert_eq!(shown_tokens(text), wanted, "{text}");
