@@ -42,7 +42,7 @@ fn fault<T>(line: usize, why: impl Into<String>) -> Result<T, Fault> {
     Err(Fault { line, why: why.into() })
 }
 
-#[derive(Clone, Copy, PartialEq, Debug)]
+#[derive(Clone, PartialEq, Debug)]
 pub enum Kind {
     Word,
     Number,
