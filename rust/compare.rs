@@ -1326,15 +1326,17 @@ fn as_in_source(made: &Item, source: &Item, reading: &mut Reading) -> Item {
 
 /// Names that a law or a rewrite knows: those of the list, and those of a call or a macro that a pattern begins with.
 fn known_names() -> BTreeSet<String> {
-    let first = |text: &str| {
-        let tokens = pattern(text);
-        let pair = tokens.windows(2).find(|pair| !pair[0].is("*"))?;
-        (pair[1].is("(") || pair[1].is("!")).then(|| pair[0].text.clone())
-    };
-    let patterns = REWRITES.iter().flat_map(|rewrite| [rewrite.made, rewrite.source]).filter_map(first);
+    let patterns = REWRITES.iter().flat_map(|rewrite| [rewrite.made, rewrite.source]).filter_map(first_name);
     let listed =
         KNOWN_NAMES.iter().map(|(name, _)| *name).chain(["required", "required_of_each", "prove"]).map(str::to_string);
     patterns.chain(listed).collect()
+}
+
+/// The name of the call or the macro that a pattern begins with, or none. A `*` may stand before it.
+fn first_name(text: &str) -> Option<String> {
+    let tokens = pattern(text);
+    let pair = tokens.windows(2).find(|pair| !pair[0].is("*"))?;
+    (pair[1].is("(") || pair[1].is("!")).then(|| pair[0].text.clone())
 }
 
 /// No name that is known is that of something in the function.

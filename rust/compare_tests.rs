@@ -276,11 +276,16 @@ static NONE: Lists =
 
 /// The differences of a small source and a small made file, by lists.
 fn pair(lists: &'static Lists, source: &str, made: &str) -> Vec<String> {
-    let (path, text) = ("crates/arraystring_base/src/a.rt", source);
-    let made = format!("// Made from {path} by rust/erase.\n{made}");
+    pair_of("a", lists, source, made)
+}
+
+/// The same of files of a name.
+fn pair_of(name: &str, lists: &'static Lists, source: &str, made: &str) -> Vec<String> {
+    let there = format!("crates/arraystring_base/src/{name}.rt");
+    let made = format!("// Made from {there} by rust/erase.\n{made}");
     let names = ["put", "from_utf8_unchecked"].map(str::to_string).into();
-    let here = File { path: "rust/arraystring/src/arraystring_base/a.rs", text: &made };
-    differences(lists, &names, File { path, text }, here)
+    let here = format!("rust/arraystring/src/arraystring_base/{name}.rs");
+    differences(lists, &names, File { path: &there, text: source }, File { path: &here, text: &made })
 }
 
 #[track_caller]
@@ -648,6 +653,7 @@ fn what_is_required_makes_a_function_unsafe() {
     same(source, "unsafe fn f(a: u8) {\n    g(a);\n}\n");
     differs(source, "fn f(a: u8) {\n    g(a);\n}\n", "is no `unsafe fn`, and the list does not say why");
     differs("fn f(a: u8) {\n    g(a);\n}\n", "unsafe fn f(a: u8) {\n    g(a);\n}\n", "for `fn f");
+    differs(&source.replace("requires", "ensures"), "unsafe fn f(a: u8) {\n    g(a);\n}\n", "for `fn f");
     let pointer = source.replace("a: u8", "a: u8, b: fn(u8)");
     differs(&pointer, "fn f(a: u8, b: unsafe fn(u8)) {\n    g(a);\n}\n", "for `u8 , b : fn");
     // (a call of a safe function may be where its clause does not hold)
@@ -865,6 +871,10 @@ fn a_name_that_is_known_is_named_where_it_stands_first() {
     for source in ["struct A {\n    look: u8,\n}\n", "const A: u8 = look;\n"] {
         same(source, source);
     }
+    // (the function whose name it is has it)
+    let look = "fn look(a: u8) {}\n";
+    assert_eq!(pair_of("steps", &NONE, look, look), [""; 0]);
+    differs(look, look, "`arraystring_base::a::look` has the name");
 }
 
 #[test]
@@ -887,6 +897,10 @@ fn each_side_is_compared_without_its_free_commas() {
         same(commas, made);
         assert_eq!(pair(&LISTED, "", made), [""; 0]);
     }
+    // (that of a tuple is not free)
+    let no_tuple = plain.replace("(c,)", "(c)");
+    differs(plain, &no_tuple, "for `");
+    assert!(pair(&LISTED, "", &no_tuple)[0].contains("for `"));
 }
 
 #[test]
@@ -1148,6 +1162,7 @@ fn what_is_no_program_is_refused_at_its_line() {
         ("fn f() {}\nuse 1;\n", "2: a `use` that is no tree of names"),
         ("fn f() {}\nfn g(str: u8) {}\n", "2: `str` as the name of a parameter"),
         ("fn f(\n    str: u8,\n    core: u8,\n) {}\n", "2: `str` as the name of a parameter"),
+        ("fn f(\n    str\n    : u8,\n) {}\n", "2: `str` as the name of a parameter"),
         ("fn f() {}\nfn g(str:", "2: `str` as the name of a parameter"),
         (
             "fn f() {}\npub static A: u8 = 1;\n",
@@ -1523,6 +1538,16 @@ fn a_pattern_matches_what_it_says() {
     let known = "copy_from_slice_unchecked get_unchecked get_unchecked_mut look look_unchecked only_reading prove required \
                  required_of_each text_fits unreachable unreachable_unchecked";
     assert_eq!(known_names().into_iter().collect::<Vec<_>>().join(" "), known);
+    for (text, wanted) in [
+        ("f(a)", Some("f")),
+        ("f!(a)", Some("f")),
+        ("*f!(a)", Some("f")),
+        ("f[a]", None),
+        ("*f[g(a)]", None),
+        ("f", None),
+    ] {
+        assert_eq!(first_name(text).as_deref(), wanted, "{text}");
+    }
 }
 
 /// The strict keywords of the Rust Reference, and `yield`, which it reserves.
@@ -1715,6 +1740,7 @@ fn what_a_proof_alone_has_is_left_out_where_it_stands() {
     let source = |body: &str| format!("{uses}fn f(a: u8) {{\n    {body}\n}}\n");
     same(&source("only_reading(a); if a { only_reading(a); } only_reading(a);"), "fn f(a: u8) { if a { } }\n");
     differs(&source("let b = only_reading(a);"), "fn f(a: u8) { let b = ; }\n", "for `");
+    differs(&source("return only_reading(a);"), "fn f(a: u8) { return }\n", "for `");
     let requires = "pub(crate) fn f()\n    requires { c }\n{}\n";
     same(requires, "pub(crate) unsafe fn f() {}\n");
     differs(&requires.replace("(crate)", ""), "pub unsafe fn f() {}\n", "does not say how it tests what it requires");
