@@ -903,8 +903,8 @@ impl Check {
     /// No name of the sources stands for what an access macro is called or calls.
     fn names(&mut self, program: &Program, files: &Files) {
         for part in program.sources.iter().chain(&program.made) {
-            let name = part.last().rsplit([' ', ':']).next();
-            if name.is_some_and(|name| program.access.has(name)) {
+            let name = part.last().rsplit([' ', ':']).next().unwrap_or_default();
+            if program.access.has(name) {
                 self.refused.push(part.refused(part.item.line, TAKEN_NAME));
             } else if is_of_places(&part.item) {
                 self.refused.push(part.refused(part.item.line, OWN_PLACES));

@@ -647,6 +647,7 @@ fn an_operand_is_bound_before_its_index() {
         "let part = &all[{ count += 1; count }..]",
         "all[1..count].copy_from_slice(pick(&mut count, all))",
         "count += self.step()",
+        "count += pick(count, all)",
         "count -= { count = 1; count }",
     ] {
         let found = refused(&pair(&source(body), &source(body)), &RULES);
@@ -662,6 +663,7 @@ fn an_operand_is_bound_before_its_index() {
         "if all[count] == part[count] { count += 1; }",
         "if count == 1 { count += count } else { count = 1 }",
         "count = self.step()",
+        "count += 1; count = self.step()",
         "let more: [u8; 3] = [1; 3]",
     ] {
         passes(&source(body), &source(body));
@@ -1213,6 +1215,7 @@ fn what_is_told_has_its_status() {
     let with = |words: &[&str]| outcome(["meaning"].iter().chain(words).map(|word| word.to_string()));
     let all = format!("meaning: {} entries of lists say why both languages mean the same\n", entries(&LISTS).len());
     assert_eq!(with(&["--root", root.to_str().expect("a path")]), (0, all));
+    assert_eq!(with(&[]), with(&["--root", ""]));
     for words in [&["--other", "a"][..], &["--root"], &["--root", "a", "b"]] {
         assert_eq!(with(words), (2, "meaning: the arguments are [--root FOLDER]\n".to_string()));
     }
@@ -1352,6 +1355,7 @@ fn what_may_write_takes_something_to_write() {
         ("fn f(f: &mut fmt::Other<'_>) { g(f) }", true),
         ("fn f<H: Hasher>(state: &mut H) { g(state) }", false),
         ("fn f<H: Other>(state: &mut H) { g(state) }", true),
+        ("fn f<H: Hasher>(state: &mut H, a: &mut u8) { g(state) }", true),
     ] {
         assert_eq!(may_write(&part_of(function, "fn f"), &program), wanted, "{function}");
     }
