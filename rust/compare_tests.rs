@@ -408,6 +408,10 @@ fn a_path_is_compared_as_what_it_means_here() {
     {
         differs(item, item, "as the name of a parameter");
     }
+    for name in ["std", "core", "alloc", "crate", "char", "str", "Model", "Drop", "arraystring", "arraystring_base"] {
+        let item = format!("type {name} = u8;\n");
+        differs(&item, &item, "has the name of a crate");
+    }
     differs("pub use b::c;\n", "use b::c;\n", "visibility");
     differs("use b::c as _;\n", "use b::c;\n", "::use b::c as _` is missing");
     differs("use super::b::*;\n", "use super::b::*;\n", "a `use` of all names");
