@@ -4,7 +4,7 @@
 //!     rust/mutants                        all files, some hours: before a release
 //!     rust/mutants FILE..                 these, some minutes each: who changes one
 //!     rust/mutants FILE:FUNCTION..        these functions, as --list names them
-//!     rust/mutants --sample DAY SECONDS   as many as fit into the time, chosen by the number DAY
+//!     rust/mutants --sample DAY SECONDS   as many as fit into the time behind the first build, chosen by the number DAY
 //!     rust/mutants --list FILE..          prints the changes and runs nothing
 //!
 //! The files are those by hand, those of the crate for serde, the made files of the places that `lists.rs` says run another body than
@@ -641,6 +641,8 @@ struct Run<'a> {
     fates: Vec<Fate>,
     /// Those of which the list says that nobody can see them.
     listed: BTreeSet<usize>,
+    /// How long changes of a sample are tried, and when that ends: it begins behind the first build.
+    seconds: Option<u64>,
     end: Option<Instant>,
     /// Those that are tried now: a part, and whether also of the list.
     part: Range<usize>,
@@ -667,7 +669,7 @@ impl<'a> Run<'a> {
         subject: &'a Subject,
         mut mutants: Vec<Mutant>,
         listed: &BTreeMap<String, String>,
-        end: Option<Instant>,
+        seconds: Option<u64>,
     ) -> Self {
         let mut switches = BTreeMap::new();
         for mutant in &mut mutants {
@@ -677,7 +679,7 @@ impl<'a> Run<'a> {
         }
         let fates = vec![Fate::NotTried; mutants.len()];
         let listed = (0..mutants.len()).filter(|at| listed.contains_key(&mutants[*at].name())).collect();
-        Run { root, subject, mutants, fates, listed, end, part: 0..0, has_listed: true }
+        Run { root, subject, mutants, fates, listed, seconds, end: None, part: 0..0, has_listed: true }
     }
 
     /// What a changed program is told, so that it makes some changes.
@@ -854,6 +856,8 @@ impl<'a> Run<'a> {
     /// What the list has, and what is left for later builds, is hardly ever seen, and runs together.
     fn try_switched(&mut self, tree: &Tree, build: &Build, is_first: bool) -> Result<(), String> {
         let units = self.tests(tree, build)?;
+        let seconds = self.seconds.map(Duration::from_secs);
+        self.end = self.end.or_else(|| seconds.map(|seconds| Instant::now() + seconds));
         let left = self.left();
         eprintln!("mutants: {} {}: {} changes in one build", self.subject.name, build.name, left.len());
         let (one_by_one, together): (Vec<_>, Vec<_>) =
@@ -1250,8 +1254,7 @@ fn run_all(root: &Path, asked: &Asked) -> Result<bool, String> {
         if mutants.is_empty() {
             continue;
         }
-        let end = asked.sample.map(|(_, seconds)| start + Duration::from_secs(seconds));
-        let mut run = Run::new(root, subject, mutants, &listed, end);
+        let mut run = Run::new(root, subject, mutants, &listed, asked.sample.map(|(_, seconds)| seconds));
         run.all()?;
         tried += run.fates.iter().filter(|fate| matches!(fate, Fate::Seen(_) | Fate::Survived)).count();
         is_well &= told(&run, &listed, &mut met);

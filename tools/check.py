@@ -73,7 +73,7 @@ def tests(arguments, root):
 # The parts, each with the words of its call, and what it has to say that it looked at, with the least number. A search that finds
 # less than there is fails at nothing else. So these are near what there is: what grows by more than a tenth is written here again.
 PARTS = [
-    (tests, [], ["395 tests of the tools"]),
+    (tests, [], ["397 tests of the tools"]),
     (trusted.main, [], ["run: 65 definitions", "all public contracts: 200 definitions"]),
     (words.main, [], ["22 rows of docs/definitions.md"]),
     (promises.main, [], ["189 promises"]),

@@ -4,7 +4,7 @@ rust/mutants does the same for what Rust has without a proof.
 
 tools/run mutants                       all files, some hours: before a release
 tools/run mutants FILE..                these, some minutes each: who changes one (tools/quotes.py)
-tools/run mutants --sample DAY SECONDS  as many as fit into the time, chosen by the number DAY
+tools/run mutants --sample DAY SECONDS  as many as fit into the time, of the files whose turn it is, by the number DAY
 tools/run mutants --list FILE..         prints the changes and runs nothing
 tools/run mutants --tried               says which files were not tried as they are now, and fails where there are such
 
@@ -46,6 +46,8 @@ FOLDERS = ["bench", "rust/bench", "tools"]
 # What a call may begin with, and of how many words that is.
 OPTIONS = {"--list": 1, "--tried": 1, "--sample": 3}
 WORKERS = 2
+# Of how many files a sample is: to find the changes of all takes half a minute.
+SAMPLED = 4
 # For how many seconds of a processor each file of tests may go on, and for how many of the clock.
 LEAST, LONGEST = 10, 600
 TOO_LONG = (-signal.SIGXCPU, -signal.SIGKILL)
@@ -289,12 +291,12 @@ def seen_by(tree, file, text, tests, usual):
 
 
 def work(tree, asked, tests, end, fates):
-    """Tries changes in a copy of the repository while there is time, and hands on the name of each with what saw it; None at the
-    end."""
+    """Tries the first change in a copy of the repository, and others while there is time. Hands on the name of each with what saw
+    it; None at the end."""
     usual = {}
     try:
-        for file, name, text in asked:
-            if end is None or time.monotonic() < end:
+        for number, (file, name, text) in enumerate(asked):
+            if number == 0 or end is None or time.monotonic() < end:
                 fates.put((name, seen_by(tree, file, text, tests[file], usual)))
     finally:
         fates.put(None)
@@ -365,6 +367,12 @@ def tell_end(count, asked, start):
     print(f"{count} of {len(asked)} changes of the tools were tried in {time.monotonic() - start:.0f} seconds")
 
 
+def of_day(some, day):
+    """The files whose turn it is on a day."""
+    turns = max(len(some) // SAMPLED, 1)
+    return some[day % turns::turns]
+
+
 def sample(root, asked, day, seconds):
     """Tries changes in the order of a day while there is time; whether one survives."""
     known, start = listed.rows(root, LISTED), time.monotonic()
@@ -403,7 +411,9 @@ def main(arguments, root):
         return f"no file that is tried is named {unknown[0]}"
     if words == ["--tried"]:
         return tell_tried(root)
-    asked = [(file, name, text) for file in some for name, text in mutants(root, file)]
+    sampled = [int(it) for it in words[1:]]
+    chosen = of_day(some, sampled[0]) if sampled else some
+    asked = [(file, name, text) for file in chosen for name, text in mutants(root, file)]
     if words == ["--list"]:
         return tell_changes(asked)
-    return sample(root, asked, *map(int, words[1:])) if words else whole(root, some, asked)
+    return sample(root, asked, *sampled) if sampled else whole(root, some, asked)

@@ -284,6 +284,19 @@ class Fates(TreeTest):
         self.assertEqual(len({tuple(it) for it in orders}), 3)
         self.assertNotIn(self.SURVIVES, orders[0])
 
+    def test_each_file_has_its_day_in_turn(self):
+        for count, turns in ((0, 1), (1, 1), (4, 1), (7, 1), (8, 2), (43, 10)):
+            some = [f"{it:02}.py" for it in range(count)]
+            days = [mutants.of_day(some, it) for it in range(turns)]
+            self.assertEqual(sorted(sum(days, [])), some)
+            self.assertEqual([mutants.of_day(some, it + 3 * turns) for it in range(turns)], days)
+            self.assertTrue(all(4 <= len(it) < 8 for it in days) or count < 4, days)
+        for it in range(8):
+            self.write(f"tools/more{it}.py", "A = 1\n")
+        for day, names in (("6", ("more0", "more2", "more4", "more6", "sums")), ("7", ("more1", "more3", "more5", "more7"))):
+            self.main_told("--sample", day, "100")
+            self.assertEqual({it.partition(":")[0] for it in self.asked[0][0]}, {f"tools/{it}.py" for it in names})
+
     def test_what_survives_in_a_sample_is_told_and_fails(self):
         self.assertEqual(self.main_told("--sample", "7", "100", SUMS), (True, self.COUNTS + self.TRIED.format(9)))
 
@@ -327,7 +340,7 @@ class Mutants(TreeTest):
         self.assertEqual(self.told(mutants, SUMS), (True, "0 of 9 changes were tried"))
 
     def test_changes_are_tried_in_two_copies_without_what_is_made_and_until_the_time_is_over(self):
-        """Each copy has the code of its tools, which is made once."""
+        """Each copy has the code of its tools, which is made once. The first change of each is tried, however late it is."""
         self.write("out/made", "")
         self.write("deep/target/made", "")
         self.write("deep/other.py", "")
@@ -338,11 +351,11 @@ class Mutants(TreeTest):
         self.put(mutants, "copied", lambda *words, copied=mutants.copied: copies.append(words) or copied(*words))
         asked = [(SUMS, name, text) for name, text in mutants.mutants(self.root, SUMS)]
         self.put(time, "monotonic", lambda: 1000)
-        for end, count in ((None, 9), (1001, 9), (1000, 0)):
+        for end, count in ((None, 9), (1001, 9), (1000, 2), (0, 2)):
             with redirect_stdout(io.StringIO()) as said, redirect_stderr(io.StringIO()):
                 self.assertEqual(mutants.tried(self.root, asked, end), {name: "test_sums" for _, name, _ in asked[:count]})
             self.assertEqual(said.getvalue(), "")
-        self.assertEqual(copies, [(self.root, "out", "target")] * 6)
+        self.assertEqual(copies, [(self.root, "out", "target")] * 8)
 
 
 class Runs(TreeTest):
