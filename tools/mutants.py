@@ -369,7 +369,7 @@ def tell_end(count, asked, start):
 
 def of_day(some, day):
     """The files whose turn it is on a day."""
-    turns = max(len(some) // SAMPLED, 1)
+    turns = len(some) // SAMPLED or 1
     return some[day % turns::turns]
 
 
@@ -416,4 +416,4 @@ def main(arguments, root):
     asked = [(file, name, text) for file in chosen for name, text in mutants(root, file)]
     if words == ["--list"]:
         return tell_changes(asked)
-    return sample(root, asked, *sampled) if sampled else whole(root, some, asked)
+    return sample(root, asked, *sampled) if words else whole(root, some, asked)
