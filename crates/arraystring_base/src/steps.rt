@@ -3,9 +3,9 @@ ghost use Rattle.std.specs.Prelude.{◌≡◌, ◌+◌, ◌-◌, ◌^◌, ◌<�
 
 use std::marker::Model;
 
-/// Counts the looks and the moves of calls that end in `_counted`. A look is one call of `look`. A move is
-/// one byte that `shift` takes to another offset. Bytes that a call reads without `look` are not counted.
-/// Most programs need no such counter.
+/// Most programs need no counter. A `Steps` counts the looks and the moves of calls that end in `_counted`.
+/// A look is one call of `look`. A move is one byte that `shift` takes to another offset. Bytes that a call
+/// reads without `look` are not counted.
 ///
 /// # Examples
 ///
@@ -92,8 +92,8 @@ impl Steps {
     }
 }
 
-/// Returns the byte of `bytes` at the index `at`, and counts one look in `steps`. Most programs need
-/// no count, and write `bytes[at]`.
+/// Most programs need no count, and write `bytes[at]`. This call returns that byte, and counts one look
+/// in `steps`.
 ///
 /// # Precondition
 ///

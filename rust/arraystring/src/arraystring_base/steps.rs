@@ -1,9 +1,9 @@
 // Made from crates/arraystring_base/src/steps.rt by rust/erase. The proof is there. A change goes there.
 //! Counting what a call does to bytes.
 
-/// Counts the looks and the moves of calls that end in `_counted`. A look is one call of [`look`](crate::utils::look). A move is
-/// one byte that [`shift`](crate::utils::shift) takes to another offset. Bytes that a call reads without [`look`](crate::utils::look) are not counted.
-/// Most programs need no such counter.
+/// Most programs need no counter. A `Steps` counts the looks and the moves of calls that end in `_counted`.
+/// A look is one call of [`look`](crate::utils::look). A move is one byte that [`shift`](crate::utils::shift) takes to another offset. Bytes that a call
+/// reads without [`look`](crate::utils::look) are not counted.
 ///
 /// # Examples
 ///
@@ -128,8 +128,8 @@ impl Steps {
     }
 }
 
-/// Returns the byte of `bytes` at the index `at`, and counts one look in `steps`. Most programs need
-/// no count, and write `bytes[at]`.
+/// Most programs need no count, and write `bytes[at]`. This call returns that byte, and counts one look
+/// in `steps`.
 ///
 /// # Panics
 ///
