@@ -1,8 +1,8 @@
-// Made from crates/arraystring/src/cache_string.rt by rust/erase. The proof is there. A change goes there.
+// Proved sources: crates/arraystring/src/cache_string.rt
 //! `CacheString`: a string of at most 63 bytes under a name of its own. Each call is that of the
 //! string inside. `traits` has its impls of traits.
 
-use crate::arraystring_core::ArrayString;
+use crate::ArrayString;
 use crate::error::{Error, OutOfBounds, Utf8, Utf16};
 
 mod traits;

@@ -1,9 +1,9 @@
-// Made from crates/arraystring/src/cache_string/traits.rt by rust/erase. The proof is there. A change goes there.
+// Proved sources: crates/arraystring/src/cache_string/traits.rt
 //! The traits of a `CacheString`, each as the string inside has it. The comparisons and `Default` are
 //! written out and not derived, so that a caller's proof can cite what each call returns.
 
+use crate::ArrayString;
 use crate::CacheString;
-use crate::arraystring_core::ArrayString;
 use crate::error::OutOfBounds;
 use core::cmp::Ordering;
 use core::fmt;
