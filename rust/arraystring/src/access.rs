@@ -1,16 +1,16 @@
 // By hand: no proof stands behind this file.
-//! What is read and written without a test that it is there, and what is made of numbers and bytes without a test, which the feature `checked` makes.
+//! Reads and writes without a bounds check, and texts and characters that are made without a test. Each macro has the name of the
+//! call of std that it stands for.
 //!
-//! A function of the sources is accepted only if it is proved never to panic. So each index and each part in it is within, each
-//! copy is between parts of one length, and no `unreachable!()` is reached. rustc can't see that proof, and would test all
-//! this again. So the eraser writes each by a macro of this file, which has the name of what it stands for in std.
+//! The proved sources never panic. So each index and each part in them is within bounds, each copy is between parts of one length,
+//! and no `unreachable!()` is reached. rustc does not see that proof. Without these macros it would test all this again.
 //!
-//! No macro has an `unsafe` of its own: rustc takes it in an `unsafe` block alone, before which a line says why it is right.
-//! `as_str`, `as_bytes` and the test for ASCII have such accesses in bodies by hand, and the line there is all that holds them.
+//! No macro has an `unsafe` of its own. So rustc takes it only in an `unsafe` block, and a `SAFETY` comment before the block says why
+//! it is right.
 //!
-//! What a public `unsafe` call requires of its caller is tested by lines of its own, with debug assertions and with `checked`.
+//! `required!` tests what a public `unsafe` call requires of its caller, with debug assertions and with the feature `checked`.
 
-/// Whether that is tested all the same: with debug assertions, with the feature `checked`, and where a `usize` has not the 64 bits of
+/// Whether each access is tested all the same: with debug assertions, with the feature `checked`, and where a `usize` has not the 64 bits of
 /// the proofs. A sum that wraps there is a panic then.
 pub(crate) const IS_TESTED: bool = cfg!(any(debug_assertions, feature = "checked", not(target_pointer_width = "64")));
 
@@ -94,7 +94,7 @@ macro_rules! required_of_each {
     };
 }
 
-/// What the sources use of `char`.
+/// What the crate uses of `char`.
 pub(crate) mod char {
     /// `char::from_u32_unchecked`. With the feature `checked` the number is tested.
     ///
@@ -128,7 +128,7 @@ pub(crate) mod char {
     }
 }
 
-/// What they use of `std::str`.
+/// What it uses of `core::str`.
 pub(crate) mod str {
     /// `str::from_utf8_unchecked`. No index shows that bytes are not UTF-8, so with the feature `checked` they are tested.
     ///

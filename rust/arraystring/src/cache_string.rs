@@ -20,7 +20,7 @@ mod traits;
 /// assert_eq!(key.0.as_str(), "user:42");
 /// ```
 ///
-/// In Rust these calls are made on the string itself, too, by `Deref` and `DerefMut`. It takes 65 bytes.
+/// By `Deref` and `DerefMut` these calls can be made on the string itself, too. It takes 65 bytes.
 ///
 /// ```
 /// use arraystring::CacheString;
@@ -149,10 +149,8 @@ impl CacheString {
     ///
     /// Returns [`Err(OutOfBounds)`](crate::error::OutOfBounds) if not all of the pieces fit.
     ///
-    /// # In Rust
-    ///
-    /// An iterator that never ends, or that panics, is allowed. The call stops at the first piece that does not fit. So
-    /// it does not return where empty pieces come without an end.
+    /// The iterator may be endless: the call stops at the first piece that does not fit. It does not return if empty pieces
+    /// come without an end.
     ///
     /// # Examples
     ///
@@ -186,10 +184,8 @@ impl CacheString {
     /// Creates a string from all pieces, joined. If that is too long, keeps the longest prefix of
     /// whole characters that fits.
     ///
-    /// # In Rust
-    ///
-    /// An iterator that never ends, or that panics, is allowed. The call stops at the first piece that does not fit. So
-    /// it does not return where empty pieces come without an end.
+    /// The iterator may be endless: the call stops at the first piece that does not fit. It does not return if empty pieces
+    /// come without an end.
     ///
     /// # Examples
     ///
@@ -225,10 +221,7 @@ impl CacheString {
     ///
     /// Returns [`Err(OutOfBounds)`](crate::error::OutOfBounds) if not all of the characters fit.
     ///
-    /// # In Rust
-    ///
-    /// An iterator that never ends, or that panics, is allowed. The call stops at the first character that does not
-    /// fit.
+    /// The iterator may be endless: the call stops at the first character that does not fit.
     ///
     /// # Examples
     ///
@@ -261,10 +254,7 @@ impl CacheString {
     /// Creates a string from the longest prefix of the characters that fits. It ends before the
     /// first character that does not fit, even if a later one takes fewer bytes and would fit.
     ///
-    /// # In Rust
-    ///
-    /// An iterator that never ends, or that panics, is allowed. The call stops at the first character that does not
-    /// fit.
+    /// The iterator may be endless: the call stops at the first character that does not fit.
     ///
     /// # Examples
     ///
@@ -325,8 +315,6 @@ impl CacheString {
     /// [How to read a contract](crate::contracts)
     ///
     /// </details>
-    ///
-    /// Another body runs here than the one that was proved: std tests UTF-8, behind a test for ASCII by hand.
     #[inline]
     pub fn try_from_utf8<B: AsRef<[u8]>>(given: B) -> Result<Self, Error> {
         let given = given.as_ref();
@@ -362,8 +350,6 @@ impl CacheString {
     /// [How to read a contract](crate::contracts)
     ///
     /// </details>
-    ///
-    /// Another body runs here than the one that was proved: std tests UTF-8, behind a test for ASCII by hand.
     #[inline]
     pub fn from_utf8<B: AsRef<[u8]>>(given: B) -> Result<Self, Utf8> {
         let given = given.as_ref();
@@ -575,8 +561,7 @@ impl CacheString {
     /// </details>
     #[inline]
     pub unsafe fn from_iterator_unchecked<U: AsRef<str>, I: IntoIterator<Item = U>>(pieces: I) -> Self {
-        // SAFETY: the items of `pieces` take at most `Self::capacity()` bytes together: by this function's `# Safety`,
-        // also where the iterator does not end.
+        // SAFETY: the items of `pieces` take at most `Self::capacity()` bytes together: by this function's `# Safety`.
         CacheString(unsafe { ArrayString::from_iterator_unchecked(pieces) })
     }
 
@@ -613,7 +598,7 @@ impl CacheString {
     #[inline]
     pub unsafe fn from_chars_unchecked<I: IntoIterator<Item = char>>(characters: I) -> Self {
         // SAFETY: the items of `characters` take at most `Self::capacity()` bytes together: by this function's
-        // `# Safety`, also where the iterator does not end.
+        // `# Safety`.
         CacheString(unsafe { ArrayString::from_chars_unchecked(characters) })
     }
 

@@ -1,6 +1,7 @@
 // By hand: no proof stands behind this file.
 //! Copies of the text as `String`, `Box<str>`, `Cow<str>` and `Vec<u8>`, behind the feature `alloc`: of one string, and of many that
 //! are collected.
+#![deny(unsafe_code)]
 
 extern crate alloc;
 

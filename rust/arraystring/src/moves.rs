@@ -80,8 +80,6 @@ unsafe fn move_run<const N: usize>(array: &mut [u8; N], from: usize, to: usize, 
 /// # Safety
 ///
 /// The run that is moved must lie in the slice. So must the run that is written over.
-///
-/// Another body runs here than the one that was proved: std moves the bytes, by `memmove`.
 #[inline(never)]
 pub(crate) unsafe fn move_bytes(all: &mut [u8], from: usize, to: usize, len: usize) {
     // SAFETY: this is within: by this function's `# Safety`.
@@ -96,8 +94,6 @@ pub(crate) unsafe fn move_bytes(all: &mut [u8], from: usize, to: usize, len: usi
 /// - `to + len <= all.len()`
 /// - `len <= N`
 /// - `64 < len`
-///
-/// Another body runs here than the one that was proved: `move_bytes` moves the bytes, by `memmove`.
 unsafe fn move_long_run_of_array<const N: usize>(all: &mut [u8], from: usize, to: usize, len: usize) {
     // SAFETY: `from + len <= all.len()`; `to + len <= all.len()`: by this function's `# Safety`.
     unsafe { move_bytes(all, from, to, len) };
@@ -198,8 +194,7 @@ pub(crate) unsafe fn write_by_call(all: &mut [u8], at: usize, given: &[u8]) {
     unsafe { copy_from_slice_unchecked!(all, at..at + given.len(), given) };
 }
 
-/// Does what `write_by_call` does. The proved build never inlines it, so its code stands there once. The
-/// parameters are in the order of those of a call that appends, so that no register is moved for it.
+/// Does what `write_by_call` does, for more than 64 bytes.
 ///
 /// # Safety
 ///

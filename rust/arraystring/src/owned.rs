@@ -1,6 +1,7 @@
 // By hand: no proof stands behind this file.
 //! What a string takes of `String`, `Box<str>` and `Cow<str>`, behind the feature `alloc`: it is compared with them, and collected
 //! and extended of them. Each is one call of the string.
+#![deny(unsafe_code)]
 
 extern crate alloc;
 

@@ -1,5 +1,6 @@
 // By hand: no proof stands behind this file.
 //! The string where a path or a name of the operating system is asked for, behind the feature `std`.
+#![deny(unsafe_code)]
 
 extern crate std;
 

@@ -1,9 +1,10 @@
 // By hand: no proof stands behind this file.
-//! The traits by hand. Those between the strings, `str` and iterators are each one call of the string or of the texts; behind
-//! them is what Rust prints, hashes and makes by default of small values.
+//! Traits that only Rust has. Those between the strings, `str` and iterators are each one call of the string or of its text. Behind
+//! them are the conversions and hashes of the errors.
 //!
 //! A `str` has no order with a string on its right. With one, `"a" < &t` of a `String` and `s < t.as_ref()` would no longer be
 //! compiled in a program that has this crate, since std's own order of `str` is then not the only one.
+#![deny(unsafe_code)]
 
 use core::borrow::Borrow;
 use core::char::DecodeUtf16Error;

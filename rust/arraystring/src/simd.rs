@@ -1,5 +1,6 @@
 // By hand: no proof stands behind this file.
-//! Vectors of `K` bytes: what the sources use of `std::simd`, which stable Rust does not have.
+//! Vectors of `K` bytes. `std::simd` has such a type, but stable Rust does not have `std::simd`.
+#![deny(unsafe_code)]
 
 use core::marker::PhantomData;
 
@@ -61,7 +62,7 @@ fn too_short() -> ! {
 mod tests {
     use super::*;
 
-    /// Each size that the sources name, and some between.
+    /// Each size that `moves` names, and some between.
     macro_rules! at_each_size {
         ($test:ident) => {
             $test::<1>();

@@ -217,8 +217,6 @@ pub unsafe fn encode<const N: usize>(ch: char, array: &mut [u8; N], at: usize) -
 /// [How to read a contract](crate::contracts)
 ///
 /// </details>
-///
-/// Another body runs here than the one that was proved: std tests UTF-8, behind a test for ASCII by hand.
 #[inline]
 pub(crate) fn read_utf8(given: &[u8]) -> Result<&str, Utf8> {
     let (blocks, last) = (given.len() / 32 * 32, given.len().saturating_sub(32));

@@ -28,7 +28,7 @@ impl<const N: usize> ArrayString<N> {
     #[inline]
     pub(super) fn add_chars<I: IntoIterator<Item = char>>(&mut self, characters: I) -> Result<(), OutOfBounds> {
         // SAFETY: the `self.size` bytes of `self.array` from `self.start` on are UTF-8 and end within the capacity: as
-        // the fields of `ArrayString` say, whether or not the iterator ends.
+        // the fields of `ArrayString` say.
         unsafe { Self::append_chars(&mut self.array, &mut self.start, &mut self.size, characters) }
     }
 
@@ -50,7 +50,7 @@ impl<const N: usize> ArrayString<N> {
         for ch in characters {
             // SAFETY: the `*len` bytes of `array` from `*start` on are UTF-8 and end within the capacity;
             // `end == *start + *len`: so it is by this function's `# Safety` before the loop, and `append_char` keeps
-            // it and returns the new end, whether or not the iterator ends.
+            // it and returns the new end.
             match unsafe { Self::append_char(array, start, len, end, ch) } {
                 Some(next) => {
                     end = next;
@@ -226,7 +226,7 @@ impl<const N: usize> ArrayString<N> {
     #[inline]
     pub(super) fn add_strs<U: AsRef<str>, I: IntoIterator<Item = U>>(&mut self, pieces: I) -> Result<(), OutOfBounds> {
         // SAFETY: the `self.size` bytes of `self.array` from `self.start` on are UTF-8 and end within the capacity: as
-        // the fields of `ArrayString` say, whether or not the iterator ends.
+        // the fields of `ArrayString` say.
         unsafe { Self::append_strs(&mut self.array, &mut self.start, &mut self.size, pieces) }
     }
 
@@ -249,7 +249,7 @@ impl<const N: usize> ArrayString<N> {
             let piece = piece.as_ref();
             // SAFETY: the `*len` bytes of `array` from `*start` on are UTF-8 and end within the capacity;
             // `end == *start + *len`: so it is by this function's `# Safety` before the loop, where `end` is
-            // `*start + *len`, and `append_str` keeps it and returns the new end, whether or not the iterator ends.
+            // `*start + *len`, and `append_str` keeps it and returns the new end.
             match unsafe { Self::append_str(array, start, len, end, piece) } {
                 Some(next) => {
                     end = next;
@@ -257,7 +257,7 @@ impl<const N: usize> ArrayString<N> {
                 None => {
                     let part = truncate_str(piece, Self::capacity() - *len);
                     // SAFETY: the `*len` bytes of `array` from `*start` on are UTF-8 and end within the capacity;
-                    // `end == *start + *len`: `append_str` changed nothing, whether or not the iterator ends.
+                    // `end == *start + *len`: `append_str` changed nothing.
                     let _ = unsafe { Self::append_str(array, start, len, end, part) };
                     return Err(OutOfBounds);
                 }

@@ -95,8 +95,6 @@ impl<const N: usize> ArrayString<N> {
     /// [How to read a contract](crate::contracts)
     ///
     /// </details>
-    ///
-    /// Another body runs here than the one that was proved: the range is tested first, by the index of `str`.
     #[track_caller]
     #[inline]
     pub fn make_ascii_uppercase_in<R: RangeBounds<u8>>(&mut self, range: R) {
@@ -140,8 +138,6 @@ impl<const N: usize> ArrayString<N> {
     /// [How to read a contract](crate::contracts)
     ///
     /// </details>
-    ///
-    /// Another body runs here than the one that was proved: the range is tested first, by the index of `str`.
     #[track_caller]
     #[inline]
     pub fn make_ascii_lowercase_in<R: RangeBounds<u8>>(&mut self, range: R) {

@@ -39,8 +39,6 @@ impl<const N: usize> ArrayString<N> {
     /// [How to read a contract](crate::contracts)
     ///
     /// </details>
-    ///
-    /// Another body runs here than the one that was proved: it is the index of `str`, which panics.
     #[doc(alias = "index")]
     #[track_caller]
     #[inline]
@@ -75,8 +73,6 @@ impl<const N: usize> ArrayString<N> {
     /// [How to read a contract](crate::contracts)
     ///
     /// </details>
-    ///
-    /// Another body runs here than the one that was proved: std finds the part, by `str::get`.
     #[inline]
     pub fn get<R: RangeBounds<u8>>(&self, range: R) -> Option<&str> {
         let (start, end) = plain_ends(range, self.len());

@@ -113,10 +113,8 @@ impl<const N: usize> ArrayString<N> {
     ///
     /// Returns [`Err(OutOfBounds)`](crate::error::OutOfBounds) if not all of the pieces fit.
     ///
-    /// # In Rust
-    ///
-    /// An iterator that never ends, or that panics, is allowed. The call stops at the first piece that does not fit. So
-    /// it does not return where empty pieces come without an end.
+    /// The iterator may be endless: the call stops at the first piece that does not fit. It does not return if empty pieces
+    /// come without an end.
     ///
     /// # Examples
     ///
@@ -148,7 +146,7 @@ impl<const N: usize> ArrayString<N> {
         let mut array = [0; N];
         let (mut start, mut size) = (0, 0);
         // SAFETY: the `size` bytes of `array` from `start` on are UTF-8 and end within the capacity: `start` and `size`
-        // are 0, whether or not the iterator ends.
+        // are 0.
         unsafe { Self::append_strs(&mut array, &mut start, &mut size, pieces) }?;
         // FIELDS: `append_strs` leaves the `size` bytes from `start` on as UTF-8 that ends within the capacity, whether
         // or not the iterator ends.
@@ -158,10 +156,8 @@ impl<const N: usize> ArrayString<N> {
     /// Creates a string from all pieces, joined. If that is too long, keeps the longest prefix of
     /// whole characters that fits.
     ///
-    /// # In Rust
-    ///
-    /// An iterator that never ends, or that panics, is allowed. The call stops at the first piece that does not fit. So
-    /// it does not return where empty pieces come without an end.
+    /// The iterator may be endless: the call stops at the first piece that does not fit. It does not return if empty pieces
+    /// come without an end.
     ///
     /// # Examples
     ///
@@ -192,7 +188,7 @@ impl<const N: usize> ArrayString<N> {
         let mut array = [0; N];
         let (mut start, mut size) = (0, 0);
         // SAFETY: the `size` bytes of `array` from `start` on are UTF-8 and end within the capacity: `start` and `size`
-        // are 0, whether or not the iterator ends.
+        // are 0.
         let _ = unsafe { Self::append_strs(&mut array, &mut start, &mut size, pieces) };
         // FIELDS: `append_strs` leaves the `size` bytes from `start` on as UTF-8 that ends within the capacity, whether
         // or not the iterator ends.
@@ -205,10 +201,7 @@ impl<const N: usize> ArrayString<N> {
     ///
     /// Returns [`Err(OutOfBounds)`](crate::error::OutOfBounds) if not all of the characters fit.
     ///
-    /// # In Rust
-    ///
-    /// An iterator that never ends, or that panics, is allowed. The call stops at the first character that does not
-    /// fit.
+    /// The iterator may be endless: the call stops at the first character that does not fit.
     ///
     /// # Examples
     ///
@@ -238,20 +231,16 @@ impl<const N: usize> ArrayString<N> {
         let mut array = [0; N];
         let (mut start, mut size) = (0, 0);
         // SAFETY: the `size` bytes of `array` from `start` on are UTF-8 and end within the capacity: `start` and `size`
-        // are 0, whether or not the iterator ends.
+        // are 0.
         unsafe { Self::append_chars(&mut array, &mut start, &mut size, characters) }?;
-        // FIELDS: `append_chars` leaves the `size` bytes from `start` on as UTF-8 that ends within the capacity,
-        // whether or not the iterator ends.
+        // FIELDS: `append_chars` leaves the `size` bytes from `start` on as UTF-8 that ends within the capacity.
         Ok(ArrayString { array, start, size })
     }
 
     /// Creates a string from the longest prefix of the characters that fits. It ends before the
     /// first character that does not fit, even if a later one takes fewer bytes and would fit.
     ///
-    /// # In Rust
-    ///
-    /// An iterator that never ends, or that panics, is allowed. The call stops at the first character that does not
-    /// fit.
+    /// The iterator may be endless: the call stops at the first character that does not fit.
     ///
     /// # Examples
     ///
@@ -282,10 +271,9 @@ impl<const N: usize> ArrayString<N> {
         let mut array = [0; N];
         let (mut start, mut size) = (0, 0);
         // SAFETY: the `size` bytes of `array` from `start` on are UTF-8 and end within the capacity: `start` and `size`
-        // are 0, whether or not the iterator ends.
+        // are 0.
         let _ = unsafe { Self::append_chars(&mut array, &mut start, &mut size, characters) };
-        // FIELDS: `append_chars` leaves the `size` bytes from `start` on as UTF-8 that ends within the capacity,
-        // whether or not the iterator ends.
+        // FIELDS: `append_chars` leaves the `size` bytes from `start` on as UTF-8 that ends within the capacity.
         ArrayString { array, start, size }
     }
 
@@ -321,8 +309,6 @@ impl<const N: usize> ArrayString<N> {
     /// [How to read a contract](crate::contracts)
     ///
     /// </details>
-    ///
-    /// Another body runs here than the one that was proved: std tests UTF-8, behind a test for ASCII by hand.
     #[inline]
     pub fn try_from_utf8<B: AsRef<[u8]>>(given: B) -> Result<Self, Error> {
         let given = given.as_ref();
@@ -366,8 +352,6 @@ impl<const N: usize> ArrayString<N> {
     /// [How to read a contract](crate::contracts)
     ///
     /// </details>
-    ///
-    /// Another body runs here than the one that was proved: std tests UTF-8, behind a test for ASCII by hand.
     #[inline]
     pub fn from_utf8<B: AsRef<[u8]>>(given: B) -> Result<Self, Utf8> {
         let given = given.as_ref();

@@ -1,6 +1,6 @@
 // By hand: no proof stands behind this file.
-//! Constructors beside those of the sources: in a constant, of what a format prints, and of one character.
-#![deny(unsafe_code, clippy::cast_possible_truncation)]
+//! Constructors without a proof: in a constant, from what a format prints, and from one character.
+#![deny(unsafe_code)]
 
 use core::fmt;
 

@@ -1,6 +1,5 @@
 // By hand: no proof stands behind this file.
 //! The text, lent to be written. Safe code writes characters over others of as many bytes there, so it stays UTF-8 and as long.
-#![deny(clippy::cast_possible_truncation)]
 
 use core::borrow::BorrowMut;
 use core::ops::{

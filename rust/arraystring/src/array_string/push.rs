@@ -119,10 +119,7 @@ impl<const N: usize> ArrayString<N> {
 
     /// Appends the longest prefix of the characters that fits.
     ///
-    /// # In Rust
-    ///
-    /// An iterator that never ends, or that panics, is allowed. The call stops at the first character that does not
-    /// fit. Where the iterator panics, the text has the characters before that.
+    /// The iterator may be endless: the call stops at the first character that does not fit. Where the iterator panics, the text has the characters before that.
     ///
     /// # Examples
     ///
@@ -156,10 +153,8 @@ impl<const N: usize> ArrayString<N> {
 
     /// Appends the longest prefix of whole characters of the joined pieces that fits.
     ///
-    /// # In Rust
-    ///
-    /// An iterator that never ends, or that panics, is allowed. The call stops at the first piece that does not fit. So
-    /// it does not return where empty pieces come without an end. Where the iterator panics, the text has the pieces
+    /// The iterator may be endless: the call stops at the first piece that does not fit. It does not return if empty pieces
+    /// come without an end. Where the iterator panics, the text has the pieces
     /// before that.
     ///
     /// # Examples

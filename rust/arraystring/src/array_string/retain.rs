@@ -10,9 +10,7 @@ impl<const N: usize> ArrayString<N> {
     /// Keeps the characters for which `f` returns true and removes all others. `f` is called once
     /// with each character, in order.
     ///
-    /// # In Rust
-    ///
-    /// Any closure is allowed. Where it panics, the text is what it kept until then.
+    /// If the closure panics, the text is what it kept until then.
     ///
     /// # Examples
     ///

@@ -1,6 +1,6 @@
 // By hand: no proof stands behind this file.
 //! The room that is left in a string.
-#![deny(clippy::cast_possible_truncation)]
+#![deny(unsafe_code)]
 
 use crate::ArrayString;
 

@@ -270,8 +270,6 @@ impl<const N: usize> Ord for ArrayString<N> {
     /// [How to read a contract](crate::contracts)
     ///
     /// </details>
-    ///
-    /// Another body runs here than the one that was proved: std compares the bytes of the texts.
     #[inline(always)]
     fn cmp(&self, other: &Self) -> Ordering {
         self.as_str().cmp(other.as_str())
@@ -300,8 +298,6 @@ impl<const N: usize> Ord for ArrayString<N> {
 /// [How to read a contract](crate::contracts)
 ///
 /// </details>
-///
-/// Another body runs here than the one that was proved: std compares the bytes of the texts.
 impl<const N: usize> PartialEq for ArrayString<N> {
     #[inline]
     fn eq(&self, other: &Self) -> bool {
@@ -329,8 +325,6 @@ impl<const N: usize> PartialEq for ArrayString<N> {
 /// [How to read a contract](crate::contracts)
 ///
 /// </details>
-///
-/// Another body runs here than the one that was proved: std compares the bytes of the texts.
 impl<const N: usize> PartialOrd for ArrayString<N> {
     #[inline(always)]
     fn partial_cmp(&self, other: &Self) -> Option<Ordering> {

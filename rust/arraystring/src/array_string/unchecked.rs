@@ -90,12 +90,12 @@ impl<const N: usize> ArrayString<N> {
             let piece = piece.as_ref();
             required!(end + piece.len() <= Self::capacity() as usize);
             // SAFETY: `end + piece.as_bytes().len() <= N`: by this function's `# Safety` all pieces fit together, and
-            // `end` is the size of those before this one, also where the iterator does not end.
+            // `end` is the size of those before this one.
             unsafe { write_over(&mut array, end, piece.as_bytes()) };
             end += piece.len();
         }
         // FIELDS: the pieces lie in front of the array, and `end` is their size, which is at most the capacity by this
-        // function's `# Safety`, also where the iterator does not end.
+        // function's `# Safety`.
         ArrayString { array, start: 0, size: end as u8 }
     }
 

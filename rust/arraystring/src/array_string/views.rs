@@ -120,8 +120,6 @@ impl<const N: usize> ArrayString<N> {
     /// [How to read a contract](crate::contracts)
     ///
     /// </details>
-    ///
-    /// Another body runs here than the one that was proved: the array is split twice, since that is `const`.
     #[must_use]
     #[inline]
     pub const fn as_str(&self) -> &str {
@@ -158,8 +156,6 @@ impl<const N: usize> ArrayString<N> {
     /// [How to read a contract](crate::contracts)
     ///
     /// </details>
-    ///
-    /// Another body runs here than the one that was proved: the array is split twice, since that is `const`.
     #[must_use]
     #[inline]
     pub const fn as_bytes(&self) -> &[u8] {

@@ -250,8 +250,6 @@ impl Ord for CacheString {
     /// [How to read a contract](crate::contracts)
     ///
     /// </details>
-    ///
-    /// Another body runs here than the one that was proved: std compares the bytes of the texts.
     #[inline]
     fn cmp(&self, other: &Self) -> Ordering {
         self.0.cmp(&other.0)
@@ -279,8 +277,6 @@ impl Ord for CacheString {
 /// [How to read a contract](crate::contracts)
 ///
 /// </details>
-///
-/// Another body runs here than the one that was proved: std compares the bytes of the texts.
 impl PartialEq for CacheString {
     #[inline]
     fn eq(&self, other: &Self) -> bool {
@@ -308,8 +304,6 @@ impl PartialEq for CacheString {
 /// [How to read a contract](crate::contracts)
 ///
 /// </details>
-///
-/// Another body runs here than the one that was proved: std compares the bytes of the texts.
 impl PartialOrd for CacheString {
     #[inline]
     fn partial_cmp(&self, other: &Self) -> Option<Ordering> {

@@ -252,8 +252,6 @@ impl<const N: usize> Ord for Drain<N> {
     /// [How to read a contract](crate::contracts)
     ///
     /// </details>
-    ///
-    /// Another body runs here than the one that was proved: std compares the bytes of the texts.
     #[inline(always)]
     fn cmp(&self, other: &Self) -> Ordering {
         self.as_str().cmp(other.as_str())
@@ -310,8 +308,6 @@ impl<const N: usize> PartialEq for Drain<N> {
 /// [How to read a contract](crate::contracts)
 ///
 /// </details>
-///
-/// Another body runs here than the one that was proved: std compares the bytes of the texts.
 impl<const N: usize> PartialOrd for Drain<N> {
     #[inline(always)]
     fn partial_cmp(&self, other: &Self) -> Option<Ordering> {
