@@ -1,17 +1,17 @@
-//! A format without types reads what it is asked for, and writes what it is given: here one that knows texts alone. Each way of
-//! this crate asks for a `str`, takes it however it is given, and writes a `str`.
+//! A format without types reads what it is asked for, and writes what it is given: here one that knows texts alone. A string asks
+//! for a `str`, takes it however it is given, and writes a `str`.
 
 use std::fmt::{Debug, Display};
 use std::str::FromStr;
 
 use arraystring::error::OutOfBounds;
 use arraystring::{ArrayString, CacheString};
-use arraystring_serde::{Cut, Whole};
 use inputs::cut;
 use serde::de::value::Error;
 use serde::de::{Deserializer, Visitor};
 use serde::ser::{Impossible, Serializer};
 use serde::{Deserialize, Serialize, forward_to_deserialize_any};
+use with_serde::Cut;
 
 mod inputs;
 
@@ -142,10 +142,12 @@ fn texts(size: usize) -> impl Iterator<Item = String> {
     (0..=size + 2).flat_map(|len| ["", "\0", "é", "€", "🤔", "🤔🤔"].map(|ch| "m".repeat(len) + ch))
 }
 
-/// Asserts what comes of each text at a capacity, by a wrapper and by the functions for a field, and returns how many were read.
+/// Asserts what comes of each text at a capacity, by the string's own traits and by the functions for a field that is cut, and returns
+/// how many were read.
 fn at<T>(capacity: usize) -> usize
 where
     T: AsRef<str> + FromStr<Err = OutOfBounds> + for<'a> From<&'a str> + Copy + Debug + PartialEq,
+    T: Serialize + for<'de> Deserialize<'de>,
 {
     let mut count = 0;
     for text in texts(capacity) {
@@ -153,22 +155,15 @@ where
         let whole = (text.len() <= capacity).then_some(kept);
         for (way, is_human_readable) in WAYS.into_iter().flat_map(|way| [(way, true), (way, false)]) {
             let from = || OnlyText { text: &text, way, is_human_readable };
-            let is_read =
-                [Whole::deserialize(from()).ok().map(|read| read.0), arraystring_serde::deserialize(from()).ok()];
-            assert_eq!(is_read, [whole; 2], "{text} {way:?}");
-            let is_cut = [Cut::deserialize(from()).map(|read| read.0), arraystring_serde::cut::deserialize(from())];
+            assert_eq!(T::deserialize(from()).ok(), whole, "{text} {way:?}");
+            let is_cut = [Cut::deserialize(from()).map(|read| read.0), arraystring::cut::deserialize(from())];
             assert_eq!(is_cut, [Ok(kept), Ok(kept)], "{text} {way:?}");
             count += 1;
         }
         for is_human_readable in [true, false] {
             let to = || OnlyStr { is_human_readable };
-            let written = [
-                Whole(kept).serialize(to()),
-                Cut(kept).serialize(to()),
-                arraystring_serde::serialize(&kept, to()),
-                arraystring_serde::cut::serialize(&kept, to()),
-            ];
-            assert_eq!(written.map(|text| text.ok()), [(); 4].map(|()| Some(kept.as_ref().to_string())));
+            let written = [kept.serialize(to()), Cut(kept).serialize(to()), arraystring::cut::serialize(&kept, to())];
+            assert_eq!(written.map(|text| text.ok()), [(); 3].map(|()| Some(kept.as_ref().to_string())));
         }
     }
     count

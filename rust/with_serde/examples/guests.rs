@@ -4,7 +4,6 @@ use std::collections::BTreeMap;
 use std::error::Error;
 
 use arraystring::{ArrayString, CacheString};
-use arraystring_serde::{Cut, Whole};
 use serde::{Deserialize, Serialize};
 
 type Name = ArrayString<8>;
@@ -12,14 +11,12 @@ type Name = ArrayString<8>;
 #[derive(Serialize, Deserialize)]
 struct Guest {
     /// Refused where it does not fit.
-    #[serde(with = "arraystring_serde")]
     name: Name,
     /// Cut where it does not fit.
-    #[serde(with = "arraystring_serde::cut")]
+    #[serde(with = "arraystring::cut")]
     note: CacheString,
-    /// `with` does not reach into an `Option` or a `Vec`, so these have a wrapper.
-    nickname: Option<Whole<Name>>,
-    wishes: Vec<Cut<ArrayString<4>>>,
+    nickname: Option<Name>,
+    wishes: Vec<ArrayString<5>>,
 }
 
 fn main() -> Result<(), Box<dyn Error>> {
@@ -27,15 +24,13 @@ fn main() -> Result<(), Box<dyn Error>> {
     let mut guest: Guest = serde_json::from_str(given)?;
     assert_eq!((guest.name.as_str(), guest.note.as_str(), guest.nickname), ("zoé", "by the door", None));
 
-    // Four bytes hold `vega`. `café` has five, and `é` is kept whole or not at all.
-    let wishes: Vec<&str> = guest.wishes.iter().map(|wish| wish.as_str()).collect();
-    assert_eq!(wishes, ["vega", "caf", "tea"]);
+    assert_eq!(guest.wishes, ["vegan", "café", "tea"]);
 
     // It is written as a `String` is.
     guest.nickname = Some("zizi".parse()?);
     guest.wishes.truncate(1);
     let written = serde_json::to_string(&guest)?;
-    assert_eq!(written, r#"{"name":"zoé","note":"by the door","nickname":"zizi","wishes":["vega"]}"#);
+    assert_eq!(written, r#"{"name":"zoé","note":"by the door","nickname":"zizi","wishes":["vegan"]}"#);
 
     // `bartholomew` has 11 bytes, and a name 8.
     let refused = serde_json::from_str::<Guest>(r#"{"name":"bartholomew","note":"","nickname":null,"wishes":[]}"#);
@@ -45,7 +40,7 @@ fn main() -> Result<(), Box<dyn Error>> {
     );
 
     // A name is the key of a map, and is found by a `&str`.
-    let seats: BTreeMap<Whole<Name>, u32> = serde_json::from_str(r#"{"zoé":4,"ann":2}"#)?;
+    let seats: BTreeMap<Name, u32> = serde_json::from_str(r#"{"zoé":4,"ann":2}"#)?;
     assert_eq!((seats.get("zoé"), seats.get("zoe")), (Some(&4), None));
     assert_eq!(serde_json::to_string(&seats)?, r#"{"ann":2,"zoé":4}"#);
     println!("all as it was worked out");

@@ -4,26 +4,23 @@ use std::collections::{BTreeMap, HashMap};
 use std::fmt::Debug;
 
 use arraystring::{ArrayString, CacheString};
-use arraystring_serde::{Cut, Whole};
 use inputs::cut;
 use serde::de::value::{
     BorrowedBytesDeserializer, BorrowedStrDeserializer, BytesDeserializer, Error, StrDeserializer, StringDeserializer,
 };
 use serde::de::{DeserializeOwned, IntoDeserializer};
 use serde::{Deserialize, Serialize};
+use with_serde::Cut;
 
 mod inputs;
 
 #[derive(Serialize, Deserialize, PartialEq, Debug)]
-#[serde(bound = "")]
 struct Fields<const N: usize> {
-    #[serde(with = "arraystring_serde")]
     whole: ArrayString<N>,
-    #[serde(with = "arraystring_serde::cut")]
+    #[serde(with = "arraystring::cut")]
     cut: ArrayString<N>,
-    #[serde(with = "arraystring_serde")]
     cached: CacheString,
-    #[serde(with = "arraystring_serde::cut")]
+    #[serde(with = "arraystring::cut")]
     cached_cut: CacheString,
 }
 
@@ -66,17 +63,17 @@ fn each_way<T: DeserializeOwned>(text: &str) -> Vec<Option<T>> {
 fn at<T>(capacity: usize)
 where
     T: AsRef<str> + std::str::FromStr<Err = arraystring::error::OutOfBounds> + for<'a> From<&'a str>,
-    T: Copy + Debug + PartialEq,
+    T: Copy + Debug + PartialEq + Serialize + DeserializeOwned,
 {
     for text in texts(capacity) {
-        let wanted = (text.len() <= capacity).then(|| Whole(T::from(text.as_str())));
-        assert_eq!(each_way::<Whole<T>>(&text), vec![wanted; 9], "{text}");
+        let wanted = (text.len() <= capacity).then(|| T::from(text.as_str()));
+        assert_eq!(each_way::<T>(&text), vec![wanted; 9], "{text}");
         let kept = Cut(T::from(cut(&text, capacity)));
         assert_eq!(kept.0.as_ref(), cut(&text, capacity));
         assert_eq!(each_way::<Cut<T>>(&text), vec![Some(kept); 9], "{text}");
         let written = serde_json::to_string(cut(&text, capacity)).unwrap();
         assert_eq!(serde_json::to_string(&kept).unwrap(), written);
-        assert_eq!(serde_json::to_string(&Whole(kept.0)).unwrap(), written);
+        assert_eq!(serde_json::to_string(&kept.0).unwrap(), written);
     }
 }
 
@@ -112,8 +109,8 @@ fn fields_are_read_and_written_as_those_of_strings() {
 }
 
 #[test]
-fn keys_items_and_options_are_read_by_a_wrapper() {
-    type Name = Whole<ArrayString<4>>;
+fn keys_items_and_options_are_read_as_those_of_strings() {
+    type Name = ArrayString<4>;
     let sorted: BTreeMap<Name, u8> = serde_json::from_str(r#"{"b":1,"a\n":2,"é":3}"#).unwrap();
     assert_eq!((sorted.get("a\n"), sorted.get("é"), sorted.get("c")), (Some(&2), Some(&3), None));
     assert_eq!(serde_json::to_string(&sorted).unwrap(), r#"{"a\n":2,"b":1,"é":3}"#);
@@ -121,26 +118,31 @@ fn keys_items_and_options_are_read_by_a_wrapper() {
     assert_eq!((hashed.get("aé"), hashed.get("b"), hashed.get("c")), (Some(&2), Some(&1), None));
     assert!(serde_json::from_str::<HashMap<Name, u8>>(r#"{"abcde":1}"#).is_err());
     let mut items: Vec<Cut<ArrayString<4>>> = serde_json::from_str(r#"["abcde","a","🤔b"]"#).unwrap();
-    items[1].push_str("b");
+    items[1].0.push_str("b");
     assert_eq!(serde_json::to_string(&items).unwrap(), r#"["abcd","ab","🤔"]"#);
-    let options: [Option<Whole<CacheString>>; 2] = serde_json::from_str(r#"[null,"a"]"#).unwrap();
-    assert_eq!(options, [None, Some(Whole::from(CacheString::from("a")))]);
+    let whole: Vec<Name> = serde_json::from_str(r#"["abcd","a","🤔"]"#).unwrap();
+    assert_eq!(serde_json::to_string(&whole).unwrap(), r#"["abcd","a","🤔"]"#);
+    assert!(serde_json::from_str::<Vec<Name>>(r#"["a","abcde"]"#).is_err());
+    let pair: [Name; 2] = serde_json::from_str(r#"["ab","é"]"#).unwrap();
+    assert_eq!(pair, [Name::from("ab"), Name::from("é")]);
+    let options: [Option<CacheString>; 2] = serde_json::from_str(r#"[null,"a"]"#).unwrap();
+    assert_eq!(options, [None, Some(CacheString::from("a"))]);
     assert_eq!(serde_json::to_string(&options).unwrap(), r#"[null,"a"]"#);
 }
 
 #[test]
 fn what_is_no_text_is_refused() {
     for json in ["1", "null", "true", "[]", "[97]", "{}", "\"a", "", "\"\\ud800\""] {
-        assert!(serde_json::from_str::<Whole<CacheString>>(json).is_err(), "{json}");
+        assert!(serde_json::from_str::<CacheString>(json).is_err(), "{json}");
         assert!(serde_json::from_str::<Cut<CacheString>>(json).is_err(), "{json}");
     }
     for byte in 0x80..=0xFF {
         let bytes = [b'a', byte];
-        let read = Whole::<CacheString>::deserialize(BorrowedBytesDeserializer::<Error>::new(&bytes));
+        let read = CacheString::deserialize(BorrowedBytesDeserializer::<Error>::new(&bytes));
         let wanted = "invalid value: byte array, expected a text of at most 63 bytes";
         assert_eq!(read.unwrap_err().to_string(), wanted);
         assert!(Cut::<CacheString>::deserialize(BorrowedBytesDeserializer::<Error>::new(&bytes)).is_err());
     }
-    let long = serde_json::from_str::<Whole<ArrayString<2>>>("\"abé\"").unwrap_err().to_string();
+    let long = serde_json::from_str::<ArrayString<2>>("\"abé\"").unwrap_err().to_string();
     assert!(long.starts_with("invalid length 4, expected a text of at most 2 bytes"), "{long}");
 }

@@ -1,22 +1,19 @@
 //! Texts and bytes of each length, a fault of UTF-8 at each place, and what a refusal says: a format may show its numbers and bytes
 //! in another way than by words.
 
-use std::borrow::Borrow;
-use std::collections::hash_map::DefaultHasher;
 use std::fmt::{self, Debug, Display};
-use std::hash::{Hash, Hasher};
 use std::str::FromStr;
 
 use arraystring::error::OutOfBounds;
 use arraystring::{ArrayString, CacheString};
-use arraystring_serde::{Cut, Whole};
 use inputs::{GIVEN, cut, texts_of};
-use serde::Deserialize;
 use serde::de::value::{
     BorrowedBytesDeserializer, BorrowedStrDeserializer, BytesDeserializer, CharDeserializer, StrDeserializer,
     StringDeserializer, U64Deserializer, UnitDeserializer,
 };
-use serde::de::{Error, Expected, IntoDeserializer, Unexpected};
+use serde::de::{DeserializeOwned, Error, Expected, IntoDeserializer, Unexpected};
+use serde::{Deserialize, Serialize};
+use with_serde::Cut;
 
 mod inputs;
 
@@ -64,9 +61,29 @@ impl Error for Refusal {
 }
 
 /// What the strings of these tests can.
-trait Text: AsRef<str> + FromStr<Err = OutOfBounds> + for<'a> From<&'a str> + Copy + Debug + PartialEq {}
+trait Text:
+    AsRef<str>
+    + FromStr<Err = OutOfBounds>
+    + for<'a> From<&'a str>
+    + Copy
+    + Debug
+    + PartialEq
+    + Serialize
+    + DeserializeOwned
+{
+}
 
-impl<T: AsRef<str> + FromStr<Err = OutOfBounds> + for<'a> From<&'a str> + Copy + Debug + PartialEq> Text for T {}
+impl<T> Text for T where
+    T: AsRef<str>
+        + FromStr<Err = OutOfBounds>
+        + for<'a> From<&'a str>
+        + Copy
+        + Debug
+        + PartialEq
+        + Serialize
+        + DeserializeOwned
+{
+}
 
 /// What comes of a text by each way in which it is given.
 fn each_way<'a, T: Deserialize<'a>>(text: &'a str) -> [Result<T, Refusal>; 5] {
@@ -87,9 +104,9 @@ fn texts_at<T: Text>(capacity: usize) -> usize {
     let (mut count, [whole, _]) = (0, expected(capacity));
     for text in GIVEN.flat_map(texts_of) {
         let kept = cut(&text, capacity);
-        for read in each_way::<Whole<T>>(&text) {
+        for read in each_way::<T>(&text) {
             match read {
-                Ok(read) => assert_eq!((read.0.as_ref(), text.as_str()), (kept, kept)),
+                Ok(read) => assert_eq!((read.as_ref(), text.as_str()), (kept, kept)),
                 Err(refusal) => {
                     assert!(text.len() > capacity, "{text:?}");
                     assert_eq!(refusal, Refusal::Length(text.len(), whole.clone()));
@@ -131,8 +148,8 @@ fn are_refused<T: Text>(capacity: usize, bytes: &[u8]) -> usize {
     let copied = || -> BytesDeserializer<Refusal> { bytes.into_deserializer() };
     let lent = || BorrowedBytesDeserializer::<Refusal>::new(bytes);
     let refusals = [
-        Whole::<T>::deserialize(copied()).err(),
-        Whole::<T>::deserialize(lent()).err(),
+        T::deserialize(copied()).err(),
+        T::deserialize(lent()).err(),
         Cut::<T>::deserialize(copied()).err(),
         Cut::<T>::deserialize(lent()).err(),
     ];
@@ -200,7 +217,7 @@ fn characters_at<T: Text>(capacity: usize) -> usize {
     {
         let given = || -> CharDeserializer<Refusal> { ch.into_deserializer() };
         let text = ch.to_string();
-        let whole = Whole::<T>::deserialize(given()).map(|read| read.0.as_ref().to_string());
+        let whole = T::deserialize(given()).map(|read| read.as_ref().to_string());
         let refusal = || Refusal::Length(ch.len_utf8(), expected.clone());
         assert_eq!(whole, if text.len() <= capacity { Ok(text.clone()) } else { Err(refusal()) });
         let read = Cut::<T>::deserialize(given());
@@ -222,9 +239,9 @@ fn other_types_say_what_was_expected() {
     let number = |number: u64| -> U64Deserializer<Refusal> { number.into_deserializer() };
     let unit = || -> UnitDeserializer<Refusal> { ().into_deserializer() };
     let [whole, cut] = expected(63).map(Refusal::Type);
-    assert_eq!(Whole::<CacheString>::deserialize(number(7)).as_ref(), Err(&whole));
+    assert_eq!(CacheString::deserialize(number(7)).as_ref(), Err(&whole));
     assert_eq!(Cut::<CacheString>::deserialize(number(0)).as_ref(), Err(&cut));
-    assert_eq!(Whole::<CacheString>::deserialize(unit()).as_ref(), Err(&whole));
+    assert_eq!(CacheString::deserialize(unit()).as_ref(), Err(&whole));
     assert_eq!(Cut::<CacheString>::deserialize(unit()).as_ref(), Err(&cut));
 }
 
@@ -233,7 +250,7 @@ fn words_at<T: Text>(capacity: usize) -> usize {
     let (mut refused, [expected, _]) = (0, expected(capacity));
     for text in GIVEN.flat_map(texts_of) {
         let json = serde_json::to_string(&text).unwrap();
-        match serde_json::from_str::<Whole<T>>(&json) {
+        match serde_json::from_str::<T>(&json) {
             Ok(read) => assert_eq!((serde_json::to_string(&read).unwrap(), text.len() <= capacity), (json, true)),
             Err(refusal) => {
                 let words = format!("invalid length {}, expected {expected} at line 1", text.len());
@@ -248,61 +265,4 @@ fn words_at<T: Text>(capacity: usize) -> usize {
 #[test]
 fn the_words_of_a_refusal_have_the_length() {
     assert_eq!(at_capacities!(words_at), [0, 1, 8, 63, 254, 255, 255].map(|capacity| 3 * (600 - capacity)));
-}
-
-fn hash_of<T: Hash + ?Sized>(value: &T) -> u64 {
-    let mut state = DefaultHasher::new();
-    value.hash(&mut state);
-    state.finish()
-}
-
-/// Asserts that a wrapper prints as its string does, compares as its text does, hashes as that, and lends what is inside.
-macro_rules! is_wrapper {
-    ($name:ident, $one:expr, $other:expr) => {{
-        let (one, other): (&str, &str) = ($one, $other);
-        let wrapped = |text: &str| $name(ArrayString::<23>::from(text));
-        let (a, b) = (wrapped(one), wrapped(other));
-        assert_eq!((a == b, a != b), (one == other, one != other), "{one:?} {other:?}");
-        assert_eq!((a.cmp(&b), a.partial_cmp(&b)), (one.cmp(other), Some(one.cmp(other))), "{one:?} {other:?}");
-        assert_eq!([a == *other, a == other, *other == a, other == a], [one == other; 4]);
-        let inside = ArrayString::<23>::from(one);
-        assert_eq!((format!("{a:?}"), format!("{a:#?}")), (format!("{inside:?}"), format!("{inside:#?}")));
-        assert_eq!((format!("{a}"), format!("{a:_>30.1}")), (one.to_string(), format!("{inside:_>30.1}")));
-        assert_eq!((hash_of(&a), Borrow::<str>::borrow(&a)), (hash_of(one), one));
-        let mut changed = $name::from(a.0);
-        assert_eq!((changed.as_str(), changed == a, changed.0 == *a), (one, true, true));
-        changed.clear();
-        changed.push_str(other);
-        assert_eq!((changed == b, &changed.0 == &*b, $name::<CacheString>::default().as_str()), (true, true, ""));
-    }};
-}
-
-#[test]
-fn wrappers_are_as_their_strings() {
-    let texts: Vec<String> = [0, 1, 2, 3, 8, 22, 23].into_iter().flat_map(texts_of).collect();
-    for (one, other) in texts.iter().flat_map(|one| texts.iter().map(move |other| (one, other))) {
-        is_wrapper!(Whole, one, other);
-        is_wrapper!(Cut, one, other);
-    }
-}
-
-/// Asserts what comes of a text that is parsed, refused or cut by a wrapper, and returns how many were refused.
-fn made_at<T: Text>(capacity: usize) -> usize {
-    let mut refused = 0;
-    for text in GIVEN.flat_map(texts_of) {
-        let kept = cut(&text, capacity);
-        let inside = |whole: Whole<T>| whole.0.as_ref().to_string();
-        let wanted = if text.len() <= capacity { Ok(text.clone()) } else { Err(OutOfBounds) };
-        refused += usize::from(wanted.is_err());
-        assert_eq!(text.parse().map(inside), wanted);
-        assert_eq!(Whole::try_from_str(&text).map(inside), wanted);
-        assert_eq!(text.parse().map(|read: Cut<T>| read.0.as_ref().to_string()), wanted);
-        assert_eq!(Cut::<T>::from_str_truncate(&text).0.as_ref(), kept);
-    }
-    refused
-}
-
-#[test]
-fn wrappers_are_made_of_texts() {
-    assert_eq!(at_capacities!(made_at), [0, 1, 8, 63, 254, 255, 255].map(|capacity| 3 * (600 - capacity)));
 }
