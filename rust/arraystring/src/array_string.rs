@@ -49,7 +49,7 @@ mod views;
 mod loan;
 mod room;
 mod push;
-mod write;
+mod whole;
 mod insert;
 mod borrowed_range;
 mod drained_range;

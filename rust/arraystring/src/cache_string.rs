@@ -33,6 +33,7 @@ mod traits;
 #[derive(Clone, Copy, Debug)]
 pub struct CacheString(pub ArrayString<63>);
 
+/// Strings made from texts, characters, bytes and UTF-16, and the calls that return a string.
 impl CacheString {
     /// Returns an empty string.
     ///
@@ -494,6 +495,7 @@ impl CacheString {
 ///
 /// Most programs need none of these calls. What stands under *Safety* is for the caller to keep. A release build
 /// without the feature `checked` does not test it.
+/// Calls that leave a test to the caller. Most programs need none of them.
 impl CacheString {
     /// Creates a string from `string`.
     ///

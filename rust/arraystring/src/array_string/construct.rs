@@ -7,6 +7,7 @@ use crate::array_string::fill::try_fill;
 use crate::error::{Error, OutOfBounds, Utf8};
 use crate::utf8::{read_utf8, truncate_str};
 
+/// Strings made from texts, characters and bytes.
 impl<const N: usize> ArrayString<N> {
     /// Returns an empty string.
     ///

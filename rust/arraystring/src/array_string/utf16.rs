@@ -7,6 +7,7 @@ use crate::utf8::encode;
 use crate::utf16::{Unit16, Units};
 use core::char;
 
+/// Strings made from UTF-16.
 impl<const N: usize> ArrayString<N> {
     /// Creates a string from the UTF-16 in `units`.
     ///

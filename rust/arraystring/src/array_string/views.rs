@@ -5,6 +5,7 @@ use super::ArrayString;
 use crate::access::str;
 use crate::utf8::is_boundary;
 
+/// What a string holds.
 impl<const N: usize> ArrayString<N> {
     /// Returns the capacity in bytes: the lesser of `N` and 255. So a string whose `N` is over 255
     /// takes more memory and holds no more.
