@@ -117,7 +117,7 @@ impl CacheString {
     }
 
     /// Creates a string from the longest prefix of whole characters of `string` that fits.
-    /// [`try_from_str`](crate::CacheString::try_from_str) refuses what does not fit.
+    /// [`try_from_str`](Self::try_from_str) refuses what does not fit.
     ///
     /// # Examples
     ///
@@ -323,7 +323,7 @@ impl CacheString {
     }
 
     /// Creates a string from the UTF-8 in `given`, **cut** to the longest prefix of whole characters
-    /// that fits. [`try_from_utf8`](crate::CacheString::try_from_utf8) refuses what does not fit.
+    /// that fits. [`try_from_utf8`](Self::try_from_utf8) refuses what does not fit.
     ///
     /// # Errors
     ///
@@ -394,7 +394,7 @@ impl CacheString {
 
     /// Creates a string from the longest prefix of characters of `units` that fits. What comes
     /// after a character that does not fit has no effect: the text is **cut** there.
-    /// [`try_from_utf16`](crate::CacheString::try_from_utf16) refuses what does not fit.
+    /// [`try_from_utf16`](Self::try_from_utf16) refuses what does not fit.
     ///
     /// # Errors
     ///

@@ -50,7 +50,7 @@ impl<const N: usize> ArrayString<N> {
 
     /// Returns the part of the text in the range, borrowed without a copy. Returns `None` if the
     /// range ends before it starts, or if its start or its end is not a boundary. The ends are
-    /// read as in [`slice`](crate::ArrayString::slice).
+    /// read as in [`slice`](Self::slice).
     ///
     /// # Examples
     ///
