@@ -52,7 +52,8 @@ pub unsafe fn shift<const N: usize>(array: &mut [u8; N], from: usize, to: usize,
 ///
 /// # Safety
 ///
-/// The run that is moved must lie in the array. So must the run that is written over.
+/// - `from + len <= N`
+/// - `to + len <= N`
 unsafe fn move_run<const N: usize>(array: &mut [u8; N], from: usize, to: usize, len: usize) {
     let all = &mut array[..];
     if len < 16 {
@@ -79,7 +80,8 @@ unsafe fn move_run<const N: usize>(array: &mut [u8; N], from: usize, to: usize, 
 ///
 /// # Safety
 ///
-/// The run that is moved must lie in the slice. So must the run that is written over.
+/// - `from + len <= all.len()`
+/// - `to + len <= all.len()`
 #[inline(never)]
 pub(crate) unsafe fn move_bytes(all: &mut [u8], from: usize, to: usize, len: usize) {
     // SAFETY: this is within: by this function's `# Safety`.
@@ -159,7 +161,7 @@ unsafe fn move_ends<const K: usize>(all: &mut [u8], from: usize, to: usize, len:
 ///
 /// # Safety
 ///
-/// What is written must lie in the array.
+/// - `at + given.len() <= N`
 pub(crate) unsafe fn write_over<const N: usize>(array: &mut [u8; N], at: usize, given: &[u8]) {
     let all = &mut array[..];
     if N > 32 && given.len() > 32 {
@@ -187,7 +189,7 @@ pub(crate) unsafe fn write_over<const N: usize>(array: &mut [u8; N], at: usize, 
 ///
 /// # Safety
 ///
-/// What is written must lie in the slice.
+/// - `at + given.len() <= all.len()`
 #[inline(always)]
 pub(crate) unsafe fn write_by_call(all: &mut [u8], at: usize, given: &[u8]) {
     // SAFETY: this is within: by this function's `# Safety`.
