@@ -49,7 +49,7 @@ mod views;
 mod loan;
 mod room;
 mod push;
-mod write;
+mod whole;
 mod insert;
 mod borrowed_range;
 mod drained_range;
@@ -70,12 +70,12 @@ mod unchecked;
 /// A text *fits* if the string with it is not larger than the capacity. What does not fit is cut or
 /// refused, by the call:
 ///
-/// - **Cut**, to the whole characters that fit: `from` and so `into`, [`from_str_truncate`](crate::ArrayString::from_str_truncate),
-///   [`from_chars`](crate::ArrayString::from_chars), [`from_iterator`](crate::ArrayString::from_iterator), [`from_utf8`](crate::ArrayString::from_utf8), [`from_utf16`](crate::ArrayString::from_utf16), [`from_utf16_lossy`](crate::ArrayString::from_utf16_lossy), [`push_str`](crate::ArrayString::push_str), `+`,
-///   [`extend_chars`](crate::ArrayString::extend_chars), [`extend_strs`](crate::ArrayString::extend_strs), [`insert_str`](crate::ArrayString::insert_str).
-/// - **Refused**, and then nothing has changed: `parse`, [`try_from_str`](crate::ArrayString::try_from_str), [`try_from_chars`](crate::ArrayString::try_from_chars),
-///   [`try_from_iterator`](crate::ArrayString::try_from_iterator), [`try_from_utf8`](crate::ArrayString::try_from_utf8), [`try_from_utf16`](crate::ArrayString::try_from_utf16), [`try_push`](crate::ArrayString::try_push), [`try_push_str`](crate::ArrayString::try_push_str), [`try_insert`](crate::ArrayString::try_insert),
-///   [`try_insert_str`](crate::ArrayString::try_insert_str), [`replace_range`](crate::ArrayString::replace_range), and each piece that `write!` writes.
+/// - **Cut**, to the whole characters that fit: `from` and so `into`, [`from_str_truncate`](Self::from_str_truncate),
+///   [`from_chars`](Self::from_chars), [`from_iterator`](Self::from_iterator), [`from_utf8`](Self::from_utf8), [`from_utf16`](Self::from_utf16), [`from_utf16_lossy`](Self::from_utf16_lossy), [`push_str`](Self::push_str), `+`,
+///   [`extend_chars`](Self::extend_chars), [`extend_strs`](Self::extend_strs), [`insert_str`](Self::insert_str).
+/// - **Refused**, and then nothing has changed: `parse`, [`try_from_str`](Self::try_from_str), [`try_from_chars`](Self::try_from_chars),
+///   [`try_from_iterator`](Self::try_from_iterator), [`try_from_utf8`](Self::try_from_utf8), [`try_from_utf16`](Self::try_from_utf16), [`try_push`](Self::try_push), [`try_push_str`](Self::try_push_str), [`try_insert`](Self::try_insert),
+///   [`try_insert_str`](Self::try_insert_str), [`replace_range`](Self::replace_range), and each piece that `write!` writes.
 ///
 /// A *boundary* is an index at which a character begins or the text ends. An index is *past* the
 /// text if it is greater than the length, and *inside* a character if it is less and no boundary.

@@ -33,6 +33,7 @@ mod traits;
 #[derive(Clone, Copy, Debug)]
 pub struct CacheString(pub ArrayString<63>);
 
+/// Strings made from texts, characters, bytes and UTF-16, and the calls that return a string.
 impl CacheString {
     /// Returns an empty string.
     ///
@@ -116,7 +117,7 @@ impl CacheString {
     }
 
     /// Creates a string from the longest prefix of whole characters of `string` that fits.
-    /// [`try_from_str`](crate::CacheString::try_from_str) refuses what does not fit.
+    /// [`try_from_str`](Self::try_from_str) refuses what does not fit.
     ///
     /// # Examples
     ///
@@ -322,7 +323,7 @@ impl CacheString {
     }
 
     /// Creates a string from the UTF-8 in `given`, **cut** to the longest prefix of whole characters
-    /// that fits. [`try_from_utf8`](crate::CacheString::try_from_utf8) refuses what does not fit.
+    /// that fits. [`try_from_utf8`](Self::try_from_utf8) refuses what does not fit.
     ///
     /// # Errors
     ///
@@ -393,7 +394,7 @@ impl CacheString {
 
     /// Creates a string from the longest prefix of characters of `units` that fits. What comes
     /// after a character that does not fit has no effect: the text is **cut** there.
-    /// [`try_from_utf16`](crate::CacheString::try_from_utf16) refuses what does not fit.
+    /// [`try_from_utf16`](Self::try_from_utf16) refuses what does not fit.
     ///
     /// # Errors
     ///
@@ -494,6 +495,7 @@ impl CacheString {
 ///
 /// Most programs need none of these calls. What stands under *Safety* is for the caller to keep. A release build
 /// without the feature `checked` does not test it.
+/// Calls that leave a test to the caller. Most programs need none of them.
 impl CacheString {
     /// Creates a string from `string`.
     ///

@@ -1,49 +1,74 @@
 // By hand: no proof stands behind this file.
-//! Copies of the text as `String`, `Box<str>`, `Cow<str>` and `Vec<u8>`, behind the feature `alloc`: of one string, and of many that
-//! are collected.
+//! Copies of the text as `String`, `Box<str>`, `Rc<str>`, `Arc<str>`, `Cow<str>` and `Vec<u8>`, behind the feature `alloc`: of one
+//! string, and of many that are collected.
 #![deny(unsafe_code)]
 
 extern crate alloc;
 
 use self::alloc::borrow::Cow;
 use self::alloc::boxed::Box;
+use self::alloc::rc::Rc;
 use self::alloc::string::String;
+use self::alloc::sync::Arc;
 use self::alloc::vec::Vec;
 use crate::{ArrayString, CacheString};
+
+/// Implements a copy of the text as another type of text.
+macro_rules! copied_as {
+    ($(($($generics:tt)*) $string:ty, $copy:ty;)*) => {$(
+        /// A copy of the text. With the feature `alloc`.
+        ///
+        /// ```
+        /// # #[allow(unused_imports)]
+        /// use std::{rc::Rc, sync::Arc};
+        ///
+        /// use arraystring::{ArrayString, CacheString};
+        ///
+        #[doc = concat!("let copies: [", stringify!($copy), "; 2] = [ArrayString::<4>::from(\"ab\").into(), CacheString::from(\"c\").into()];")]
+        /// assert_eq!((&*copies[0], &*copies[1]), ("ab", "c"));
+        /// ```
+        impl<$($generics)*> From<$string> for $copy {
+            #[inline]
+            fn from(string: $string) -> Self {
+                string.as_str().into()
+            }
+        }
+
+        /// A copy of the text. With the feature `alloc`.
+        ///
+        /// ```
+        /// # #[allow(unused_imports)]
+        /// use std::{rc::Rc, sync::Arc};
+        ///
+        /// use arraystring::{ArrayString, CacheString};
+        ///
+        /// let (string, key) = (ArrayString::<4>::from("ab"), CacheString::from("c"));
+        #[doc = concat!("let copies: [", stringify!($copy), "; 2] = [(&string).into(), (&key).into()];")]
+        /// assert_eq!((&*copies[0], &*copies[1]), ("ab", "c"));
+        /// ```
+        impl<$($generics)*> From<&$string> for $copy {
+            #[inline]
+            fn from(string: &$string) -> Self {
+                string.as_str().into()
+            }
+        }
+    )*};
+}
+
+copied_as! {
+    (const N: usize) ArrayString<N>, String;
+    (const N: usize) ArrayString<N>, Box<str>;
+    (const N: usize) ArrayString<N>, Rc<str>;
+    (const N: usize) ArrayString<N>, Arc<str>;
+    () CacheString, String;
+    () CacheString, Box<str>;
+    () CacheString, Rc<str>;
+    () CacheString, Arc<str>;
+}
 
 /// Implements what is copied of both types of strings.
 macro_rules! copied {
     ($(($($generics:tt)*) $string:ty),*) => {$(
-        /// A copy of the text. With the feature `alloc`.
-        ///
-        /// ```
-        /// use arraystring::{ArrayString, CacheString};
-        ///
-        /// assert_eq!(String::from(ArrayString::<4>::from("ab")), "ab");
-        /// assert_eq!(String::from(CacheString::from("ab")), "ab");
-        /// ```
-        impl<$($generics)*> From<$string> for String {
-            #[inline]
-            fn from(string: $string) -> Self {
-                string.as_str().into()
-            }
-        }
-
-        /// A copy of the text. With the feature `alloc`.
-        ///
-        /// ```
-        /// use arraystring::{ArrayString, CacheString};
-        ///
-        /// let copies = [Box::<str>::from(ArrayString::<4>::from("ab")), CacheString::from("c").into()];
-        /// assert_eq!(copies.concat(), "abc");
-        /// ```
-        impl<$($generics)*> From<$string> for Box<str> {
-            #[inline]
-            fn from(string: $string) -> Self {
-                string.as_str().into()
-            }
-        }
-
         /// A copy of the text, owned. With the feature `alloc`.
         ///
         /// ```
@@ -88,6 +113,21 @@ macro_rules! copied {
         impl<$($generics)*> From<$string> for Vec<u8> {
             #[inline]
             fn from(string: $string) -> Self {
+                string.as_bytes().into()
+            }
+        }
+
+        /// A copy of the UTF-8 of the text. With the feature `alloc`.
+        ///
+        /// ```
+        /// use arraystring::{ArrayString, CacheString};
+        ///
+        /// assert_eq!(Vec::from(&ArrayString::<4>::from("é")), [0xC3, 0xA9]);
+        /// assert_eq!(Vec::from(&CacheString::from("a")), b"a");
+        /// ```
+        impl<$($generics)*> From<&$string> for Vec<u8> {
+            #[inline]
+            fn from(string: &$string) -> Self {
                 string.as_bytes().into()
             }
         }

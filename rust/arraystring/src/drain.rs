@@ -36,6 +36,7 @@ pub struct Drain<const N: usize> {
     array: [u8; N],
 }
 
+/// What is left.
 impl<const N: usize> Drain<N> {
     /// The `size` bytes from `start` on are left.
     ///

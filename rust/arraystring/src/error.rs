@@ -42,7 +42,7 @@ impl Error {
     }
 }
 
-/// Prints the case with its type, such as [`Error::Utf8`](crate::Error::Utf8).
+/// Prints the case with its type, such as [`Error::Utf8`].
 ///
 /// # Examples
 ///
@@ -198,7 +198,7 @@ impl From<Utf8> for Error {
     }
 }
 
-/// The error of `std` for bytes that are not UTF-8 becomes [`Error::Utf8`](crate::Error::Utf8).
+/// The error of `std` for bytes that are not UTF-8 becomes [`Error::Utf8`].
 ///
 /// # Examples
 ///
@@ -269,7 +269,7 @@ impl Hash for Error {
 #[derive(Clone, Copy, Default, PartialEq, Eq)]
 pub struct Utf8;
 
-/// Prints [`Utf8`](crate::error::Utf8).
+/// Prints [`Utf8`].
 ///
 /// # Examples
 ///
@@ -295,7 +295,7 @@ impl fmt::Debug for Utf8 {
     }
 }
 
-/// Prints [`Utf8`](crate::error::Utf8). A width in the format does not pad it.
+/// Prints [`Utf8`]. A width in the format does not pad it.
 ///
 /// # Examples
 ///
@@ -334,7 +334,7 @@ impl fmt::Display for Utf8 {
 /// ```
 impl StdError for Utf8 {}
 
-/// The error of `std` for bytes that are not UTF-8 becomes [`Utf8`](crate::error::Utf8).
+/// The error of `std` for bytes that are not UTF-8 becomes [`Utf8`].
 ///
 /// # Examples
 ///
@@ -363,7 +363,7 @@ impl From<Utf8Error> for Utf8 {
 #[derive(Clone, Copy, Default, PartialEq, Eq)]
 pub struct Utf16;
 
-/// Prints [`Utf16`](crate::error::Utf16).
+/// Prints [`Utf16`].
 ///
 /// # Examples
 ///
@@ -389,7 +389,7 @@ impl fmt::Debug for Utf16 {
     }
 }
 
-/// Prints [`Utf16`](crate::error::Utf16). A width in the format does not pad it.
+/// Prints [`Utf16`]. A width in the format does not pad it.
 ///
 /// # Examples
 ///
@@ -441,7 +441,7 @@ impl StdError for Utf16 {}
 #[derive(Clone, Copy, Default, PartialEq, Eq)]
 pub struct OutOfBounds;
 
-/// Prints [`OutOfBounds`](crate::error::OutOfBounds).
+/// Prints [`OutOfBounds`].
 ///
 /// # Examples
 ///
@@ -467,7 +467,7 @@ impl fmt::Debug for OutOfBounds {
     }
 }
 
-/// Prints [`OutOfBounds`](crate::error::OutOfBounds). A width in the format does not pad it.
+/// Prints [`OutOfBounds`]. A width in the format does not pad it.
 ///
 /// # Examples
 ///

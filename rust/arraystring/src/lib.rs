@@ -5,6 +5,7 @@
 //!
 //! [`contracts`] says how to read a contract, and [`trust`] what is proved and what has to be trusted.
 #![no_std]
+#![cfg_attr(docsrs, feature(doc_cfg))]
 #![deny(unsafe_op_in_unsafe_fn, missing_docs)]
 #![deny(clippy::undocumented_unsafe_blocks, clippy::cast_possible_truncation)]
 
@@ -18,6 +19,8 @@ mod cache_string;
 pub mod contracts;
 #[cfg(feature = "alloc")]
 mod copies;
+#[cfg(feature = "serde")]
+pub mod cut;
 pub mod drain;
 pub mod error;
 mod moves;
@@ -27,6 +30,8 @@ mod owned;
 mod paths;
 mod range_ends;
 mod rust_traits;
+#[cfg(feature = "serde")]
+mod serde_traits;
 mod simd;
 pub mod utf16;
 mod utf8;

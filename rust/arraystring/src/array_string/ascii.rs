@@ -5,6 +5,7 @@ use crate::ArrayString;
 use crate::range_ends::plain_ends;
 use core::ops::RangeBounds;
 
+/// ASCII letters, made upper or lower case.
 impl<const N: usize> ArrayString<N> {
     /// Changes a..z to A..Z. All other characters stay as they are.
     ///

@@ -5,6 +5,7 @@ use crate::ArrayString;
 use crate::range_ends::plain_ends;
 use core::ops::RangeBounds;
 
+/// A part of the text, borrowed.
 impl<const N: usize> ArrayString<N> {
     /// Returns the part of the text in the range, borrowed without a copy. An excluded start and
     /// an included end count as the next index: `..=2` ends at 3, and `..=255` ends at 256, which is
@@ -49,7 +50,7 @@ impl<const N: usize> ArrayString<N> {
 
     /// Returns the part of the text in the range, borrowed without a copy. Returns `None` if the
     /// range ends before it starts, or if its start or its end is not a boundary. The ends are
-    /// read as in [`slice`](crate::ArrayString::slice).
+    /// read as in [`slice`](Self::slice).
     ///
     /// # Examples
     ///

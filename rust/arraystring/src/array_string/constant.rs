@@ -1,5 +1,5 @@
 // By hand: no proof stands behind this file.
-//! Constants: a string of a text that is known when the program is compiled.
+//! Macros: a string of a text that is known when the program is compiled, and one of what a format prints.
 #![deny(unsafe_code)]
 
 use crate::ArrayString;
@@ -40,6 +40,30 @@ use crate::error::OutOfBounds;
 macro_rules! arraystring {
     ($text:expr) => {
         const { $crate::ArrayString::of_constant($text) }
+    };
+}
+
+/// A string of what a format prints, whole: [`try_from_format`](crate::ArrayString::try_from_format) without `format_args!`. The type
+/// that is wanted decides the capacity.
+///
+/// # Errors
+///
+/// Returns `Err(fmt::Error)` if not all of it fits, or if a `Display` in it fails.
+///
+/// ```
+/// use arraystring::{ArrayString, Error, try_format};
+///
+/// fn label(name: &str, number: u32) -> Result<ArrayString<8>, Error> {
+///     Ok(try_format!("{name}-{number}")?)
+/// }
+///
+/// assert_eq!(label("ann", 7), Ok("ann-7".into()));
+/// assert_eq!(label("ann", 12345), Err(Error::OutOfBounds));
+/// ```
+#[macro_export]
+macro_rules! try_format {
+    ($($arguments:tt)*) => {
+        $crate::ArrayString::try_from_format(::core::format_args!($($arguments)*))
     };
 }
 

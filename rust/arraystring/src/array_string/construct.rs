@@ -7,6 +7,7 @@ use crate::array_string::fill::try_fill;
 use crate::error::{Error, OutOfBounds, Utf8};
 use crate::utf8::{read_utf8, truncate_str};
 
+/// Strings made from texts, characters and bytes.
 impl<const N: usize> ArrayString<N> {
     /// Returns an empty string.
     ///
@@ -78,7 +79,7 @@ impl<const N: usize> ArrayString<N> {
     }
 
     /// Creates a string from the longest prefix of whole characters of `string` that fits.
-    /// [`try_from_str`](crate::ArrayString::try_from_str) refuses what does not fit.
+    /// [`try_from_str`](Self::try_from_str) refuses what does not fit.
     ///
     /// # Examples
     ///
@@ -323,7 +324,7 @@ impl<const N: usize> ArrayString<N> {
     }
 
     /// Creates a string from the UTF-8 in `given`, **cut** to the longest prefix of whole characters
-    /// that fits. [`try_from_utf8`](crate::ArrayString::try_from_utf8) refuses what does not fit.
+    /// that fits. [`try_from_utf8`](Self::try_from_utf8) refuses what does not fit.
     ///
     /// # Errors
     ///

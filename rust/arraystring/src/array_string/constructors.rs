@@ -1,5 +1,6 @@
 // By hand: no proof stands behind this file.
-//! Constructors without a proof: in a constant, from what a format prints, and from one character.
+//! Constructors without a proof: in a constant, from what a format prints, from bytes of which some are no UTF-8, and from one
+//! character.
 #![deny(unsafe_code)]
 
 use core::fmt;
@@ -7,6 +8,7 @@ use core::fmt;
 use crate::error::OutOfBounds;
 use crate::{ArrayString, CacheString};
 
+/// Strings made in a constant, from what a format prints, and from bytes of which some are no UTF-8.
 impl<const N: usize> ArrayString<N> {
     /// Does what [`try_from_str`](Self::try_from_str) does, and is `const`. So it takes a `&str`
     /// and nothing else.
@@ -71,8 +73,36 @@ impl<const N: usize> ArrayString<N> {
         string.try_write(arguments)?;
         Ok(string)
     }
+
+    /// Creates a string from bytes. Each run of bytes that is no UTF-8 becomes U+FFFD, as in `String::from_utf8_lossy`. A text
+    /// that is larger than the capacity is **cut** to the whole characters that fit.
+    ///
+    /// # Examples
+    ///
+    /// ```
+    /// use arraystring::ArrayString;
+    ///
+    /// assert_eq!(ArrayString::<8>::from_utf8_lossy(b"a\xFFb"), "a\u{FFFD}b");
+    /// assert_eq!(ArrayString::<4>::from_utf8_lossy(b"ab\xFFc"), "ab");
+    /// ```
+    #[must_use]
+    #[inline]
+    pub fn from_utf8_lossy<B: AsRef<[u8]>>(given: B) -> Self {
+        let mut string = Self::new();
+        for chunk in given.as_ref().utf8_chunks() {
+            if string.try_push_str(chunk.valid()).is_err() {
+                string.push_str(chunk.valid());
+                break;
+            }
+            if !chunk.invalid().is_empty() && string.try_push(char::REPLACEMENT_CHARACTER).is_err() {
+                break;
+            }
+        }
+        string
+    }
 }
 
+/// Strings made in a constant, from what a format prints, and from bytes of which some are no UTF-8.
 impl CacheString {
     /// Does what [`try_from_str`](Self::try_from_str) does, and is `const`. So it takes a `&str`
     /// and nothing else.
@@ -116,6 +146,23 @@ impl CacheString {
     #[inline]
     pub fn try_from_format(arguments: fmt::Arguments<'_>) -> Result<Self, fmt::Error> {
         ArrayString::try_from_format(arguments).map(CacheString)
+    }
+
+    /// Creates a string from bytes. Each run of bytes that is no UTF-8 becomes U+FFFD, as in `String::from_utf8_lossy`. A text
+    /// that is larger than the capacity is **cut** to the whole characters that fit.
+    ///
+    /// # Examples
+    ///
+    /// ```
+    /// use arraystring::CacheString;
+    ///
+    /// assert_eq!(CacheString::from_utf8_lossy(b"a\xFFb"), "a\u{FFFD}b");
+    /// assert_eq!(CacheString::from_utf8_lossy([0xFF; 64]).len(), 63);
+    /// ```
+    #[must_use]
+    #[inline]
+    pub fn from_utf8_lossy<B: AsRef<[u8]>>(given: B) -> Self {
+        CacheString(ArrayString::from_utf8_lossy(given))
     }
 }
 

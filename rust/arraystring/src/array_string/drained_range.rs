@@ -7,6 +7,7 @@ use crate::range_ends::saturating_ends;
 use crate::{ArrayString, Drain};
 use core::ops::RangeBounds;
 
+/// A part of the text, removed.
 impl<const N: usize> ArrayString<N> {
     /// Removes the part in the range and returns its characters as a [`Drain`](crate::Drain). The part is removed
     /// at once, whether or not the [`Drain`](crate::Drain) is used. An excluded start and an included end count as

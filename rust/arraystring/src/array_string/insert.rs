@@ -6,6 +6,7 @@ use crate::ArrayString;
 use crate::error::Error;
 use crate::utf8::truncate_str;
 
+/// Insertions.
 impl<const N: usize> ArrayString<N> {
     /// Inserts `ch` at the byte index `index`.
     ///

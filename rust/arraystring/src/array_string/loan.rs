@@ -10,6 +10,7 @@ use core::str;
 use crate::range_ends::plain_ends;
 use crate::{ArrayString, CacheString};
 
+/// The text, borrowed to be written.
 impl<const N: usize> ArrayString<N> {
     /// Returns the text as a `&mut str`, borrowed without a copy. Nothing safe can change its length there.
     ///

@@ -5,6 +5,7 @@ use crate::ArrayString;
 use crate::error::OutOfBounds;
 use crate::utf8::truncate_str;
 
+/// Appends.
 impl<const N: usize> ArrayString<N> {
     /// Appends `ch`.
     ///

@@ -8,6 +8,7 @@ use crate::error::{Error, Utf8};
 use crate::moves::shift;
 use crate::utf8::last_char;
 
+/// Removals.
 impl<const N: usize> ArrayString<N> {
     /// Shortens the text to its first `size` bytes. Nothing changes if it has no more.
     ///

@@ -7,8 +7,9 @@ use crate::error::Error;
 use crate::range_ends::saturating_ends;
 use core::ops::RangeBounds;
 
+/// A part of the text, replaced.
 impl<const N: usize> ArrayString<N> {
-    /// Replaces the part in the range with `with`. The ends are read as in [`drain`](crate::ArrayString::drain).
+    /// Replaces the part in the range with `with`. The ends are read as in [`drain`](Self::drain).
     ///
     /// # Errors
     ///

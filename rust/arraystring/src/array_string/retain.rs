@@ -6,6 +6,7 @@ use crate::access::str;
 use crate::array_string::remove::first_char;
 use crate::moves::shift;
 
+/// Removals by a closure.
 impl<const N: usize> ArrayString<N> {
     /// Keeps the characters for which `f` returns true and removes all others. `f` is called once
     /// with each character, in order.

@@ -1,10 +1,25 @@
 // By hand: no proof stands behind this file.
-//! The room that is left in a string.
+//! The capacity as a constant, and the room that is left in a string.
 #![deny(unsafe_code)]
 
-use crate::ArrayString;
+use crate::{ArrayString, CacheString};
 
+/// The capacity as a constant, and the room that is left.
 impl<const N: usize> ArrayString<N> {
+    /// The capacity in bytes, as [`capacity`](Self::capacity) returns it.
+    ///
+    /// # Examples
+    ///
+    /// ```
+    /// use arraystring::ArrayString;
+    ///
+    /// type Name = ArrayString<8>;
+    ///
+    /// let field = [0u8; Name::CAPACITY as usize];
+    /// assert_eq!((field.len(), ArrayString::<300>::CAPACITY), (8, 255));
+    /// ```
+    pub const CAPACITY: u8 = Self::capacity();
+
     /// Returns how many bytes can still be added: the capacity without the length.
     ///
     /// ```
@@ -31,4 +46,18 @@ impl<const N: usize> ArrayString<N> {
     pub const fn is_full(&self) -> bool {
         self.remaining_capacity() == 0
     }
+}
+
+/// The capacity as a constant.
+impl CacheString {
+    /// The capacity in bytes, which is 63.
+    ///
+    /// # Examples
+    ///
+    /// ```
+    /// use arraystring::CacheString;
+    ///
+    /// assert_eq!(CacheString::CAPACITY, CacheString::capacity());
+    /// ```
+    pub const CAPACITY: u8 = Self::capacity();
 }

@@ -136,8 +136,8 @@ impl<const N: usize> fmt::Display for ArrayString<N> {
 /// </details>
 impl<const N: usize> Eq for ArrayString<N> {}
 
-/// Makes a string as [`from_str_truncate`](crate::ArrayString::from_str_truncate) does: what does not fit is **cut** off, also by `into`, and in
-/// Rust by std's `try_from`, which is then `Ok` of a cut text. `parse` and [`try_from_str`](crate::ArrayString::try_from_str) refuse it.
+/// Makes a string as [`from_str_truncate`](Self::from_str_truncate) does: what does not fit is **cut** off, also by `into`, and in
+/// Rust by std's `try_from`, which is then `Ok` of a cut text. `parse` and [`try_from_str`](Self::try_from_str) refuse it.
 ///
 /// # Examples
 ///
@@ -164,7 +164,7 @@ impl<'a, const N: usize> From<&'a str> for ArrayString<N> {
     }
 }
 
-/// Makes a string as [`try_from_str`](crate::ArrayString::try_from_str) does.
+/// Makes a string as [`try_from_str`](Self::try_from_str) does.
 ///
 /// # Examples
 ///

@@ -4,6 +4,7 @@
 use crate::ArrayString;
 use crate::utf8::last_char;
 
+/// Removals at both ends.
 impl<const N: usize> ArrayString<N> {
     /// Removes all white space at both ends, and nothing else. As in `str::trim`, white space is
     /// what has the property White_Space of the Unicode Standard: the characters for which

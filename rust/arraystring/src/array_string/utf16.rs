@@ -7,6 +7,7 @@ use crate::utf8::encode;
 use crate::utf16::{Unit16, Units};
 use core::char;
 
+/// Strings made from UTF-16.
 impl<const N: usize> ArrayString<N> {
     /// Creates a string from the UTF-16 in `units`.
     ///
@@ -54,7 +55,7 @@ impl<const N: usize> ArrayString<N> {
 
     /// Creates a string from the longest prefix of characters of `units` that fits. What comes
     /// after a character that does not fit has no effect: the text is **cut** there.
-    /// [`try_from_utf16`](crate::ArrayString::try_from_utf16) refuses what does not fit.
+    /// [`try_from_utf16`](Self::try_from_utf16) refuses what does not fit.
     ///
     /// # Errors
     ///

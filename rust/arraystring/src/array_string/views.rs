@@ -5,6 +5,7 @@ use super::ArrayString;
 use crate::access::str;
 use crate::utf8::is_boundary;
 
+/// What a string holds.
 impl<const N: usize> ArrayString<N> {
     /// Returns the capacity in bytes: the lesser of `N` and 255. So a string whose `N` is over 255
     /// takes more memory and holds no more.
@@ -132,8 +133,8 @@ impl<const N: usize> ArrayString<N> {
         unsafe { str::from_utf8_unchecked(text) }
     }
 
-    /// Returns the bytes of the text, borrowed without a copy. There are as many as [`len`](crate::ArrayString::len) returns.
-    /// The contract also promises what the contract of [`as_str`](crate::ArrayString::as_str) promises of the text.
+    /// Returns the bytes of the text, borrowed without a copy. There are as many as [`len`](Self::len) returns.
+    /// The contract also promises what the contract of [`as_str`](Self::as_str) promises of the text.
     ///
     /// # Examples
     ///
