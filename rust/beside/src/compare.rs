@@ -4,9 +4,9 @@ use std::collections::{BTreeMap, BTreeSet};
 
 use crate::differences::{self, Block, Says, apply};
 use crate::docs;
-use crate::items::{File, Item, items};
+use crate::items::{Item, items};
 use crate::lexer::{Fault, Token, line};
-use crate::rules::{as_rust, of_both, of_rust, runs_code};
+use crate::rules::{Rules, runs_code};
 
 /// Each file that is read, by its path in the repository.
 pub type Tree = BTreeMap<String, String>;
@@ -32,48 +32,40 @@ pub struct Report {
 /// An item as it is read, and as the rules leave it.
 pub struct Ruled {
     pub item: Item,
-    pub tokens: Vec<Token>,
     /// A source as it would stand in Rust.
     pub printed: Vec<Token>,
-    /// Whether another function calls it for its count: `pop_counted`.
-    pub is_counted: bool,
+    tokens: Vec<Token>,
+    /// Whether it is the counted form of a call: `pop_counted`.
+    is_counted: bool,
 }
 
 impl Ruled {
-    /// A function whose body is the call of itself, `self.pop()`, since what it calls is its counted form.
-    pub fn calls_itself(&self) -> bool {
-        let Some(body) = self.tokens.iter().position(|token| token.is("{")) else { return false };
-        let inside = &self.tokens[body + 1..self.tokens.len() - 1];
-        let name = inside.iter().position(|token| self.item.path.rsplit("::").next() == Some(&token.text));
-        let Some(name @ (0 | 2)) = name else { return false };
-        let end = crate::lexer::closing(inside, name + 1);
-        (name == 0 || inside[0].is("self"))
-            && (end + 1 == inside.len() || inside[end + 1..].iter().all(|token| token.is(";")))
+    /// Whether a source only calls its counted form, as `pop` does: the body of that is the one that Rust has.
+    pub fn only_counts(&self) -> bool {
+        let name = self.item.path.rsplit("::").next().unwrap_or("");
+        let body = self.printed.iter().position(|token| token.is("{")).unwrap_or(0);
+        let is_named = |pair: &&[Token]| pair[1].is(":") && pair[0].text.starts_with(char::is_lowercase);
+        let names: Vec<&str> =
+            self.printed[..body].windows(2).filter(is_named).map(|pair| pair[0].text.as_str()).collect();
+        let called: String = self.printed[body..].iter().map(|token| token.text.as_str()).collect();
+        let is_counting = self.item.tokens.iter().any(|token| token.text == format!("{name}_counted"));
+        is_counting && called.replace("self.", "").replace(';', "") == format!("{{{name}({})}}", names.join(","))
     }
 }
 
-/// Reads the sources. What only calls its counted form is apart.
-pub fn sources(tree: &Tree) -> Result<Vec<Ruled>, Fault> {
+/// Reads the sources.
+pub fn sources(tree: &Tree, rules: &Rules) -> Result<Vec<Ruled>, Fault> {
     let mut all: Vec<Ruled> = Vec::new();
     for (name, text) in tree.iter().filter(|(name, _)| SOURCES.iter().any(|folder| name.starts_with(folder))) {
-        let File { items, uses } = items(name, text)?;
-        let laws = laws(&uses);
-        for mut item in items {
+        for mut item in items(name, text)? {
             let is_counted = item.path.ends_with("_counted");
             item.path = item.path.trim_end_matches("_counted").to_string();
             item.contract.retain(|clause| !clause.contains("steps."));
-            let ruled = as_rust(item.tokens.clone(), &laws);
-            let printed = ruled.map_err(|what| Fault { file: name.clone(), line: item.line, what })?;
-            all.push(Ruled { tokens: of_both(printed.clone()), item, printed, is_counted });
+            let printed = rules.as_rust(&item.tokens);
+            all.push(Ruled { tokens: rules.of_both(&printed), item, printed, is_counted });
         }
     }
     Ok(all)
-}
-
-/// The names that are imported of a module `laws`.
-fn laws(uses: &[Vec<Token>]) -> Vec<String> {
-    let of_laws = uses.iter().filter(|path| path.iter().any(|token| token.is("laws")));
-    of_laws.flatten().map(|token| token.text.clone()).collect()
 }
 
 /// The sources that a file of Rust names in its first lines, or none of a file by hand.
@@ -115,17 +107,16 @@ pub fn compare(tree: &Tree) -> Report {
 
 fn compared(tree: &Tree) -> Result<Report, Fault> {
     let blocks = differences::read(tree.get(differences::NAME).map_or("", String::as_str))?;
-    let (found, used) = (BTreeSet::new(), BTreeSet::new());
-    let mut all = Comparison { sources: sources(tree)?, blocks: &blocks, found, used, report: Report::default() };
+    let (rules, found, used) = (Rules::new(), BTreeSet::new(), BTreeSet::new());
+    let mut all =
+        Comparison { sources: sources(tree, &rules)?, blocks: &blocks, found, used, report: Report::default() };
     for (name, text) in tree.iter().filter(|(name, _)| name.starts_with(RUST)) {
         let named = named_sources(name, text)?;
         if let Some(missing) = named.iter().find(|named| !tree.contains_key(*named)) {
             return Err(Fault { file: name.clone(), line: 1, what: format!("there is no source `{missing}`") });
         }
-        for item in items(name, text)?.items {
-            let (file, line) = (item.file.clone(), item.line);
-            let tokens = of_rust(item.tokens.clone()).map_err(|what| Fault { file, line, what })?;
-            let rust = Ruled { item, tokens, printed: Vec::new(), is_counted: false };
+        for item in items(name, text)? {
+            let rust = Ruled { tokens: rules.of_rust(&item.tokens), item, printed: Vec::new(), is_counted: false };
             all.keeps_tests(&rust);
             if !named.is_empty() {
                 all.item(&rust, &named);
@@ -167,7 +158,7 @@ impl Comparison<'_> {
         let is_like = |source: &&Ruled| source.item.path == *path && named.contains(&source.item.file);
         let like: Vec<usize> = (0..self.sources.len()).filter(|at| is_like(&&self.sources[*at])).collect();
         self.found.extend(&like);
-        let compared = like.iter().find(|at| !self.sources[**at].calls_itself());
+        let compared = like.iter().find(|at| !self.sources[**at].only_counts());
         let Some(&source) = compared else {
             match self.block(path, |says| *says == Says::OnlyInRust) {
                 Some(_) => self.report.only_in_rust += 1,
@@ -211,7 +202,7 @@ impl Comparison<'_> {
         for at in 0..self.sources.len() {
             let (file, path) = (self.sources[at].item.file.clone(), self.sources[at].item.path.clone());
             let is_alone = |says: &Says| *says == Says::OnlyInTheSource;
-            if self.found.contains(&at) || self.sources[at].calls_itself() {
+            if self.found.contains(&at) || self.sources[at].only_counts() {
                 continue;
             }
             if self.block(&path, is_alone).is_some() || self.block(&file, is_alone).is_some() {

@@ -1,6 +1,6 @@
 //! The items of a file by their paths: `ArrayString::pop`, `Drain as Iterator::next`, `is_boundary`, `Error`.
 
-use crate::lexer::{Fault, Kind, Token, closing, closing_angle, tokens};
+use crate::lexer::{Fault, Kind, Token, closing, tokens};
 
 /// A function, a type, a constant, or the head of an `impl`.
 #[derive(Clone, Debug)]
@@ -20,25 +20,16 @@ pub struct Item {
     pub around: Vec<Token>,
 }
 
-/// What a file has.
-#[derive(Default)]
-pub struct File {
-    pub items: Vec<Item>,
-    /// Each `use`, without this word and the `;`.
-    pub uses: Vec<Vec<Token>>,
-}
-
 /// Reads a file. What stands in an inline module counts as if it stood around that; tests are left out.
-pub fn items(file: &str, text: &str) -> Result<File, Fault> {
-    let tokens = tokens(file, text)?;
-    let mut reader = Reader { name: file, read: File::default() };
-    reader.level(&tokens, None)?;
-    Ok(reader.read)
+pub fn items(file: &str, text: &str) -> Result<Vec<Item>, Fault> {
+    let mut reader = Reader { file, items: Vec::new() };
+    reader.level(&tokens(file, text)?, None)?;
+    Ok(reader.items)
 }
 
 struct Reader<'a> {
-    name: &'a str,
-    read: File,
+    file: &'a str,
+    items: Vec<Item>,
 }
 
 /// The `impl` around items: its path and its head.
@@ -72,12 +63,7 @@ impl Reader<'_> {
         let name = rest.iter().skip_while(|token| *token != keyword).nth(1).map_or("", |token| token.text.as_str());
         match keyword.text.as_str() {
             "fn" => self.function(front, rest, name, around),
-            "ghost" => Ok(behind(rest, &[";"])),
-            "use" | "extern" => {
-                let end = behind(rest, &[";"]);
-                self.read.uses.push(rest[1..end - 1].to_vec());
-                Ok(end)
-            }
+            "ghost" | "use" | "extern" => Ok(behind(rest, &[";"])),
             "mod" => self.module(&front, rest, around),
             "impl" => self.implementation(front, rest),
             "const" | "static" | "type" => {
@@ -101,13 +87,13 @@ impl Reader<'_> {
     }
 
     fn fault(&self, token: &Token, what: String) -> Fault {
-        Fault { file: self.name.to_string(), line: token.line, what }
+        Fault { file: self.file.to_string(), line: token.line, what }
     }
 
     fn put(&mut self, front: Front, tokens: &[Token], name: &str, contract: Vec<String>, around: Around) {
         let path = around.map_or(name.to_string(), |(path, _)| format!("{}::{name}", path.trim_start_matches("impl ")));
-        self.read.items.push(Item {
-            file: self.name.to_string(),
+        self.items.push(Item {
+            file: self.file.to_string(),
             line: tokens[0].line,
             path,
             is_public: front.is_public,
@@ -243,7 +229,18 @@ fn front(tokens: &[Token]) -> (Front, usize) {
 
 /// `Error as From<Utf8>` for `impl From<Utf8> for Error`, and `impl ArrayString` for `impl<const N: usize> ArrayString<N>`.
 fn path_of_impl(head: &[Token]) -> String {
-    let start = if head.get(1).is_some_and(|token| token.is("<")) { closing_angle(head, 1) + 1 } else { 1 };
+    let mut start = 1;
+    if head.get(1).is_some_and(|token| token.is("<")) {
+        let mut depth = 0;
+        start += head[1..]
+            .iter()
+            .take_while(|token| {
+                depth += isize::from(token.is("<")) - isize::from(token.is(">"));
+                depth > 0
+            })
+            .count()
+            + 1;
+    }
     let head = head.get(start..).unwrap_or(&[]);
     let head = &head[..head.iter().position(|token| token.is("where")).unwrap_or(head.len())];
     match head.iter().position(|token| token.is("for")) {

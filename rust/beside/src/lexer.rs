@@ -47,11 +47,6 @@ impl Token {
     pub fn is(&self, text: &str) -> bool {
         self.text == text && matches!(self.kind, Kind::Word | Kind::Sign)
     }
-
-    /// Another token at the same place, such as `pop` for `pop_counted`.
-    pub fn with(&self, kind: Kind, text: &str) -> Token {
-        Token { kind, text: text.to_string(), ..self.clone() }
-    }
 }
 
 /// The signs of more than one character, the longest first. `>>` is two, since it may end generics: a `> >` is nothing else.
@@ -111,14 +106,15 @@ fn next(text: &str) -> Result<(Option<Kind>, usize), &'static str> {
         return Ok((Some(Kind::Number), number(text)));
     }
     if is_letter(first) {
-        return Ok((Some(Kind::Word), run(text, is_inside_word)));
+        return Ok((Some(Kind::Word), first.len_utf8() + run(&text[first.len_utf8()..], is_inside_word)));
     }
     let sign = SIGNS.iter().find(|sign| text.starts_with(**sign));
     Ok((Some(Kind::Sign), sign.map_or(first.len_utf8(), |sign| sign.len())))
 }
 
+/// Whether a character begins a word. A `$name` is one.
 fn is_letter(ch: char) -> bool {
-    ch.is_alphabetic() || ch == '_'
+    ch.is_alphabetic() || ch == '_' || ch == '$'
 }
 
 fn is_inside_word(ch: char) -> bool {
@@ -235,24 +231,6 @@ pub fn closing(tokens: &[Token], open: usize) -> usize {
         if depth <= 0 {
             return at;
         }
-    }
-    tokens.len().saturating_sub(1)
-}
-
-/// Where generics end that begin at an index with `<`: the index of their `>`.
-pub fn closing_angle(tokens: &[Token], open: usize) -> usize {
-    let (mut depth, mut at) = (0_isize, open);
-    while at < tokens.len() {
-        match tokens[at].text.as_str() {
-            "(" | "[" | "{" => at = closing(tokens, at),
-            "<" => depth += 1,
-            ">" => depth -= 1,
-            _ => {}
-        }
-        if depth <= 0 {
-            return at;
-        }
-        at += 1;
     }
     tokens.len().saturating_sub(1)
 }

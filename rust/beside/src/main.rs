@@ -64,8 +64,8 @@ fn tell(tree: &Tree) -> bool {
 
 /// Prints a source as it would stand in Rust.
 fn print(tree: &Tree, path: &str) -> Result<bool, String> {
-    let sources = compare::sources(tree).map_err(|fault| fault.to_string())?;
-    let mut found = sources.iter().filter(|source| source.item.path == path && !source.calls_itself()).peekable();
+    let sources = compare::sources(tree, &rules::Rules::new()).map_err(|fault| fault.to_string())?;
+    let mut found = sources.iter().filter(|source| source.item.path == path && !source.only_counts()).peekable();
     if found.peek().is_none() {
         return Err(format!("no source has `{path}`"));
     }

@@ -1,473 +1,273 @@
-//! The rules: what is left out of a source, and what Rust spells in another way. Each is one function.
+//! The rules: what is left out of a source, and what Rust spells in another way. Each is a row of a table, and is told in README.md.
+//!
+//! A row is two patterns. `$at` stands for any tokens between others, as far as no `;`, no block and no end of a group comes:
+//! so `get_unchecked!($of, $at)` is rewritten as `&$of[$at]`, and `get_unchecked!(all, f(1))` as `&all[f(1)]`.
 
-use crate::lexer::{Kind, Token, closing, closing_angle, line};
+use crate::lexer::{Kind, Token, closing, scan};
 
-/// The arguments and parameters that are the counter.
-const COUNTER: &[&str] =
-    &["steps", "*steps", "&mut steps", "Steps::new()", "&mut Steps::new()", "steps: &mut Steps", "mut steps: Steps"];
+/// What is left out of a source.
+const SOURCE: &[Row] = &[
+    // Ghost parts: bounds, steps of proofs, and calls of laws, whose results are facts.
+    row("+ Drop", "", Then::Anything),
+    row("prove!($fact);", "", Then::Anything),
+    row("text_fits($fact);", "", Then::Anything),
+    row("only_reading($fact);", "", Then::Anything),
+    // The counter: `look` counts one look.
+    row("look($of, $at, steps)", "$of[$at]", Then::Anything),
+    row(", steps", "", Then::End),
+    row(", *steps", "", Then::End),
+    row(", &mut steps", "", Then::End),
+    row(", Steps::new()", "", Then::End),
+    row(", &mut Steps::new()", "", Then::End),
+    row("(&mut Steps::new())", "()", Then::Anything),
+    row(", steps: &mut Steps", "", Then::End),
+    row(", mut steps: Steps", "", Then::End),
+    // A formatter of a source has the type of what it writes to.
+    row("fn fmt<W: fmt::Write>(", "fn fmt(", Then::Anything),
+    row("Formatter<W>", "Formatter<'_>", Then::Anything),
+];
 
-/// Attributes that change no result.
-const FREE: &[&str] = &["allow", "cold", "doc", "expect", "inline", "must_use", "tactic", "track_caller", "warn"];
+/// What changes nothing in either, and how rustfmt breaks lines.
+const BOTH: &[Row] = &[
+    row("#[inline]", "", Then::Anything),
+    row("#[inline($how)]", "", Then::Anything),
+    row("#[cold]", "", Then::Anything),
+    row("#[must_use]", "", Then::Anything),
+    row("#[track_caller]", "", Then::Anything),
+    row("#[doc($how)]", "", Then::Anything),
+    row("#[expect($how)]", "", Then::Anything),
+    row("#[tactic($how)]", "", Then::Anything),
+    row("#[derive(Drop)]", "", Then::Anything),
+    row(",)", ")", Then::Anything),
+    row(",]", "]", Then::Anything),
+    row(",}", "}", Then::Anything),
+    row(",>", ">", Then::Anything),
+    row("unsafe { $value }", "$value", Then::Anything),
+];
 
-/// A source as it would stand in Rust.
-pub fn as_rust(tokens: Vec<Token>, laws: &[String]) -> Result<Vec<Token>, String> {
-    Ok(formatters(without_counter(&without_ghosts(tokens, laws)?)))
+/// How Rust spells it.
+const RUST: &[Row] = &[
+    row("unsafe fn", "fn", Then::Anything),
+    // What an `unsafe fn` requires is tested.
+    row("required!($fact);", "", Then::Anything),
+    row("required_of_each!($fact);", "", Then::Anything),
+    // An access without a test.
+    row("*get_unchecked!($of, $at)", "$of[$at]", Then::NoPostfix),
+    row("*get_unchecked_mut!($of, $at)", "$of[$at]", Then::NoPostfix),
+    row("get_unchecked!($of, $at).", "$of[$at].", Then::Anything),
+    row("get_unchecked_mut!($of, $at).", "$of[$at].", Then::Anything),
+    row("get_unchecked!($of, $at)", "&$of[$at]", Then::NoPostfix),
+    row("get_unchecked_mut!($of, $at)", "&mut $of[$at]", Then::NoPostfix),
+    row("copy_from_slice_unchecked!($of, $at, $given)", "$of[$at].copy_from_slice($given)", Then::Anything),
+    row("unreachable_unchecked!()", "unreachable!()", Then::Anything),
+    // What the first statement asks for is what was given, and so is each item of an iterator.
+    row(
+        "<$more $type: AsRef<$text>$rest>($before $name: $type) $result { let $name = $name.as_ref();",
+        "<$more $rest>($before $name: &$text) $result {",
+        Then::Anything,
+    ),
+    row("<,", "<", Then::Anything),
+    row(
+        "<$type: AsRef<$text>, $all: IntoIterator<Item = $type>>",
+        "<'a, $all: IntoIterator<Item = &'a $text>>",
+        Then::Anything,
+    ),
+    row("for $item in $all { let $item = $item.as_ref();", "for $item in $all {", Then::Anything),
+    row(",>", ">", Then::Anything),
+    row("<>", "", Then::Anything),
+];
+
+struct Row {
+    from: &'static str,
+    to: &'static str,
+    then: Then,
 }
 
-/// What is compared of an item of Rust.
-pub fn of_rust(tokens: Vec<Token>) -> Result<Vec<Token>, String> {
-    let tokens = without_required(tokens)?;
-    let tokens = accesses(&without_unsafe(&tokens));
-    Ok(of_both(asked_each(asked_once(tokens))))
+const fn row(from: &'static str, to: &'static str, then: Then) -> Row {
+    Row { from, to, then }
 }
 
-/// What both are compared by.
-pub fn of_both(tokens: Vec<Token>) -> Vec<Token> {
-    let tokens = without_unsafe(&attributes(tokens));
-    commas(paths(tokens))
+/// What may follow.
+#[derive(Clone, Copy)]
+enum Then {
+    Anything,
+    /// The end of an argument.
+    End,
+    /// Nothing that would bind closer than a `*` or `&` before it.
+    NoPostfix,
 }
 
-/// Ghost parts go: `+ Drop`, `prove!(a < b);`, and the call of a law, such as `text_fits(self);`.
-pub fn without_ghosts(tokens: Vec<Token>, laws: &[String]) -> Result<Vec<Token>, String> {
-    let (mut kept, mut at) = (Vec::new(), 0);
+/// A row as tokens. A `$name` is one token.
+pub struct Rule {
+    from: Vec<Token>,
+    to: Vec<Token>,
+    then: Then,
+}
+
+/// All rules, in their order.
+pub struct Rules {
+    source: Vec<Rule>,
+    both: Vec<Rule>,
+    rust: Vec<Rule>,
+}
+
+impl Rules {
+    pub fn new() -> Rules {
+        let tokens = |text| scan("a rule", text).expect("the tokens of a rule");
+        let rule = |row: &Row| Rule { from: tokens(row.from), to: tokens(row.to), then: row.then };
+        let rules = |rows: &[Row]| rows.iter().map(rule).collect();
+        Rules { source: rules(SOURCE), both: rules(BOTH), rust: rules(RUST) }
+    }
+
+    /// A source as it would stand in Rust. `pop_counted` is `pop`.
+    pub fn as_rust(&self, tokens: &[Token]) -> Vec<Token> {
+        let name = |token: &Token| Token { text: token.text.trim_end_matches("_counted").to_string(), ..token.clone() };
+        apply_all(&self.source, tokens.iter().map(name).collect())
+    }
+
+    /// What is compared of a source that stands as in Rust.
+    pub fn of_both(&self, tokens: &[Token]) -> Vec<Token> {
+        let is_said = |token: &&Token| token.kind != Kind::Doc;
+        apply_all(&self.both, tokens.iter().filter(is_said).cloned().collect())
+    }
+
+    /// What is compared of an item of Rust.
+    pub fn of_rust(&self, tokens: &[Token]) -> Vec<Token> {
+        apply_all(&self.rust, self.of_both(tokens))
+    }
+}
+
+fn apply_all(rules: &[Rule], tokens: Vec<Token>) -> Vec<Token> {
+    rules.iter().fold(tokens, |tokens, rule| if tokens.contains(&rule.from[0]) { apply(rule, &tokens) } else { tokens })
+}
+
+/// Rewrites each place that a rule fits, also inside of what its names stand for.
+fn apply(rule: &Rule, tokens: &[Token]) -> Vec<Token> {
+    let (mut made, mut at): (Vec<Token>, usize) = (Vec::new(), 0);
     while at < tokens.len() {
-        let is_next = |by, text| tokens.get(at + by).is_some_and(|token: &Token| token.is(text));
-        let is_start = kept.last().is_none_or(|token: &Token| token.is("{") || token.is("}") || token.is(";"));
-        let open = if tokens[at].is("prove") && is_next(1, "!") { at + 2 } else { at + 1 };
-        let is_law = laws.contains(&tokens[at].text) && is_next(1, "(");
-        let end = closing(&tokens, open.min(tokens.len() - 1));
-        let is_statement = tokens.get(end + 1).is_some_and(|token| token.is(";"));
-        if tokens[at].is("+") && is_next(1, "Drop") {
-            at += 2;
-        } else if is_start && is_statement && (open == at + 2 || is_law) {
-            without_effect(&tokens[at..end])?;
-            at = end + 2;
-        } else {
-            kept.push(tokens[at].clone());
-            at += 1;
-        }
-    }
-    Ok(kept)
-}
-
-/// What goes must change nothing: no `=`, `mut`, block or macro is in it.
-fn without_effect(tokens: &[Token]) -> Result<(), String> {
-    let assigns = |text: &str| text.ends_with('=') && !matches!(text, "==" | "!=" | "<=" | ">=" | "..=");
-    let changes = |token: &Token| token.kind == Kind::Sign && assigns(&token.text) || token.is("mut") || token.is("{");
-    match tokens.iter().skip(2).find(|token| changes(token) || token.is("?") || token.is("!") || token.is("return")) {
-        Some(token) => Err(format!("`{}` in `{}..)`, which is left out", token.text, tokens[0].text)),
-        None => Ok(()),
-    }
-}
-
-/// The counter goes: `shift(all, 1, steps)` is `shift(all, 1)`, `look(all, 1, steps)` is `all[1]`, `pop_counted` is `pop`.
-pub fn without_counter(tokens: &[Token]) -> Vec<Token> {
-    let (mut kept, mut at): (Vec<Token>, usize) = (Vec::new(), 0);
-    while at < tokens.len() {
-        let token = &tokens[at];
-        let name = token.text.strip_suffix("_counted").filter(|_| token.kind == Kind::Word);
-        if !token.is("(") {
-            kept.push(name.map_or(token.clone(), |name| token.with(Kind::Word, name)));
-            at += 1;
-            continue;
-        }
-        let end = closing(tokens, at);
-        let inside = &tokens[at + 1..end];
-        let left: Vec<_> =
-            arguments(inside).into_iter().filter(|part| !COUNTER.contains(&line(part).as_str())).collect();
-        let left: Vec<_> = left.into_iter().map(without_counter).collect();
-        let is_counted = left.len() < arguments(inside).len();
-        let is_look = is_counted && left.len() == 2 && kept.last().is_some_and(|token| token.is("look"));
-        if is_look {
-            let gap = kept.pop().map_or(String::new(), |look| look.gap);
-            let start = kept.len();
-            kept.extend(index(&left[0], &left[1], token));
-            kept[start].gap = gap;
-        } else {
-            kept.push(token.clone());
-            kept.extend(if is_counted { joined(&left, token) } else { without_counter(inside) });
-            kept.push(tokens[end].clone());
-        }
-        at = end + 1;
-    }
-    kept
-}
-
-/// The parts of a group between its commas: `a` and `b(c, d)` of `a, b(c, d),`.
-fn arguments(tokens: &[Token]) -> Vec<&[Token]> {
-    let (mut parts, mut start, mut at) = (Vec::new(), 0, 0);
-    while at < tokens.len() {
-        at = closing(tokens, at);
-        if tokens[at].is(",") {
-            parts.push(&tokens[start..at]);
-            start = at + 1;
-        }
-        at += 1;
-    }
-    parts.push(&tokens[start..]);
-    parts.into_iter().filter(|part| !part.is_empty()).collect()
-}
-
-/// A sign that stands in no file, beside another token.
-fn sign(text: &str, beside: &Token) -> Token {
-    Token { kind: Kind::Sign, text: text.to_string(), line: beside.line, gap: String::new() }
-}
-
-fn joined(parts: &[Vec<Token>], beside: &Token) -> Vec<Token> {
-    parts.join(&sign(",", beside))
-}
-
-/// `a[b]` for two expressions.
-fn index(of: &[Token], at: &[Token], beside: &Token) -> Vec<Token> {
-    let mut at = at.to_vec();
-    at.iter_mut().take(1).for_each(|first| first.gap.clear());
-    [operand(of, beside), vec![sign("[", beside)], at, vec![sign("]", beside)]].concat()
-}
-
-/// An expression as it stands before a `.` or a `[`: in brackets, if it is no chain.
-fn operand(tokens: &[Token], beside: &Token) -> Vec<Token> {
-    if is_chain(tokens) {
-        return tokens.to_vec();
-    }
-    [vec![sign("(", beside)], tokens.to_vec(), vec![sign(")", beside)]].concat()
-}
-
-/// Whether an expression is a chain of names, calls and fields, which binds closer than any sign: `f::<1>(a).b?`, and not `*a`.
-fn is_chain(tokens: &[Token]) -> bool {
-    let mut at = 0;
-    while at < tokens.len() {
-        let token = &tokens[at];
-        let is_generics = token.is("<") && at > 0 && tokens[at - 1].is("::");
-        let is_keyword = ["as", "break", "if", "in", "let", "loop", "match", "move", "return", "unsafe", "while"];
-        let is_link = [".", "::", "?", "(", "["].iter().any(|link| token.is(link)) || token.is("!") && at > 0;
-        at = match token.kind {
-            Kind::Word if is_keyword.contains(&token.text.as_str()) => return false,
-            Kind::Sign if is_generics => closing_angle(tokens, at),
-            Kind::Sign if is_link => closing(tokens, at),
-            Kind::Sign => return false,
-            _ => at,
-        } + 1;
-    }
-    !tokens.is_empty()
-}
-
-/// `unsafe fn` is `fn`, and `unsafe { e }` is `e`, where that binds alike. A block of more than one statement stays.
-pub fn without_unsafe(tokens: &[Token]) -> Vec<Token> {
-    let (mut kept, mut at): (Vec<Token>, usize) = (Vec::new(), 0);
-    while at < tokens.len() {
-        let is_next = |text| tokens.get(at + 1).is_some_and(|token: &Token| token.is(text));
-        if tokens[at].is("unsafe") && is_next("{") {
-            let end = closing(tokens, at + 1);
-            let inside = without_unsafe(&tokens[at + 2..end]);
-            let ends = ["(", "[", "{", "}", ",", ";", "=", "=>", "return"];
-            let is_first = kept.last().is_none_or(|token| ends.iter().any(|end| token.is(end)));
-            let is_last =
-                tokens.get(end + 1).is_none_or(|token| [")", "]", "}", ",", ";"].iter().any(|end| token.is(end)));
-            match is_expression(&inside) {
-                true if is_first && is_last => kept.extend(inside),
-                true => kept.extend(operand(&inside, &tokens[at])),
-                false => kept.extend(tokens[at..at + 2].iter().cloned().chain(inside).chain([tokens[end].clone()])),
-            }
-            at = end + 1;
-        } else {
-            if !(tokens[at].is("unsafe") && (is_next("fn") || is_next("impl"))) {
-                kept.push(tokens[at].clone());
-            }
-            at += 1;
-        }
-    }
-    kept
-}
-
-/// Whether a block is one expression: it has no `;`, which would end a statement.
-fn is_expression(block: &[Token]) -> bool {
-    let mut at = 0;
-    while at < block.len() && !block[at].is(";") {
-        at = closing(block, at) + 1;
-    }
-    !block.is_empty() && at >= block.len()
-}
-
-/// Attributes go that change no result, and documentation. What is derived is in the order of its names, without `Drop`.
-pub fn attributes(tokens: Vec<Token>) -> Vec<Token> {
-    let (mut kept, mut at) = (Vec::new(), 0);
-    while at < tokens.len() {
-        if !tokens[at].is("#") || !tokens.get(at + 1).is_some_and(|token| token.is("[")) {
-            kept.extend((tokens[at].kind != Kind::Doc).then(|| tokens[at].clone()));
+        let mut bound = Vec::new();
+        let len = fits(&rule.from, &tokens[at..], &mut bound);
+        let Some(len) = len.filter(|len| allows(rule.then, tokens.get(at + len)) && bound.iter().all(has_no_effect))
+        else {
+            made.push(tokens[at].clone());
             at += 1;
             continue;
-        }
-        let end = closing(&tokens, at + 1);
-        if tokens[at + 2].is("derive") && end > at + 5 {
-            let mut names = arguments(&tokens[at + 4..end - 1]);
-            names.retain(|name| line(name) != "Drop");
-            names.sort_by_key(|name| line(name));
-            let names: Vec<_> = names.into_iter().map(<[Token]>::to_vec).collect();
-            if !names.is_empty() {
-                kept.extend_from_slice(&tokens[at..at + 4]);
-                kept.extend(joined(&names, &tokens[at]));
-                kept.extend_from_slice(&tokens[end - 1..=end]);
-            }
-        } else if !FREE.contains(&tokens[at + 2].text.as_str()) {
-            kept.extend_from_slice(&tokens[at..=end]);
-        }
-        at = end + 1;
-    }
-    kept
-}
-
-/// `std` and `alloc` are `core`, and a path within these crates is its last part: `crate::error::Error::Utf8` is `Error::Utf8`.
-pub fn paths(tokens: Vec<Token>) -> Vec<Token> {
-    let (mut kept, mut at): (Vec<Token>, usize) = (Vec::new(), 0);
-    let is_path = |at: usize| tokens.get(at + 1).is_some_and(|token| token.is("::"));
-    while at < tokens.len() {
-        let text = tokens[at].text.as_str();
-        let is_first = kept.last().is_none_or(|token| !token.is("::"));
-        let is_ours = matches!(text, "crate" | "super") || text == "self" || text.starts_with("arraystring");
-        if tokens[at].kind == Kind::Word && is_first && is_ours && is_path(at) {
-            at += 2;
-            while is_path(at) && tokens[at].text.starts_with(|ch: char| ch.is_lowercase()) {
-                at += 2;
-            }
-        } else {
-            let is_std = is_first && is_path(at) && matches!(text, "std" | "alloc");
-            kept.push(if is_std { tokens[at].with(Kind::Word, "core") } else { tokens[at].clone() });
-            at += 1;
-        }
-    }
-    kept
-}
-
-/// A formatter of a source has the type of what it writes to: `fmt<W: fmt::Write>(.. fmt::Formatter<W>)` is `fmt(.. fmt::Formatter<'_>)`.
-pub fn formatters(tokens: Vec<Token>) -> Vec<Token> {
-    let (mut kept, mut at): (Vec<Token>, usize) = (Vec::new(), 0);
-    while at < tokens.len() {
-        let end = if tokens[at].is("<") { closing_angle(&tokens, at) } else { at };
-        let inside = line(&tokens[at..=end]);
-        let is_behind = |name| kept.last().is_some_and(|token: &Token| token.is(name));
-        if is_behind("Formatter") && inside == "<W>" {
-            kept.extend([tokens[at].clone(), tokens[at + 1].with(Kind::Lifetime, "'_"), tokens[end].clone()]);
-            at = end + 1;
-        } else if is_behind("fmt") && inside == "<W: fmt::Write>" {
-            at = end + 1;
-        } else {
-            kept.push(tokens[at].clone());
-            at += 1;
-        }
-    }
-    kept
-}
-
-/// A comma before the end of a group goes, but for that of `(a,)`, which is no `(a)`.
-pub fn commas(tokens: Vec<Token>) -> Vec<Token> {
-    let ends = |at: usize| tokens.get(at + 1).is_some_and(|token| [")", "]", "}", ">"].iter().any(|end| token.is(end)));
-    let is_tuple = |at: usize| {
-        let open = (0..at).rev().find(|open| closing(&tokens, *open) == at + 1 && tokens[*open].is("("));
-        open.is_some_and(|open| {
-            let is_call = open > 0 && (tokens[open - 1].kind == Kind::Word || tokens[open - 1].is(">"));
-            !is_call && arguments(&tokens[open + 1..at]).len() == 1
-        })
-    };
-    let is_kept = |at: &usize| !(tokens[*at].is(",") && ends(*at)) || is_tuple(*at);
-    (0..tokens.len()).filter(is_kept).map(|at| tokens[at].clone()).collect()
-}
-
-/// An access without a test is that with one: `*get_unchecked!(a, i)` is `a[i]`, and `get_unchecked!(a, r)` is `&a[r]`.
-pub fn accesses(tokens: &[Token]) -> Vec<Token> {
-    let (mut kept, mut at): (Vec<Token>, usize) = (Vec::new(), 0);
-    while at < tokens.len() {
-        let token = &tokens[at];
-        let is_next = |by: usize, text| tokens.get(at + by).is_some_and(|token: &Token| token.is(text));
-        let is_macro = is_next(1, "!") && is_next(2, "(");
-        let end = closing(tokens, (at + 2).min(tokens.len() - 1));
-        let parts = if is_macro { arguments(&tokens[at + 3..end]) } else { Vec::new() };
-        let parts: Vec<_> = parts.into_iter().map(accesses).collect();
-        let behind = tokens.get(end + 1).map_or("", |token| token.text.as_str());
-        match (token.text.as_str(), &parts[..]) {
-            ("get_unchecked" | "get_unchecked_mut", [of, place]) => {
-                let is_postfix = [".", "?", "[", "("].contains(&behind);
-                if !is_postfix && kept.last().is_some_and(|token| token.is("*")) && is_prefix(&kept) {
-                    kept.pop();
-                } else if behind != "." {
-                    kept.push(sign("&", token));
-                    kept.extend(token.text.ends_with("mut").then(|| token.with(Kind::Word, "mut")));
+        };
+        let start = made.len();
+        for (place, token) in rule.to.iter().enumerate() {
+            match bound.iter().find(|(name, _)| *name == token.text) {
+                Some((_, value)) => {
+                    let next = rule.to.get(place + 1).or(tokens.get(at + len));
+                    let value = operand(&token.text, apply(rule, value), made.last(), next);
+                    let gap = made.len();
+                    made.extend(value);
+                    made.iter_mut().skip(gap).take(1).for_each(|first| first.gap.clone_from(&token.gap));
                 }
-                kept.extend(index(of, place, token));
-            }
-            ("copy_from_slice_unchecked", [of, place, given]) => {
-                kept.extend(index(of, place, token));
-                kept.extend([sign(".", token), token.with(Kind::Word, "copy_from_slice"), sign("(", token)]);
-                kept.extend(given.iter().cloned());
-                kept.push(sign(")", token));
-            }
-            ("unreachable_unchecked", []) if is_macro => {
-                kept.push(token.with(Kind::Word, "unreachable"));
-                kept.extend_from_slice(&tokens[at + 1..=end]);
-            }
-            _ => {
-                kept.push(token.clone());
-                at += 1;
-                continue;
+                None => made.push(Token { line: tokens[at].line, ..token.clone() }),
             }
         }
-        at = end + 1;
+        made.iter_mut().skip(start).take(1).for_each(|first| first.gap.clone_from(&tokens[at].gap));
+        at += len;
     }
-    kept
+    made
 }
 
-/// Whether the `*` at the end of tokens reads through a reference, and is no product.
-fn is_prefix(tokens: &[Token]) -> bool {
-    let before = tokens.len().checked_sub(2).and_then(|at| tokens.get(at));
-    before.is_none_or(|token| match token.kind {
-        Kind::Word => ["return", "in", "if", "while", "match", "break", "else"].contains(&token.text.as_str()),
-        Kind::Sign => !token.is(")") && !token.is("]") && !token.is("?"),
-        _ => false,
-    })
-}
-
-/// `required!(a < b);` goes, as does `required_of_each!(..);`: it tests what an `unsafe fn` requires.
-pub fn without_required(tokens: Vec<Token>) -> Result<Vec<Token>, String> {
-    let (mut kept, mut at) = (Vec::new(), 0);
-    while at < tokens.len() {
-        let is_macro = tokens.get(at + 1).is_some_and(|token| token.is("!"));
-        let end = closing(&tokens, (at + 2).min(tokens.len() - 1));
-        let is_statement = tokens.get(end + 1).is_some_and(|token| token.is(";"));
-        if is_macro && is_statement && (tokens[at].is("required") || tokens[at].is("required_of_each")) {
-            without_effect(&tokens[at..end])?;
-            at = end + 2;
-        } else {
-            kept.push(tokens[at].clone());
-            at += 1;
+/// How many tokens a pattern takes, and what its names stand for then.
+fn fits<'a>(pattern: &'a [Token], tokens: &'a [Token], bound: &mut Vec<(&'a str, &'a [Token])>) -> Option<usize> {
+    let Some((first, rest)) = pattern.split_first() else { return Some(0) };
+    if !first.text.starts_with('$') {
+        return (tokens.first()? == first).then(|| fits(rest, &tokens[1..], bound)).flatten().map(|len| len + 1);
+    }
+    if let Some((_, value)) = bound.iter().find(|(name, _)| *name == first.text) {
+        let value = *value;
+        return tokens
+            .starts_with(value)
+            .then(|| fits(rest, &tokens[value.len()..], bound))
+            .flatten()
+            .map(|len| len + value.len());
+    }
+    let mut len = 0;
+    loop {
+        let count = bound.len();
+        bound.push((&first.text, &tokens[..len]));
+        if let Some(more) = fits(rest, &tokens[len..], bound) {
+            return Some(len + more);
         }
-    }
-    Ok(kept)
-}
-
-/// What the first statement asks for is what was given: `f<S: AsRef<str>>(a: S) { let a = a.as_ref(); ..` is `f(a: &str) { ..`.
-pub fn asked_once(tokens: Vec<Token>) -> Vec<Token> {
-    let Some((generics, mut rest)) = generics(&tokens) else { return tokens };
-    let mut kept: Vec<Vec<Token>> = Vec::new();
-    for generic in generics {
-        match (as_ref_of(generic), place_of_asked(&rest, &generic[0])) {
-            (Some(to), Some((at, statement))) => {
-                rest.drain(statement..statement + ASKING);
-                rest.splice(at..=at, [vec![sign("&", &generic[0])], to.to_vec()].concat());
-            }
-            _ => kept.push(generic.to_vec()),
+        bound.truncate(count);
+        if tokens.get(len).is_none_or(|token| [";", "{", ")", "]", "}"].iter().any(|end| token.is(end))) {
+            return None;
         }
+        len = closing(tokens, len) + 1;
     }
-    with_generics(&tokens, &kept, rest)
 }
 
-/// The same of each item of an iterator: `<U: AsRef<str>, I: IntoIterator<Item = U>>` is `<'a, I: IntoIterator<Item = &'a str>>`.
-pub fn asked_each(tokens: Vec<Token>) -> Vec<Token> {
-    let Some((generics, mut rest)) = generics(&tokens) else { return tokens };
-    let mut kept: Vec<Vec<Token>> = generics.iter().map(|generic| generic.to_vec()).collect();
-    for (place, generic) in generics.iter().enumerate() {
-        let name = &generic[0];
-        let item = |other: &[Token]| other.windows(3).position(|part| line(part) == format!("Item = {}", name.text));
-        let Some((of, at)) = kept.iter().enumerate().find_map(|(of, other)| Some((of, item(other)?))) else { continue };
-        if let Some(to) = as_ref_of(generic) {
-            let lifetime = name.with(Kind::Lifetime, "'a");
-            kept[of].splice(at + 2..at + 3, [vec![sign("&", name), lifetime.clone()], to.to_vec()].concat());
-            kept[place] = vec![lifetime];
-            rest = without_asking_each(&rest);
+fn allows(then: Then, next: Option<&Token>) -> bool {
+    let is_one_of = |signs: &[&str]| next.is_some_and(|token| signs.iter().any(|sign| token.is(sign)));
+    match then {
+        Then::Anything => true,
+        Then::End => is_one_of(&[",", ")"]),
+        Then::NoPostfix => !is_one_of(&[".", "?", "[", "("]),
+    }
+}
+
+/// Whether a `$fact`, which is left out, changes nothing: it has no assignment, no `mut`, no block, and no way out.
+fn has_no_effect((name, value): &(&str, &[Token])) -> bool {
+    let assigns =
+        |token: &Token| token.text.ends_with('=') && !["==", "!=", "<=", ">=", "..="].contains(&token.text.as_str());
+    let changes = |token: &Token| ["mut", "{", "?", "return", "break", "continue"].iter().any(|word| token.is(word));
+    *name != "$fact" || !value.iter().any(|token| token.kind == Kind::Sign && assigns(token) || changes(token))
+}
+
+/// What an `$of` or a `$value` stands for, between two tokens: in brackets, if it is no chain of names and calls, and one of the two
+/// may bind a part of it.
+fn operand(name: &str, value: Vec<Token>, before: Option<&Token>, next: Option<&Token>) -> Vec<Token> {
+    let is_one_of =
+        |token: Option<&Token>, signs: &[&str]| token.is_none_or(|token| signs.iter().any(|sign| token.is(sign)));
+    let is_apart = is_one_of(before, &["(", "[", "{", "}", ",", ";", "=", "=>", "return"])
+        && is_one_of(next, &[")", "]", "}", ",", ";"]);
+    if !["$of", "$value"].contains(&name) || is_apart || is_chain(&value) {
+        return value;
+    }
+    let sign = |text: &str| Token { kind: Kind::Sign, text: text.to_string(), line: value[0].line, gap: String::new() };
+    [vec![sign("(")], value.clone(), vec![sign(")")]].concat()
+}
+
+/// Whether an expression is a chain of names, fields, calls and indices, of which no sign beside it binds a part: `f::<1>(a).b?`.
+fn is_chain(value: &[Token]) -> bool {
+    let keywords = ["as", "break", "if", "in", "let", "loop", "match", "move", "return", "unsafe", "while"];
+    let (mut at, mut angles) = (0, 0);
+    while at < value.len() {
+        match value[at].text.as_str() {
+            "." | "::" | "?" | "(" | "[" => {}
+            "!" if at > 0 => {}
+            "<" if at > 0 && value[at - 1].is("::") => angles += 1,
+            ">" if angles > 0 => angles -= 1,
+            text if value[at].kind == Kind::Sign || keywords.contains(&text) => return false,
+            _ => {}
         }
+        at = closing(value, at) + 1;
     }
-    with_generics(&tokens, &kept, rest)
+    true
 }
 
-/// How many tokens `let a = a.as_ref();` has.
-const ASKING: usize = 9;
-
-/// The name that `let a = a.as_ref();` asks, if tokens begin so.
-fn asked(tokens: &[Token]) -> Option<&Token> {
-    let [first, name, is, same, rest @ ..] = tokens.get(..ASKING)? else { return None };
-    let is_asking = first.is("let") && is.is("=") && name == same && line(rest) == ".as_ref();";
-    is_asking.then_some(name)
-}
-
-/// The type parameters of a function, and what stands behind them.
-fn generics(tokens: &[Token]) -> Option<(Vec<&[Token]>, Vec<Token>)> {
-    let open = tokens.iter().position(|token| token.is("fn"))? + 2;
-    tokens.get(open).filter(|token| token.is("<"))?;
-    let close = closing_angle(tokens, open);
-    let (mut parts, mut start, mut at) = (Vec::new(), open + 1, open + 1);
-    while at <= close {
-        if at == close || tokens[at].is(",") {
-            parts.push(&tokens[start..at]);
-            start = at + 1;
-        }
-        at = if tokens[at].is("<") { closing_angle(tokens, at) } else { closing(tokens, at) } + 1;
-    }
-    parts.retain(|part| !part.is_empty());
-    Some((parts, tokens[close + 1..].to_vec()))
-}
-
-/// A function with other type parameters, and with what stands behind them.
-fn with_generics(tokens: &[Token], generics: &[Vec<Token>], rest: Vec<Token>) -> Vec<Token> {
-    let Some(name) = tokens.iter().position(|token| token.is("fn")).map(|at| at + 1) else { return tokens.to_vec() };
-    let mut all = tokens[..=name].to_vec();
-    if !generics.is_empty() {
-        all.push(sign("<", &tokens[name]));
-        all.extend(joined(generics, &tokens[name]));
-        all.push(sign(">", &tokens[name]));
-    }
-    [all, rest].concat()
-}
-
-/// The `str` of `S: AsRef<str>`.
-fn as_ref_of(generic: &[Token]) -> Option<&[Token]> {
-    let [_, colon, bound, open, to @ .., _] = generic else { return None };
-    (colon.is(":") && bound.is("AsRef") && open.is("<")).then_some(to)
-}
-
-/// Where the only parameter of a type stands, by that, and where the statement that asks it: one of the first of the body.
-fn place_of_asked(rest: &[Token], of: &Token) -> Option<(usize, usize)> {
-    let end = closing(rest, 0);
-    let mut places = (2..end).filter(|at| rest[*at] == *of);
-    let at = places.next().filter(|at| rest[at - 1].is(":") && (rest[at + 1].is(",") || rest[at + 1].is(")")))?;
-    let mut statement = (end..rest.len()).find(|at| rest[*at].is("{"))? + 1;
-    while let Some(name) = asked(&rest[statement..]) {
-        if *name == rest[at - 2] && places.next().is_none() {
-            return Some((at, statement));
-        }
-        statement += ASKING;
-    }
-    None
-}
-
-/// `for a in all { let a = a.as_ref(); ..` is `for a in all { ..`.
-fn without_asking_each(tokens: &[Token]) -> Vec<Token> {
-    let (mut kept, mut at): (Vec<Token>, usize) = (Vec::new(), 0);
-    let mut item: Option<&Token> = None;
-    while at < tokens.len() {
-        if tokens[at].is("for") {
-            item = tokens.get(at + 1);
-        }
-        kept.push(tokens[at].clone());
-        at += 1;
-        let is_first = kept.last().is_some_and(|token| token.is("{")) && item.is_some();
-        if is_first && asked(&tokens[at..]) == item {
-            at += ASKING;
-        }
-        item = item.filter(|_| !is_first);
-    }
-    kept
-}
-
-/// Whether a function runs code of its caller, by its head: it has a type parameter, a `dyn`, an `impl`, a `fn(..)` or a formatter.
+/// Whether a function runs code of its caller, by its head and by that of the `impl` around it: it has a type parameter, a `dyn`, an
+/// `impl`, a `fn(..)` or a formatter.
 pub fn runs_code(tokens: &[Token], around: &[Token]) -> bool {
-    let body = tokens.iter().position(|token| token.is("{")).unwrap_or(tokens.len());
-    let is_type = |generic: &&[Token]| generic[0].kind == Kind::Word && !generic[0].is("const");
-    // `impl<T> A` has its parameters where `fn a<T>` has them.
-    let of_impl: Vec<Token> =
-        around.iter().take(1).map(|first| first.with(Kind::Word, "fn")).chain(around.iter().cloned()).collect();
-    let has_type = |tokens: &[Token]| generics(tokens).is_some_and(|(parts, _)| parts.iter().any(|part| is_type(part)));
-    let is_code = |at: usize| match tokens[at].text.as_str() {
-        "dyn" | "impl" | "Formatter" => true,
-        "fn" => tokens.get(at + 1).is_some_and(|token| token.is("(")),
-        _ => false,
+    let head = &tokens[..tokens.iter().position(|token| token.is("{")).unwrap_or(tokens.len())];
+    let is_word = |token: &Token| ["dyn", "impl", "Formatter"].iter().any(|word| token.is(word));
+    let is_pointer = |pair: &[Token]| pair[0].is("fn") && pair[1].is("(");
+    let has_type = |tokens: &[Token], pattern: &str| {
+        let (pattern, mut bound) = (scan("a rule", pattern).unwrap_or_default(), Vec::new());
+        let start = tokens.iter().position(|token| *token == pattern[0]).unwrap_or(tokens.len());
+        let _ = fits(&pattern, &tokens[start..], &mut bound);
+        let mut generics = bound
+            .iter()
+            .filter(|(name, _)| *name == "$generics")
+            .flat_map(|(_, value)| value.split(|token| token.is(",")));
+        generics.any(|generic| generic.first().is_some_and(|first| first.kind == Kind::Word && !first.is("const")))
     };
-    (0..body).any(is_code) || has_type(&tokens[..body]) || has_type(&of_impl)
+    head.iter().any(is_word)
+        || head.windows(2).any(is_pointer)
+        || has_type(head, "fn $name<$generics>(")
+        || has_type(around, "impl<$generics> $type")
 }
