@@ -155,21 +155,35 @@ impl Comparison<'_> {
     /// Holds an item of Rust beside its source, which is in one of some files.
     fn item(&mut self, rust: &Ruled, named: &[String]) {
         let path = &rust.item.path;
-        let is_like = |source: &&Ruled| source.item.path == *path && named.contains(&source.item.file);
-        let like: Vec<usize> = (0..self.sources.len()).filter(|at| is_like(&&self.sources[*at])).collect();
+        let is_like = |source: &Ruled| source.item.path == *path && named.contains(&source.item.file);
+        let like: Vec<usize> = (0..self.sources.len()).filter(|at| is_like(&self.sources[*at])).collect();
         self.found.extend(&like);
-        let compared = like.iter().find(|at| !self.sources[**at].only_counts());
-        let Some(&source) = compared else {
-            match self.block(path, |says| *says == Says::OnlyInRust) {
-                Some(_) => self.report.only_in_rust += 1,
-                None => self.fault(&rust.item, format!("`{path}` is only in Rust")),
+        match like.iter().find(|at| !self.sources[**at].only_counts()) {
+            Some(&body) => {
+                self.tokens(rust, body);
+                self.promises(rust, &like, body);
             }
-            return;
-        };
-        self.tokens(rust, source);
-        let said = like.iter().find(|at| !self.sources[**at].is_counted).unwrap_or(&source);
-        if let Some(what) = docs::compare(&self.sources[*said].item, &rust.item) {
+            None if self.block(path, |says| *says == Says::OnlyInRust).is_some() => self.report.only_in_rust += 1,
+            None => self.fault(&rust.item, format!("`{path}` is only in Rust")),
+        }
+    }
+
+    /// Compares what an item says with what its source says, and what it requires.
+    fn promises(&mut self, rust: &Ruled, like: &[usize], body: usize) {
+        let path = &rust.item.path;
+        let all = || like.iter().map(|at| &self.sources[*at]);
+        let is_one = all().all(|other| other.only_counts() || other.tokens == self.sources[body].tokens);
+        let said = all().find(|source| !source.is_counted).unwrap_or(&self.sources[body]);
+        let requires = said.item.contract.iter().any(|clause| clause.starts_with("requires"));
+        let is_unsafe = rust.item.tokens.windows(2).any(|pair| pair[0].is("unsafe") && pair[1].is("fn"));
+        if let Some(what) = docs::compare(&said.item, &rust.item) {
             self.fault(&rust.item, format!("`{path}`: {what}"));
+        }
+        if !is_one {
+            self.fault(&rust.item, format!("`{path}` has two sources, which differ"));
+        }
+        if requires && !is_unsafe && self.block(path, |says| *says == Says::Safe).is_none() {
+            self.fault(&rust.item, format!("`{path}` is no `unsafe fn`, and its source requires something"));
         }
     }
 

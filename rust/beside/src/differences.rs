@@ -13,6 +13,8 @@ pub enum Says {
     OnlyInRust,
     /// It runs a caller's code, and has an `unsafe` block.
     Unsafe,
+    /// The source requires something, and the Rust is no `unsafe fn`.
+    Safe,
 }
 
 #[derive(Clone, Debug)]
@@ -60,6 +62,7 @@ fn new_block(field: &Field) -> Block {
         "only in the source" => Says::OnlyInTheSource,
         "only in Rust" => Says::OnlyInRust,
         "unsafe" => Says::Unsafe,
+        "safe" => Says::Safe,
         _ => Says::Differs(Vec::new()),
     };
     Block { line: field.line, paths: field.text.split(", ").map(str::to_string).collect(), says }
@@ -88,7 +91,7 @@ fn fields(text: &str) -> Result<Vec<Field>, Fault> {
         let names: &[&str] = if whole.starts_with(' ') {
             &["source", "rust", "why"]
         } else {
-            &["only in the source", "only in Rust", "unsafe"]
+            &["only in the source", "only in Rust", "unsafe", "safe"]
         };
         let named = names.iter().find_map(|name| Some((*name, text.strip_prefix(name)?.strip_prefix(':')?.trim())));
         match (named, fields.last_mut()) {

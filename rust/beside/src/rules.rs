@@ -49,8 +49,8 @@ const BOTH: &[Row] = &[
 const RUST: &[Row] = &[
     row("unsafe fn", "fn", Then::Anything),
     // What an `unsafe fn` requires is tested.
-    row("required!($fact);", "", Then::Anything),
-    row("required_of_each!($fact);", "", Then::Anything),
+    row("required!($test);", "", Then::Anything),
+    row("required_of_each!($test);", "", Then::Anything),
     // An access without a test.
     row("*get_unchecked!($of, $at)", "$of[$at]", Then::NoPostfix),
     row("*get_unchecked_mut!($of, $at)", "$of[$at]", Then::NoPostfix),
@@ -138,7 +138,10 @@ impl Rules {
 }
 
 fn apply_all(rules: &[Rule], tokens: Vec<Token>) -> Vec<Token> {
-    rules.iter().fold(tokens, |tokens, rule| if tokens.contains(&rule.from[0]) { apply(rule, &tokens) } else { tokens })
+    let is_there = |rule: &Rule, tokens: &[Token]| {
+        (0..tokens.len()).any(|at| tokens[at] == rule.from[0] && fits(&rule.from, &tokens[at..], &mut Vec::new()).is_some())
+    };
+    rules.iter().fold(tokens, |tokens, rule| if is_there(rule, &tokens) { apply(rule, &tokens) } else { tokens })
 }
 
 /// Rewrites each place that a rule fits, also inside of what its names stand for.
@@ -210,12 +213,17 @@ fn allows(then: Then, next: Option<&Token>) -> bool {
     }
 }
 
-/// Whether a `$fact`, which is left out, changes nothing: it has no assignment, no `mut`, no block, and no way out.
+/// Whether a `$fact` or a `$test`, which is left out, changes nothing: it has no assignment, no `mut`, no block and no way out. A
+/// `$fact` calls nothing.
 fn has_no_effect((name, value): &(&str, &[Token])) -> bool {
-    let assigns =
-        |token: &Token| token.text.ends_with('=') && !["==", "!=", "<=", ">=", "..="].contains(&token.text.as_str());
+    let compares = ["==", "!=", "<=", ">=", "..="];
+    let assigns = |token: &Token| token.text.ends_with('=') && !compares.contains(&token.text.as_str());
     let changes = |token: &Token| ["mut", "{", "?", "return", "break", "continue"].iter().any(|word| token.is(word));
-    *name != "$fact" || !value.iter().any(|token| token.kind == Kind::Sign && assigns(token) || changes(token))
+    match *name {
+        "$fact" => !value.iter().any(|token| assigns(token) || changes(token) || token.is("(")),
+        "$test" => !value.iter().any(|token| assigns(token) || changes(token)),
+        _ => true,
+    }
 }
 
 /// What an `$of` or a `$value` stands for, between two tokens: in brackets, if it is no chain of names and calls, and one of the two
