@@ -45,10 +45,10 @@ impl Ruled {
         let name = self.item.path.rsplit("::").next().unwrap_or("");
         let body = self.printed.iter().position(|token| token.is("{")).unwrap_or(0);
         let is_named = |pair: &&[Token]| pair[1].is(":") && pair[0].text.starts_with(char::is_lowercase);
-        let names: Vec<&str> =
-            self.printed[..body].windows(2).filter(is_named).map(|pair| pair[0].text.as_str()).collect();
-        let called: String = self.printed[body..].iter().map(|token| token.text.as_str()).collect();
-        let is_counting = self.item.tokens.iter().any(|token| token.text == format!("{name}_counted"));
+        let names: Vec<&str> = self.printed[..body].windows(2).filter(is_named).map(|pair| &*pair[0].text).collect();
+        let called: String = self.printed[body..].iter().map(|token| &*token.text).collect();
+        let counted = format!("{name}_counted");
+        let is_counting = self.item.tokens.iter().any(|token| *token.text == *counted);
         is_counting && called.replace("self.", "").replace(';', "") == format!("{{{name}({})}}", names.join(","))
     }
 }

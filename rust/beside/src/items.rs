@@ -2,7 +2,7 @@
 
 use crate::lexer::{Fault, Kind, Token, closing, tokens};
 
-/// A function, a type, a constant, or the head of an `impl`.
+/// A function, a type, a constant, a macro, or the head of an `impl`.
 #[derive(Clone, Debug)]
 pub struct Item {
     pub file: String,
@@ -23,7 +23,7 @@ pub struct Item {
 /// Reads a file. What stands in an inline module counts as if it stood around that; tests are left out.
 pub fn items(file: &str, text: &str) -> Result<Vec<Item>, Fault> {
     let mut reader = Reader { file, items: Vec::new() };
-    reader.level(&tokens(file, text)?, None)?;
+    reader.level(&tokens(file, text)?, ("", &[]))?;
     Ok(reader.items)
 }
 
@@ -32,8 +32,8 @@ struct Reader<'a> {
     items: Vec<Item>,
 }
 
-/// The `impl` around items: its path and its head.
-type Around<'a> = Option<(&'a str, &'a [Token])>;
+/// The `impl` around items, by what their paths begin with, and its head.
+type Around<'a> = (&'a str, &'a [Token]);
 
 /// What stands before an item.
 #[derive(Default)]
@@ -59,48 +59,45 @@ impl Reader<'_> {
 
     /// Reads one item, and returns how many tokens it has.
     fn item(&mut self, front: Front, rest: &[Token], around: Around) -> Result<usize, Fault> {
-        let keyword = rest.iter().find(|token| !is_qualifier(token, rest)).unwrap_or(&rest[0]);
-        let name = rest.iter().skip_while(|token| *token != keyword).nth(1).map_or("", |token| token.text.as_str());
-        match keyword.text.as_str() {
-            "fn" => self.function(front, rest, name, around),
-            "ghost" | "use" | "extern" => Ok(behind(rest, &[";"])),
-            "mod" => self.module(&front, rest, around),
-            "impl" => self.implementation(front, rest),
-            "const" | "static" | "type" => {
-                let end = behind(rest, &[";"]);
-                self.put(front, &rest[..end], name, Vec::new(), around);
-                Ok(end)
-            }
-            "struct" | "enum" | "union" | "trait" => {
-                let end = behind(rest, &[";", "{"]);
-                self.put(front, &rest[..end], name, Vec::new(), around);
-                Ok(end)
-            }
-            _ if rest.get(1).is_some_and(|token| token.is("!")) => {
-                let end = behind(rest, &[";", "{"]);
-                let path = if keyword.is("macro_rules") { rest[2].text.clone() } else { format!("{}!", keyword.text) };
-                self.put(front, &rest[..end], &path, Vec::new(), around);
-                Ok(end)
-            }
-            other => Err(self.fault(&rest[0], format!("no item is known that begins with `{other}`"))),
-        }
+        let at = rest.iter().position(|token| !is_qualifier(token, rest)).unwrap_or(0);
+        let name = |at: usize| rest.get(at).map_or("", |token| &*token.text);
+        let (ends, path): (&[&str], String) = match name(at) {
+            "fn" => return self.function(front, rest, name(at + 1), around),
+            "mod" => return self.module(&front, rest, around),
+            "impl" => return self.implementation(front, rest),
+            "ghost" | "use" | "extern" => return self.end(rest, &[";"]),
+            "const" | "static" | "type" => (&[";"], name(at + 1).to_string()),
+            "struct" | "enum" | "union" | "trait" => (&[";", "{"], name(at + 1).to_string()),
+            "macro_rules" => (&[";", "{"], name(at + 2).to_string()),
+            other if name(at + 1) == "!" => (&[";", "{"], format!("{other}!")),
+            other => return Err(self.fault(rest, &format!("no item is known that begins with `{other}`"))),
+        };
+        let end = self.end(rest, ends)?;
+        self.put(front, &rest[..end], &path, Vec::new(), around);
+        Ok(end)
     }
 
-    fn fault(&self, token: &Token, what: String) -> Fault {
-        Fault { file: self.file.to_string(), line: token.line, what }
+    fn fault(&self, rest: &[Token], what: &str) -> Fault {
+        Fault { file: self.file.to_string(), line: rest.first().map_or(0, |token| token.line), what: what.to_string() }
+    }
+
+    /// How many tokens an item has, up to a sign and its group.
+    fn end(&self, rest: &[Token], ends: &[&str]) -> Result<usize, Fault> {
+        position(rest, ends)
+            .map(|at| closing(rest, at) + 1)
+            .ok_or_else(|| self.fault(rest, "an item that does not end"))
     }
 
     fn put(&mut self, front: Front, tokens: &[Token], name: &str, contract: Vec<String>, around: Around) {
-        let path = around.map_or(name.to_string(), |(path, _)| format!("{}::{name}", path.trim_start_matches("impl ")));
         self.items.push(Item {
             file: self.file.to_string(),
-            line: tokens[0].line,
-            path,
+            line: tokens.first().map_or(0, |token| token.line),
+            path: format!("{}{name}", around.0),
             is_public: front.is_public,
             docs: front.docs,
-            tokens: [front.attributes, tokens.to_vec()].concat(),
+            tokens: [&front.attributes, tokens].concat(),
             contract,
-            around: around.map_or(Vec::new(), |(_, head)| head.to_vec()),
+            around: around.1.to_vec(),
         });
     }
 
@@ -109,33 +106,34 @@ impl Reader<'_> {
         let (mut kept, mut clauses, mut at) = (Vec::new(), Vec::new(), 0);
         while at < rest.len() {
             let start = at;
-            if rest[at].is("requires") || rest[at].is("ensures") {
-                at += if rest.get(at + 1).is_some_and(|token| token.is("{")) { 1 } else { 2 };
-                at = closing(rest, at) + 1;
-                clauses.push(words(&rest[start..at]));
-                continue;
+            let is_clause = rest[at].is("requires") || rest[at].is("ensures");
+            // A clause may have a name: `requires room { .. }`.
+            at = match position(&rest[at..], &["{"]) {
+                Some(open @ (1 | 2)) if is_clause => closing(rest, at + open) + 1,
+                _ => closing(rest, at) + 1,
+            };
+            match is_clause {
+                true => clauses.push(words(&rest[start..at])),
+                false => kept.extend_from_slice(&rest[start..at]),
             }
-            at = closing(rest, at) + 1;
-            kept.extend_from_slice(&rest[start..at]);
-            if rest[start].is("{") || rest[start].is(";") {
-                break;
+            if !is_clause && (rest[start].is("{") || rest[start].is(";")) {
+                self.put(front, &kept, name, clauses, around);
+                return Ok(at);
             }
         }
-        self.put(front, &kept, name, clauses, around);
-        Ok(at)
+        Err(self.fault(rest, "a function that does not end"))
     }
 
     /// `mod a;` is nothing, and of `mod a { .. }` the items are read.
     fn module(&mut self, front: &Front, rest: &[Token], around: Around) -> Result<usize, Fault> {
-        let end = behind(rest, &[";", "{"]);
-        let condition: String = front.attributes.iter().map(|token| token.text.as_str()).collect();
-        if rest[end - 1].is("}") && !condition.starts_with("#[cfg(test)]") && !condition.starts_with("#[cfg(all(test") {
+        let end = self.end(rest, &[";", "{"])?;
+        let condition = words(&front.attributes);
+        let is_test = condition.starts_with("#[cfg(test)]") || condition.starts_with("#[cfg(all(test,");
+        if rest[end - 1].is("}") && !is_test {
             if condition.contains("cfg") {
-                return Err(
-                    self.fault(&rest[0], "a module under a condition: put that at each of its items".to_string())
-                );
+                return Err(self.fault(rest, "a module under a condition, which has to stand at each of its items"));
             }
-            let open = rest.iter().position(|token| token.is("{")).unwrap_or(0);
+            let open = position(rest, &["{"]).unwrap_or(0);
             self.level(&rest[open + 1..end - 1], around)?;
         }
         Ok(end)
@@ -143,38 +141,38 @@ impl Reader<'_> {
 
     /// An `impl`: its head is an item, and so is each of its members. That of `Model` is a ghost.
     fn implementation(&mut self, front: Front, rest: &[Token]) -> Result<usize, Fault> {
-        let end = behind(rest, &["{"]);
-        let open = rest.iter().position(|token| token.is("{")).unwrap_or(end - 1);
-        let head = &rest[..open];
+        let end = self.end(rest, &["{"])?;
+        let open = position(rest, &["{"]).unwrap_or(0);
+        let (head, members) = (&rest[..open], &rest[open + 1..end - 1]);
         let path = path_of_impl(head);
         if !path.ends_with(" as Model") {
-            let ghosts = Self::ghosts(&rest[open + 1..end - 1]);
-            self.put(front, head, &path, ghosts, None);
-            self.level(&rest[open + 1..end - 1], Some((&path, head)))?;
+            let ghosts = members
+                .split(|token| token.is("ghost"))
+                .skip(1)
+                .filter(|ghost| !ghost[..1].iter().any(|token| token.is("use")));
+            let ghosts = ghosts.filter_map(|ghost| Some(words(&ghost[..=position(ghost, &[";"])?]))).collect();
+            self.put(front, head, &path, ghosts, ("", &[]));
+            self.level(members, (&format!("{}::", path.trim_start_matches("impl ")), head))?;
         }
         Ok(end)
     }
+}
 
-    /// The ghost items of an `impl`, as a contract has them: `eq = { .. };`.
-    fn ghosts(mut rest: &[Token]) -> Vec<String> {
-        let mut all = Vec::new();
-        while !rest.is_empty() {
-            let start = front(rest).1;
-            rest = &rest[start..];
-            let is_ghost = rest.first().is_some_and(|token| token.is("ghost"));
-            let end = behind(rest, if is_ghost { &[";"] } else { &[";", "{"] });
-            if is_ghost && !rest[1].is("use") {
-                all.push(words(&rest[1..end]));
-            }
-            rest = &rest[end..];
+/// Where one of some signs stands that is in no group.
+fn position(tokens: &[Token], signs: &[&str]) -> Option<usize> {
+    let mut at = 0;
+    while at < tokens.len() {
+        if signs.iter().any(|sign| tokens[at].is(sign)) {
+            return Some(at);
         }
-        all
+        at = closing(tokens, at) + 1;
     }
+    None
 }
 
 /// The words of tokens as they are written, without comments: names such as `stored-size` have signs in them.
 fn words(tokens: &[Token]) -> String {
-    let text: String = tokens.iter().flat_map(|token| [token.gap.as_str(), token.text.as_str()]).collect();
+    let text: String = tokens.iter().flat_map(|token| [&*token.gap, &*token.text]).collect();
     let lines = text.lines().filter(|line| !line.trim_start().starts_with("//"));
     lines.flat_map(str::split_whitespace).collect::<Vec<_>>().join(" ")
 }
@@ -182,67 +180,42 @@ fn words(tokens: &[Token]) -> String {
 /// Whether a token stands before the keyword of an item, as `const` does before `fn`.
 fn is_qualifier(token: &Token, rest: &[Token]) -> bool {
     let is_function = rest.iter().take(4).any(|token| token.is("fn"));
-    match token.text.as_str() {
-        "unsafe" => true,
-        "const" | "async" | "extern" => is_function,
-        _ => token.kind == Kind::Literal && is_function,
-    }
-}
-
-/// How many tokens there are up to one of some signs and its group, which is outside of other groups.
-fn behind(tokens: &[Token], ends: &[&str]) -> usize {
-    let mut at = 0;
-    while at < tokens.len() {
-        let is_end = ends.iter().any(|end| tokens[at].is(end));
-        at = closing(tokens, at) + 1;
-        if is_end {
-            return at;
-        }
-    }
-    tokens.len()
+    token.is("unsafe")
+        || is_function && (["const", "async", "extern"].contains(&&*token.text) || token.kind == Kind::Literal)
 }
 
 /// The documentation, the attributes and the visibility that tokens begin with, and how many these are.
 fn front(tokens: &[Token]) -> (Front, usize) {
     let (mut front, mut at) = (Front::default(), 0);
+    let is_next = |at: usize, text| tokens.get(at + 1).is_some_and(|token| token.is(text));
     while let Some(token) = tokens.get(at) {
         let start = at;
         if token.kind == Kind::Doc {
             front.docs.push(token.text[3..].to_string());
-            at += 1;
+        } else if token.is("#") && is_next(at, "!") {
+            at = closing(tokens, at + 2);
         } else if token.is("#") {
-            let is_inner = tokens.get(at + 1).is_some_and(|token| token.is("!"));
-            at = closing(tokens, at + 1 + usize::from(is_inner)) + 1;
-            if !is_inner {
-                front.attributes.extend_from_slice(&tokens[start..at]);
-            }
+            at = closing(tokens, at + 1);
+            front.attributes.extend(tokens[start..].iter().take(at + 1 - start).cloned());
         } else if token.is("pub") {
-            let is_bounded = tokens.get(at + 1).is_some_and(|token| token.is("("));
-            at = if is_bounded { closing(tokens, at + 1) + 1 } else { at + 1 };
-            front.is_public = !is_bounded;
+            front.is_public = !is_next(at, "(");
+            at = if front.is_public { at } else { closing(tokens, at + 1) };
         } else {
             break;
         }
+        at += 1;
     }
-    (front, at)
+    (front, at.min(tokens.len()))
 }
 
 /// `Error as From<Utf8>` for `impl From<Utf8> for Error`, and `impl ArrayString` for `impl<const N: usize> ArrayString<N>`.
 fn path_of_impl(head: &[Token]) -> String {
-    let mut start = 1;
-    if head.get(1).is_some_and(|token| token.is("<")) {
-        let mut depth = 0;
-        start += head[1..]
-            .iter()
-            .take_while(|token| {
-                depth += isize::from(token.is("<")) - isize::from(token.is(">"));
-                depth > 0
-            })
-            .count()
-            + 1;
+    let (mut depth, mut start) = (0, 1);
+    while head.get(start).is_some_and(|token| token.is("<") || depth > 0) {
+        depth += isize::from(head[start].is("<")) - isize::from(head[start].is(">"));
+        start += 1;
     }
-    let head = head.get(start..).unwrap_or(&[]);
-    let head = &head[..head.iter().position(|token| token.is("where")).unwrap_or(head.len())];
+    let head = head.get(start..).unwrap_or(&[]).split(|token| token.is("where")).next().unwrap_or(&[]);
     match head.iter().position(|token| token.is("for")) {
         Some(at) => format!("{} as {}", name(&head[at + 1..], false), name(&head[..at], true)),
         None => format!("impl {}", name(head, false)),

@@ -1,6 +1,7 @@
 //! The tokens of a file, of either language: `a[1]` is `a`, `[`, `1` and `]`.
 
 use std::fmt;
+use std::rc::Rc;
 
 /// What is wrong, and where.
 #[derive(Clone, Debug, PartialEq)]
@@ -31,10 +32,10 @@ pub enum Kind {
 #[derive(Clone, Debug)]
 pub struct Token {
     pub kind: Kind,
-    pub text: String,
+    pub text: Rc<str>,
     pub line: usize,
     /// The blanks and comments before it.
-    pub gap: String,
+    pub gap: Rc<str>,
 }
 
 impl PartialEq for Token {
@@ -45,7 +46,7 @@ impl PartialEq for Token {
 
 impl Token {
     pub fn is(&self, text: &str) -> bool {
-        self.text == text && matches!(self.kind, Kind::Word | Kind::Sign)
+        *self.text == *text && matches!(self.kind, Kind::Word | Kind::Sign)
     }
 }
 
@@ -71,7 +72,7 @@ pub fn scan(file: &str, text: &str) -> Result<Vec<Token>, Fault> {
         let (kind, len) = next(rest).map_err(fault)?;
         let (text, behind) = rest.split_at(len);
         match kind {
-            Some(kind) => tokens.push(Token { kind, text: text.to_string(), line, gap: std::mem::take(&mut gap) }),
+            Some(kind) => tokens.push(Token { kind, text: text.into(), line, gap: std::mem::take(&mut gap).into() }),
             None => gap.push_str(text),
         }
         line += text.matches('\n').count();
@@ -198,11 +199,11 @@ fn balanced(file: &str, tokens: &[Token]) -> Result<(), Fault> {
     let mut open: Vec<&Token> = Vec::new();
     for token in tokens.iter().filter(|token| token.kind == Kind::Sign) {
         let fault = |line| Fault { file: file.to_string(), line, what: format!("`{}` stands alone", token.text) };
-        match token.text.as_str() {
+        match &*token.text {
             "(" | "[" | "{" => open.push(token),
             ")" | "]" | "}" => {
-                let like = open.pop().map(|token| token.text.as_str());
-                if !matches!((like, token.text.as_str()), (Some("("), ")") | (Some("["), "]") | (Some("{"), "}")) {
+                let like = open.pop().map(|token| &*token.text);
+                if !matches!((like, &*token.text), (Some("("), ")") | (Some("["), "]") | (Some("{"), "}")) {
                     return Err(fault(token.line));
                 }
             }
@@ -222,7 +223,7 @@ pub fn closing(tokens: &[Token], open: usize) -> usize {
     let mut depth = 0;
     for (at, token) in tokens.iter().enumerate().skip(open) {
         if token.kind == Kind::Sign {
-            match token.text.as_str() {
+            match &*token.text {
                 "(" | "[" | "{" => depth += 1,
                 ")" | "]" | "}" => depth -= 1,
                 _ => {}

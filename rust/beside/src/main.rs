@@ -70,7 +70,7 @@ fn print(tree: &Tree, path: &str) -> Result<bool, String> {
         return Err(format!("no source has `{path}`"));
     }
     for source in found {
-        let text: String = source.printed.iter().flat_map(|token| [token.gap.as_str(), &token.text]).collect();
+        let text: String = source.printed.iter().flat_map(|token| [&*token.gap, &*token.text]).collect();
         println!("// {}:{}\n{}", source.item.file, source.item.line, text.trim_start());
     }
     Ok(true)

@@ -121,7 +121,7 @@ impl Rules {
 
     /// A source as it would stand in Rust. `pop_counted` is `pop`.
     pub fn as_rust(&self, tokens: &[Token]) -> Vec<Token> {
-        let name = |token: &Token| Token { text: token.text.trim_end_matches("_counted").to_string(), ..token.clone() };
+        let name = |token: &Token| Token { text: token.text.trim_end_matches("_counted").into(), ..token.clone() };
         apply_all(&self.source, tokens.iter().map(name).collect())
     }
 
@@ -139,7 +139,8 @@ impl Rules {
 
 fn apply_all(rules: &[Rule], tokens: Vec<Token>) -> Vec<Token> {
     let is_there = |rule: &Rule, tokens: &[Token]| {
-        (0..tokens.len()).any(|at| tokens[at] == rule.from[0] && fits(&rule.from, &tokens[at..], &mut Vec::new()).is_some())
+        (0..tokens.len())
+            .any(|at| tokens[at] == rule.from[0] && fits(&rule.from, &tokens[at..], &mut Vec::new()).is_some())
     };
     rules.iter().fold(tokens, |tokens, rule| if is_there(rule, &tokens) { apply(rule, &tokens) } else { tokens })
 }
@@ -158,18 +159,18 @@ fn apply(rule: &Rule, tokens: &[Token]) -> Vec<Token> {
         };
         let start = made.len();
         for (place, token) in rule.to.iter().enumerate() {
-            match bound.iter().find(|(name, _)| *name == token.text) {
+            match bound.iter().find(|(name, _)| *name == &*token.text) {
                 Some((_, value)) => {
                     let next = rule.to.get(place + 1).or(tokens.get(at + len));
                     let value = operand(&token.text, apply(rule, value), made.last(), next);
                     let gap = made.len();
                     made.extend(value);
-                    made.iter_mut().skip(gap).take(1).for_each(|first| first.gap.clone_from(&token.gap));
+                    made.iter_mut().skip(gap).take(1).for_each(|first| first.gap = token.gap.clone());
                 }
                 None => made.push(Token { line: tokens[at].line, ..token.clone() }),
             }
         }
-        made.iter_mut().skip(start).take(1).for_each(|first| first.gap.clone_from(&tokens[at].gap));
+        made.iter_mut().skip(start).take(1).for_each(|first| first.gap = tokens[at].gap.clone());
         at += len;
     }
     made
@@ -181,7 +182,7 @@ fn fits<'a>(pattern: &'a [Token], tokens: &'a [Token], bound: &mut Vec<(&'a str,
     if !first.text.starts_with('$') {
         return (tokens.first()? == first).then(|| fits(rest, &tokens[1..], bound)).flatten().map(|len| len + 1);
     }
-    if let Some((_, value)) = bound.iter().find(|(name, _)| *name == first.text) {
+    if let Some((_, value)) = bound.iter().find(|(name, _)| **name == *first.text) {
         let value = *value;
         return tokens
             .starts_with(value)
@@ -217,7 +218,7 @@ fn allows(then: Then, next: Option<&Token>) -> bool {
 /// `$fact` calls nothing.
 fn has_no_effect((name, value): &(&str, &[Token])) -> bool {
     let compares = ["==", "!=", "<=", ">=", "..="];
-    let assigns = |token: &Token| token.text.ends_with('=') && !compares.contains(&token.text.as_str());
+    let assigns = |token: &Token| token.text.ends_with('=') && !compares.contains(&&*token.text);
     let changes = |token: &Token| ["mut", "{", "?", "return", "break", "continue"].iter().any(|word| token.is(word));
     match *name {
         "$fact" => !value.iter().any(|token| assigns(token) || changes(token) || token.is("(")),
@@ -236,7 +237,7 @@ fn operand(name: &str, value: Vec<Token>, before: Option<&Token>, next: Option<&
     if !["$of", "$value"].contains(&name) || is_apart || is_chain(&value) {
         return value;
     }
-    let sign = |text: &str| Token { kind: Kind::Sign, text: text.to_string(), line: value[0].line, gap: String::new() };
+    let sign = |text: &str| Token { kind: Kind::Sign, text: text.into(), line: value[0].line, gap: "".into() };
     [vec![sign("(")], value.clone(), vec![sign(")")]].concat()
 }
 
@@ -245,7 +246,7 @@ fn is_chain(value: &[Token]) -> bool {
     let keywords = ["as", "break", "if", "in", "let", "loop", "match", "move", "return", "unsafe", "while"];
     let (mut at, mut angles) = (0, 0);
     while at < value.len() {
-        match value[at].text.as_str() {
+        match &*value[at].text {
             "." | "::" | "?" | "(" | "[" => {}
             "!" if at > 0 => {}
             "<" if at > 0 && value[at - 1].is("::") => angles += 1,

@@ -71,7 +71,10 @@ fn the_counter_goes() {
         ("fn f() { look(a.b, c + 1, steps) }", "fn f() { a.b[c + 1] }"),
         ("fn f() { look(*a, c, steps) }", "fn f() { (*a)[c] }"),
         ("fn f() { f_counted(&mut Steps::new()) } fn f_counted() { g_counted() }", "fn f() { g() }"),
-        ("impl A { fn f(a: u8) { self.f_counted(a, &mut Steps::new()); } fn f_counted(a: u8) { b } }", "impl A { fn f(a: u8) { b } }"),
+        (
+            "impl A { fn f(a: u8) { self.f_counted(a, &mut Steps::new()); } fn f_counted(a: u8) { b } }",
+            "impl A { fn f(a: u8) { b } }",
+        ),
     ]);
     differ(&[
         ("fn f() { look(*a, c, steps) }", "fn f() { *a[c] }"),
@@ -189,7 +192,10 @@ fn an_item_is_held_beside_that_of_its_path() {
     }
     tells(&tree("impl<const N: usize> A<N> {}", "impl A<3> {}", ""), "`impl A` differs");
     tells(&tree("struct A;", "enum A {}", ""), "`A` differs");
-    tells(&tree("\nfn f() {\n    g(1)\n}", "\n\nfn f() {\n    g(2)\n}", ""), "a.rs:4: `f` differs, here at line 5, and at crates/arraystring_base/src/a.rt:3");
+    tells(
+        &tree("\nfn f() {\n    g(1)\n}", "\n\nfn f() {\n    g(2)\n}", ""),
+        "a.rs:4: `f` differs, here at line 5, and at crates/arraystring_base/src/a.rt:3",
+    );
     tells(&tree("", "static A: u8 = 1;", ""), "`A` is only in Rust");
     tells(&tree("const A: u8 = 1;", "", ""), "a.rt:1: `A` is only in the source");
 }
@@ -203,7 +209,10 @@ fn a_file_says_where_its_sources_are() {
     files.insert(rust.clone(), "// Proved sources: crates/b.rt\n".to_string());
     tells(&files, "there is no source `crates/b.rt`");
     files.insert("crates/arraystring_base/src/b.rt".to_string(), "fn g() {}".to_string());
-    files.insert(rust.clone(), format!("// Proved sources: {SOURCE},\n// crates/arraystring_base/src/b.rt\nfn f() {{}} fn g() {{}}"));
+    files.insert(
+        rust.clone(),
+        format!("// Proved sources: {SOURCE},\n// crates/arraystring_base/src/b.rt\nfn f() {{}} fn g() {{}}"),
+    );
     assert_eq!(faults(&files), "");
     files.insert(format!("{RUST}c.rs"), "// By hand: no proof stands behind this file.\nfn h() {}".to_string());
     assert_eq!(faults(&files), "");
@@ -225,7 +234,8 @@ fn each_kind_of_entry_is_used_or_fails() {
         (format!("f\n{because}"), "this has no `source`"),
         (format!("{entry}{because}k\n    source: a\n    rust: b\n"), "`k` fits nothing"),
         (format!("{entry}    why:\n"), "a `why` that says nothing"),
-        (format!("    source: a\n{entry}"), "belongs to nothing"),
+        (format!("    source: a\n{entry}"), "a `source` of nothing"),
+        (format!("    other\n{entry}"), "this belongs to nothing"),
         (entry.replace("f\n", "unsafe: f\n"), "a `source` of nothing"),
     ];
     for (text, words) in wrong {
@@ -244,8 +254,15 @@ fn each_kind_of_entry_is_used_or_fails() {
 #[test]
 fn what_runs_a_callers_code_has_no_unsafe_block() {
     let body = "{ unsafe { g() } }";
-    let heads = ["fn f<T: B>(a: T)", "fn f<T>(a: T)", "fn f<'a, const N: usize, T: B>()", "fn f(a: impl B)", "fn f(a: &dyn B)",
-        "fn f(a: fn(u8) -> u8)", "fn f(a: &mut fmt::Formatter<'_>)"];
+    let heads = [
+        "fn f<T: B>(a: T)",
+        "fn f<T>(a: T)",
+        "fn f<'a, const N: usize, T: B>()",
+        "fn f(a: impl B)",
+        "fn f(a: &dyn B)",
+        "fn f(a: fn(u8) -> u8)",
+        "fn f(a: &mut fmt::Formatter<'_>)",
+    ];
     for head in heads {
         let text = format!("{head} {body}");
         tells(&tree(&text, &text, ""), "`f` runs a caller's code, and has an `unsafe` block");
@@ -265,7 +282,9 @@ fn what_runs_a_callers_code_has_no_unsafe_block() {
 /// Documentation of a public call, with a contract, a first sentence and an error.
 fn documented(contract: &str, first: &str, errors: &str) -> String {
     let block = format!("/// <details><summary>Contract</summary>\n///\n/// ```text\n/// {contract}\n/// ```\n");
-    format!("/// {first} More.\n///\n/// # Errors\n///\n/// {errors}\n///\n/// # Examples\n///\n/// none\n///\n{block}pub fn f() {{}}")
+    format!(
+        "/// {first} More.\n///\n/// # Errors\n///\n/// {errors}\n///\n/// # Examples\n///\n/// none\n///\n{block}pub fn f() {{}}"
+    )
 }
 
 #[test]
@@ -291,7 +310,8 @@ fn documentation_of_a_public_call_is_that_of_its_source() {
     for (rust, words) in bad {
         tells(&tree(source, &rust, ""), words);
     }
-    let short = "/// <summary>Contract</summary>\n/// ```text\n/// eq = { a };\n/// laws = { .. };\n/// ```\nimpl A for B {}";
+    let short =
+        "/// <summary>Contract</summary>\n/// ```text\n/// eq = { a };\n/// laws = { .. };\n/// ```\nimpl A for B {}";
     same(&[("impl A for B { ghost eq = { a }; ghost laws = { b }; }", short)]);
     differ(&[("impl A for B { ghost eq = { c }; ghost laws = { b }; }", short)]);
 }
@@ -299,12 +319,43 @@ fn documentation_of_a_public_call_is_that_of_its_source() {
 #[test]
 fn each_token_is_what_it_is() {
     let text = "r#\"a\"b\"# b'\\'' 'a' 'a '\\u{7f}' br\"\\\" \"\\\\\" r#fn 1..2 1.5e3 x.0.1 a >>= b /* \" */ '\"' é";
-    let texts: Vec<String> = scan("", text).expect("tokens").into_iter().map(|token| token.text).collect();
-    let expected = ["r#\"a\"b\"#", "b'\\''", "'a'", "'a", "'\\u{7f}'", "br\"\\\"", "\"\\\\\"", "r", "#", "fn", "1", "..", "2",
-        "1.5e3", "x", ".", "0.1", "a", ">", ">=", "b", "'\"'", "é"];
+    let texts: Vec<String> = scan("", text).expect("tokens").into_iter().map(|token| token.text.to_string()).collect();
+    let expected = [
+        "r#\"a\"b\"#",
+        "b'\\''",
+        "'a'",
+        "'a",
+        "'\\u{7f}'",
+        "br\"\\\"",
+        "\"\\\\\"",
+        "r",
+        "#",
+        "fn",
+        "1",
+        "..",
+        "2",
+        "1.5e3",
+        "x",
+        ".",
+        "0.1",
+        "a",
+        ">",
+        ">=",
+        "b",
+        "'\"'",
+        "é",
+    ];
     assert_eq!(texts, expected);
-    for (text, words) in [("\"a", "does not end"), ("/* /* */", "does not end"), ("r#\"a\"", "does not end"), ("a\rb", "may end a line"),
-        ("(]", "`]` stands alone"), (")", "`)` stands alone"), ("fn f() {", "not closed"), ("what", "no item is known")] {
+    for (text, words) in [
+        ("\"a", "does not end"),
+        ("/* /* */", "does not end"),
+        ("r#\"a\"", "does not end"),
+        ("a\rb", "may end a line"),
+        ("(]", "`]` stands alone"),
+        (")", "`)` stands alone"),
+        ("fn f() {", "not closed"),
+        ("what", "no item is known"),
+    ] {
         tells(&tree("", text, ""), words);
     }
 }
@@ -313,7 +364,11 @@ fn each_token_is_what_it_is() {
 fn a_source_is_printed_as_it_would_stand_in_rust() {
     let source = "fn f(a: u8, steps: &mut Steps) -> u8\n    requires { b }\n{\n    // What is looked at.\n    let c = look(d, a - 1, steps);\n    prove!(c < a);\n    g_counted(c, steps)\n}";
     let rules = Rules::new();
-    let printed: String = rules.as_rust(&items("", source).expect("items")[0].tokens).iter().flat_map(|token| [token.gap.clone(), token.text.clone()]).collect();
+    let printed: String = rules
+        .as_rust(&items("", source).expect("items")[0].tokens)
+        .iter()
+        .flat_map(|token| [token.gap.to_string(), token.text.to_string()])
+        .collect();
     assert_eq!(printed, "fn f(a: u8) -> u8\n{\n    // What is looked at.\n    let c = d[a - 1];\n    g(c)\n}");
     assert!(print(&tree(source, "", ""), "f").is_ok() && print(&tree(source, "", ""), "g").is_err());
 }
@@ -362,21 +417,33 @@ fn changed(text: &str, random: &mut Random) -> (String, String) {
         0 => String::new(),
         1 => format!("{old} {old}"),
         _ => {
-            let others: Vec<&str> = tokens.iter().map(|token| token.text.as_str()).filter(|text| text != old && !text.starts_with("///")).collect();
+            let others: Vec<&str> = tokens
+                .iter()
+                .map(|token| &*token.text)
+                .filter(|text| *text != &**old && !text.starts_with("///"))
+                .collect();
             others[random.below(others.len())].to_string()
         }
     };
     let line = text.lines().nth(tokens[at].line - 1).unwrap_or("").trim();
-    let parts = tokens.iter().enumerate().map(|(place, token)| format!("{}{}", token.gap, if place == at { &new } else { &token.text }));
+    let parts = tokens
+        .iter()
+        .enumerate()
+        .map(|(place, token)| format!("{}{}", token.gap, if place == at { &*new } else { &*token.text }));
     (parts.collect(), format!("`{old}` as `{new}` in `{line}`"))
 }
 
 /// What a file has by path: the tokens of its items as they are read, and as they are compared.
 fn read_items(name: &str, text: &str, rules: &Rules) -> BTreeMap<String, (Vec<String>, Vec<String>)> {
-    let text_of = |tokens: Vec<crate::lexer::Token>| tokens.into_iter().map(|token| token.text).collect();
-    let ruled = |item: &Item| if name.starts_with(RUST) { rules.of_rust(&item.tokens) } else { rules.of_both(&rules.as_rust(&item.tokens)) };
+    let text_of = |tokens: Vec<crate::lexer::Token>| tokens.into_iter().map(|token| token.text.to_string()).collect();
+    let ruled = |item: &Item| {
+        if name.starts_with(RUST) { rules.of_rust(&item.tokens) } else { rules.of_both(&rules.as_rust(&item.tokens)) }
+    };
     let all = items(name, text).expect("items");
-    all.iter().enumerate().map(|(at, item)| (format!("{at} {}", item.path), (text_of(item.tokens.clone()), text_of(ruled(item))))).collect()
+    all.iter()
+        .enumerate()
+        .map(|(at, item)| (format!("{at} {}", item.path), (text_of(item.tokens.clone()), text_of(ruled(item)))))
+        .collect()
 }
 
 /// A changed token is seen, but for what is in no item (a `use`, a `mod`, a visibility, a contract of a private function, a ghost item),
@@ -385,7 +452,8 @@ fn read_items(name: &str, text: &str, rules: &Rules) -> BTreeMap<String, (Vec<St
 fn a_changed_token_is_seen() {
     let (mut tree, rules, mut random) = (repository(), Rules::new(), Random(0x9E37_79B9_7F4A_7C15));
     let compared = |name: &&String, text: &str| text.starts_with("// Proved sources: ") || name.ends_with(".rt");
-    let names: Vec<String> = tree.iter().filter(|(name, text)| compared(name, text)).map(|(name, _)| name.clone()).collect();
+    let names: Vec<String> =
+        tree.iter().filter(|(name, text)| compared(name, text)).map(|(name, _)| name.clone()).collect();
     let alone = tree[differences::NAME].clone();
     let (mut seen, mut outside, mut ruled, mut on_one_side) = (0, 0, 0, 0);
     for turn in 0..400 {
@@ -397,12 +465,18 @@ fn a_changed_token_is_seen() {
             seen += 1;
         } else {
             let (before, after) = (read_items(&name, &old, &rules), read_items(&name, &text, &rules));
-            let is_left_out = ["steps", "Steps", "#[", "prove!", "required", "look", "_counted", "Drop", "W"].iter().any(|word| what.contains(word)) || what.starts_with("`,`");
+            let is_left_out = ["steps", "Steps", "#[", "prove!", "required", "look", "_counted", "Drop", "W"]
+                .iter()
+                .any(|word| what.contains(word))
+                || what.starts_with("`,`");
             let other: Vec<&String> = before.keys().filter(|path| before.get(*path) != after.get(*path)).collect();
-            let is_alone = |path: &&String| alone.contains(path.split(' ').next_back().unwrap_or("?")) || alone.contains(&name);
+            let is_alone =
+                |path: &&String| alone.contains(path.split(' ').next_back().unwrap_or("?")) || alone.contains(&name);
             if other.is_empty() {
                 outside += 1;
-            } else if before.iter().all(|(path, (_, ruled))| after.get(path).is_some_and(|(_, now)| now == ruled)) && is_left_out {
+            } else if before.iter().all(|(path, (_, ruled))| after.get(path).is_some_and(|(_, now)| now == ruled))
+                && is_left_out
+            {
                 ruled += 1;
             } else if other.iter().all(is_alone) {
                 on_one_side += 1;
@@ -412,7 +486,9 @@ fn a_changed_token_is_seen() {
         }
         tree.insert(name, old);
     }
-    println!("{seen} of 400 are seen; {outside} are in no item, {ruled} are left out by a rule, {on_one_side} are on one side alone");
+    println!(
+        "{seen} of 400 are seen; {outside} are in no item, {ruled} are left out by a rule, {on_one_side} are on one side alone"
+    );
     assert!(seen > 150);
 }
 
