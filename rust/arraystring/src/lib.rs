@@ -1,10 +1,11 @@
-// Made from crates/arraystring/src/lib.rt by rust/erase. The proof is there. A change goes there.
+// Proved sources: crates/arraystring/src/lib.rt
 #![doc = include_str!("../README.md")]
 //!
 //! # Pages
 //!
 //! [`contracts`] says how to read a contract, and [`trust`] what is proved and what has to be trusted.
 #![no_std]
+#![cfg_attr(docsrs, feature(doc_cfg))]
 #![deny(unsafe_op_in_unsafe_fn, missing_docs)]
 #![deny(clippy::undocumented_unsafe_blocks, clippy::cast_possible_truncation)]
 
@@ -12,23 +13,37 @@
 compile_error!("the crate was tried where a `usize` has 32 or 64 bits, and nowhere else");
 
 #[macro_use]
-#[path = "by_hand/access.rs"]
 mod access;
-
-mod arraystring_base;
-mod arraystring_core;
-
-mod by_hand;
-
-pub use by_hand::{contracts, trust};
-pub use error::{OutOfBounds, Utf8, Utf16};
-
+mod array_string;
 mod cache_string;
+pub mod contracts;
+#[cfg(feature = "alloc")]
+mod copies;
+#[cfg(feature = "serde")]
+pub mod cut;
+pub mod drain;
+pub mod error;
+mod moves;
+#[cfg(feature = "alloc")]
+mod owned;
+#[cfg(feature = "std")]
+mod paths;
+mod range_ends;
+mod rust_traits;
+#[cfg(feature = "serde")]
+mod serde_traits;
+mod simd;
+pub mod utf16;
+mod utf8;
+pub mod utils;
 
-pub use crate::arraystring_base::error::Error;
-pub use crate::arraystring_base::{error, utf16};
-pub use crate::arraystring_core::{ArrayString, Drain, drain};
+pub use array_string::ArrayString;
 pub use cache_string::CacheString;
+pub use drain::Drain;
+pub use error::{Error, OutOfBounds, Utf8, Utf16};
+
+#[doc = include_str!("../TRUST.md")]
+pub mod trust {}
 
 /// A string of at most 23 bytes of UTF-8.
 ///
@@ -51,14 +66,6 @@ pub type SmallString = ArrayString<23>;
 /// assert_eq!(MaxString::from("m".repeat(300).as_str()).len(), 255);
 /// ```
 pub type MaxString = ArrayString<255>;
-
-/// Boundaries, cuts and moves of bytes. Sizes and indices count bytes of UTF-8.
-pub mod utils {
-    pub use crate::arraystring_base::utils::{
-        Steps, encode, is_boundary, is_inside_boundary, look, shift, truncate_str, truncate_str_counted,
-    };
-    pub use crate::arraystring_core::utils::is_char_boundary;
-}
 
 /// What most callers import.
 pub mod prelude {

@@ -1,9 +1,9 @@
-//! What `src/by_hand/access.rs` does, which is a part of this test as it is of the crate: within, each macro does what the plain
+//! What `src/access.rs` does, which is a part of this test as it is of the crate: within, each macro does what the plain
 //! access of a slice does, in a build that tests it and in one that does not. Where it is tested, with debug assertions or with the
 //! feature `checked`, the first place that is not within panics.
 
 #[macro_use]
-#[path = "../src/by_hand/access.rs"]
+#[path = "../src/access.rs"]
 mod access;
 
 /// The greatest length that is tried at each place.
@@ -152,8 +152,8 @@ fn what_is_made_of_a_number_or_of_bytes_is_as_it_is_made_with_a_test() {
 /// So rustc refuses each use that stands in no `unsafe` block, and a search for the word finds it.
 #[test]
 fn no_macro_has_an_unsafe_of_its_own() {
-    let text = include_str!("../src/by_hand/access.rs");
-    let (macros, behind) = text.split_once("/// What the sources use of `char`.").expect("the macros stand in front");
+    let text = include_str!("../src/access.rs");
+    let (macros, behind) = text.split_once("/// What the crate uses of `char`.").expect("the macros stand in front");
     let code = macros.lines().filter(|line| !line.trim_start().starts_with("//"));
     assert_eq!(code.clone().filter(|line| line.starts_with("macro_rules! ")).count(), 8);
     assert_eq!(code.filter(|line| line.contains("unsafe")).count(), 0);

@@ -3,7 +3,6 @@
 
 use arraystring::error::{Error, OutOfBounds, Utf8, Utf16};
 use arraystring::utf16::Units;
-use arraystring::utils::{Steps, look};
 use arraystring::{ArrayString, CacheString, MaxString};
 use inputs::{CHARS, at_capacities, behind, cut, hash_of, is_beside};
 
@@ -201,38 +200,6 @@ fn a_text_is_read_in_a_constant() {
     const CACHED: CacheString = CacheString::new();
     const READ_OF_CACHED: (&str, &[u8]) = (CACHED.0.as_str(), CACHED.0.as_bytes());
     assert_eq!((READ, READ_OF_CACHED), (("", &[][..]), ("", &[][..])));
-}
-
-#[test]
-fn counters_print_their_counts_and_begin_at_none() {
-    let mut steps = Steps::default();
-    assert_eq!((steps.looked(), steps.moved(), format!("{steps:?}")), (0, 0, "Steps { looked: 0, moved: 0 }".into()));
-    for at in 0..=200 {
-        let mut string = MaxString::from("m".repeat(200).as_str());
-        string.try_insert_str_counted(at, "-", &mut steps).unwrap();
-        string.trim_counted(&mut steps);
-        assert_eq!(format!("{steps:?}"), format!("Steps {{ looked: {}, moved: {} }}", steps.looked(), steps.moved()));
-    }
-    assert!(steps.looked() != steps.moved() && steps.moved() > 0);
-}
-
-#[test]
-fn counters_are_equal_by_both_counts() {
-    let counted = |looks: usize, moves: u8| {
-        let mut steps = Steps::new();
-        (0..looks).for_each(|_| _ = look(b"a", 0, &mut steps));
-        let mut string = MaxString::from("m".repeat(moves.into()).as_str());
-        string.replace_range_counted(0..0, "-", &mut steps).unwrap();
-        assert_eq!((steps.looked(), steps.moved()), (looks as u64, moves.into()));
-        steps
-    };
-    for (looks, moves) in (0..5).flat_map(|looks| (0..5).map(move |moves| (looks, moves))) {
-        for (other_looks, other_moves) in (0..5).flat_map(|looks| (0..5).map(move |moves| (looks, moves))) {
-            let is_same = (looks, moves) == (other_looks, other_moves);
-            let (steps, others) = (counted(looks, moves), counted(other_looks, other_moves));
-            assert_eq!((steps == others, steps != others), (is_same, !is_same));
-        }
-    }
 }
 
 #[test]

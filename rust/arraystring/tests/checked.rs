@@ -4,7 +4,7 @@
 use std::hint::black_box;
 use std::panic::{AssertUnwindSafe, catch_unwind};
 
-use arraystring::utils::{Steps, encode, shift};
+use arraystring::utils::{encode, shift};
 use arraystring::{ArrayString, CacheString};
 
 type Text = ArrayString<4>;
@@ -83,7 +83,7 @@ fn moved_past<const N: usize>() -> usize {
         for (from, to) in [(last + 1, 0), (0, last + 1), (last + 1, last), (last, last + 1)] {
             // SAFETY: one of the runs ends past the array, so it has to end before it could do harm.
             let call = || unsafe {
-                shift(&mut [0; N], from, to, len, &mut Steps::new());
+                shift(&mut [0; N], from, to, len);
                 0
             };
             assert_eq!(without_panic(&[("shift", &call)]), [""; 0], "{from} {to} {len}");
@@ -104,10 +104,10 @@ fn a_move_past_the_array_panics_at_each_length() {
 fn what_is_required_is_tested_before_a_call_moves_a_long_run() {
     let why = Some("it is required that `from <= N && len <= N - from`");
     let moved = |from: usize, len: usize| {
-        let (mut array, mut steps) = ([7; 255], Steps::new());
+        let mut array = [7; 255];
         let (from, len) = black_box((from, len));
         // SAFETY: the run ends in the array, or one past it, and then the call has to end before it could do harm.
-        let run = catch_unwind(AssertUnwindSafe(|| unsafe { shift(&mut array, from, 0, len, &mut steps) }));
+        let run = catch_unwind(AssertUnwindSafe(|| unsafe { shift(&mut array, from, 0, len) }));
         run.err().map(|why| why.downcast_ref::<&str>().expect("a text").to_string())
     };
     for len in 129..=254 {

@@ -6,7 +6,7 @@ use std::ffi::c_void;
 use std::hint::black_box;
 
 use arraystring::ArrayString;
-use arraystring::utils::{Steps, shift};
+use arraystring::utils::shift;
 
 type Copy = unsafe extern "C" fn(*mut c_void, *const c_void, usize) -> *mut c_void;
 
@@ -50,12 +50,11 @@ fn bytes<const N: usize>() -> [u8; N] {
 /// Moves a run by `shift`, and asserts that it lies where it was to go, and that all else is as it was.
 fn is_moved<const N: usize>(from: usize, to: usize, len: usize) {
     let before = bytes::<N>();
-    let (mut array, mut wanted, mut steps) = (before, before, Steps::new());
+    let (mut array, mut wanted) = (before, before);
     // SAFETY: both runs lie in the array.
-    unsafe { shift(&mut array, from, to, len, &mut steps) };
+    unsafe { shift(&mut array, from, to, len) };
     wanted[to..to + len].copy_from_slice(&before[from..from + len]);
     assert!(array == wanted, "{len} bytes from {from} to {to} of {N}: {array:?}");
-    assert_eq!(steps.moved(), if from == to { 0 } else { len as u64 });
 }
 
 /// How far a run of a length is moved: each way that overlaps where the run is short, and of a long one those about the sizes of

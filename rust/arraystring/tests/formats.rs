@@ -4,7 +4,6 @@ use std::fmt::{Debug, Display};
 
 use arraystring::error::{OutOfBounds, Utf8, Utf16};
 use arraystring::utf16::{Unit16, Units};
-use arraystring::utils::{self, Steps};
 use arraystring::{ArrayString, CacheString, Drain, Error, MaxString};
 use inputs::{mixed, texts_of};
 
@@ -69,13 +68,6 @@ mod derived {
     #[derive(Debug)]
     #[allow(dead_code)]
     pub struct Drain<'a>(pub &'a str);
-
-    #[derive(Debug)]
-    #[allow(dead_code)]
-    pub struct Steps {
-        pub looked: u64,
-        pub moved: u64,
-    }
 
     #[derive(Debug)]
     #[allow(dead_code)]
@@ -149,21 +141,6 @@ fn a_string_of_each_length_prints_its_fields() {
         let (drain, left) = (string.drain(..).expect("all of it"), derived::Drain(&text));
         assert_eq!((format!("{drain:?}"), format!("{drain:#?}")), (format!("{left:?}"), format!("{left:#?}")));
     }
-}
-
-#[test]
-fn a_counter_prints_its_counts() {
-    let mut steps = Steps::new();
-    // One look and twelve moves more each time, so both counts go through those of one to four figures.
-    for count in 0..=300 {
-        let counts = derived::Steps { looked: count, moved: 12 * count };
-        assert_eq!((steps.looked(), steps.moved()), (counts.looked, counts.moved));
-        assert_eq!(words(steps), words(counts));
-        utils::look(b"a", 0, &mut steps);
-        // SAFETY: both runs lie in the array.
-        unsafe { utils::shift(&mut [0; 13], 0, 1, 12, &mut steps) };
-    }
-    assert_eq!(words(Steps::default()), words(derived::Steps { looked: 0, moved: 0 }));
 }
 
 #[test]

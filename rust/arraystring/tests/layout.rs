@@ -1,26 +1,35 @@
 //! The drawings of how a text lies in its array before and after some edits, in the comment of the module of `ArrayString`.
 
 use arraystring::ArrayString;
-use arraystring::utils::Steps;
 use std::fs;
 
 /// What the columns of a drawing are.
 const HEADING: &str = "                          01234567   start   size   moved\n";
 
-type Edit = fn(&mut ArrayString<8>, &mut Steps);
+type Edit = fn(&mut ArrayString<8>);
 
 /// How many bytes after the address of a string that of its first byte is.
 fn distance(string: &ArrayString<8>) -> usize {
     string.as_bytes().as_ptr().addr() - std::ptr::from_ref(string).addr()
 }
 
+/// The start offset of a text.
+fn start(string: &ArrayString<8>) -> usize {
+    // A text of 8 bytes fills its array of 8 bytes, so it begins at offset 0.
+    distance(string) - distance(&ArrayString::from("12345678"))
+}
+
 /// The array with a `.` for each byte that is no part of the text, the start offset and the size.
 fn drawn(string: &ArrayString<8>) -> String {
-    // A text of 8 bytes fills its array of 8 bytes, so it begins at offset 0.
-    let array = distance(&ArrayString::from("12345678"));
-    let start = distance(string) - array;
+    let start = start(string);
     let spare = ".".repeat(8 - start - string.len() as usize);
     format!("{}{string}{spare}{start:8}{:7}", ".".repeat(start), string.len())
+}
+
+/// How many bytes of a text of different letters are at another offset after an edit.
+fn moved(before: &ArrayString<8>, after: &ArrayString<8>) -> usize {
+    let place = |string: &ArrayString<8>, letter| string.find(letter).map(|index| start(string) + index);
+    before.chars().filter(|letter| place(after, *letter).is_some_and(|at| place(before, *letter) != Some(at))).count()
 }
 
 /// What some edits make of a text, one after the other.
@@ -28,23 +37,23 @@ fn drawing(text: &str, edits: &[(&str, Edit)]) -> String {
     let mut string = ArrayString::from(text);
     let mut lines = format!("{HEADING}{:26}{}\n", format!("from({text:?})"), drawn(&string));
     for (name, edit) in edits {
-        let mut steps = Steps::new();
-        edit(&mut string, &mut steps);
-        lines += &format!("{name:26}{}{:8}\n", drawn(&string), steps.moved());
+        let before = string;
+        edit(&mut string);
+        lines += &format!("{name:26}{}{:8}\n", drawn(&string), moved(&before, &string));
     }
     lines
 }
 
-fn remove_first(string: &mut ArrayString<8>, steps: &mut Steps) {
-    string.remove_counted(0, steps).unwrap();
+fn remove_first(string: &mut ArrayString<8>) {
+    string.remove(0).unwrap();
 }
 
-fn insert(string: &mut ArrayString<8>, steps: &mut Steps) {
-    string.try_insert_str_counted(2, "-", steps).unwrap();
+fn insert(string: &mut ArrayString<8>) {
+    string.try_insert_str(2, "-").unwrap();
 }
 
-fn add(string: &mut ArrayString<8>, steps: &mut Steps) {
-    string.try_insert_str_counted(6, "gh", steps).unwrap();
+fn add(string: &mut ArrayString<8>) {
+    string.try_insert_str(6, "gh").unwrap();
 }
 
 #[test]
@@ -53,7 +62,7 @@ fn the_comment_has_these_drawings() {
     let insert = ("try_insert_str(2, \"-\")", insert as Edit);
     let add = ("try_insert_str(6, \"gh\")", add as Edit);
     let drawings = [drawing("abcdef", &[remove_first, insert, add]), drawing("abcdefgh", &[remove_first, insert])];
-    let file = format!("{}/src/arraystring_core/array_string.rs", env!("CARGO_MANIFEST_DIR"));
+    let file = format!("{}/src/array_string.rs", env!("CARGO_MANIFEST_DIR"));
     let comment: String = fs::read_to_string(file)
         .unwrap()
         .lines()

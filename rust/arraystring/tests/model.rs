@@ -10,7 +10,7 @@ use std::ops::Bound;
 use std::panic::{AssertUnwindSafe, catch_unwind, resume_unwind};
 
 use arraystring::error::{OutOfBounds, Utf8};
-use arraystring::utils::{Steps, is_char_boundary, truncate_str, truncate_str_counted};
+use arraystring::utils::{is_char_boundary, truncate_str};
 use arraystring::{ArrayString, Drain, Error};
 
 /// How many calls are made at each capacity, if the environment does not say it.
@@ -118,7 +118,7 @@ impl<const N: usize> Pair<N> {
         if random.below(4) == 0 {
             self.shifted(random);
         }
-        let kind = match call % 12 {
+        let kind = match call % KINDS.len() {
             0 => ("added", self.added(random)),
             1 => ("inserted", self.inserted(random)),
             2 => ("taken out", self.taken_out(random)),
@@ -127,9 +127,8 @@ impl<const N: usize> Pair<N> {
             5 => ("shown", self.shown(random)),
             6 => ("changed", self.changed(random)),
             7 => ("made", self.made(random)),
-            8 => ("counted", self.counted(random)),
-            9 => ("unchecked", self.unchecked(random)),
-            10 => ("panicked", self.panicked(random)),
+            8 => ("unchecked", self.unchecked(random)),
+            9 => ("panicked", self.panicked(random)),
             _ => ("collected", self.collected(random)),
         };
         self.agrees(call, kind);
@@ -142,57 +141,6 @@ impl<const N: usize> Pair<N> {
         assert_eq!(string.try_push_str(&self.model), Ok(()));
         assert!(string.drain(..before as u8).is_ok());
         self.string = string;
-    }
-
-    /// The calls that count do what the others do, and count no more than they say.
-    fn counted(&mut self, random: &mut Random) -> &'static str {
-        let (index, text, mut steps) = (random.index(&self.model), random.text(5), Steps::new());
-        let (range, from, to) = self.range(random);
-        let mut plain = self.string;
-        let (name, most) = match random.below(7) {
-            0 => {
-                assert_eq!(self.string.pop_counted(&mut steps), plain.pop());
-                ("pop_counted", 0)
-            }
-            1 => {
-                plain.trim();
-                self.string.trim_counted(&mut steps);
-                ("trim_counted", 0)
-            }
-            2 => {
-                assert_eq!(self.string.remove_counted(index, &mut steps), plain.remove(index));
-                ("remove_counted", plain.len().saturating_sub(index))
-            }
-            3 => {
-                assert_eq!(
-                    self.string.try_insert_str_counted(index, &text, &mut steps),
-                    plain.try_insert_str(index, &text)
-                );
-                ("try_insert_str_counted", plain.len())
-            }
-            4 => {
-                assert_eq!(self.string.drain_counted(range, &mut steps), plain.drain(range));
-                let behind = (self.model.len() as u8).saturating_sub(to as u8);
-                ("drain_counted", if from == 0 { 0 } else { behind })
-            }
-            5 => {
-                assert_eq!(
-                    self.string.replace_range_counted(range, &text, &mut steps),
-                    plain.replace_range(range, &text)
-                );
-                ("replace_range_counted", self.model.len() as u8)
-            }
-            _ => {
-                assert_eq!(truncate_str_counted(&self.model, index, &mut steps), truncate_str(&self.model, index));
-                assert_eq!(truncate_str(&self.model, index), cut(&self.model, index as usize));
-                ("truncate_str_counted", 0)
-            }
-        };
-        assert_eq!(self.string, plain);
-        assert!(steps.moved() <= u64::from(most), "{} moves of {most} at {N}", steps.moved());
-        // What the plain call does is asserted elsewhere.
-        self.model = plain.to_string();
-        name
     }
 
     /// The unchecked calls, where their conditions hold.
@@ -507,6 +455,7 @@ impl<const N: usize> Pair<N> {
             assert_eq!((self.string.slice(start..end), &self.string[start..end]), (part, part));
         }
         assert_eq!(is_char_boundary(&self.string, start).is_ok(), self.model.is_char_boundary(start as usize));
+        assert_eq!(truncate_str(&self.model, end), cut(&self.model, end as usize));
         let other = random.text(4);
         let given = cut(&other, self.capacity);
         let string = ArrayString::<N>::from(given);
@@ -600,11 +549,10 @@ impl<const N: usize> Pair<N> {
 }
 
 /// The calls of each group, in order.
-const KINDS: [(&str, &[&str]); 12] = [
+const KINDS: [(&str, &[&str]); 11] = [
     ("added", &["+", "extend", "extend_strs", "push_str", "try_push", "try_push_str", "try_write", "write!"]),
     ("changed", CHANGES),
     ("collected", &["cut", "whole"]),
-    ("counted", COUNTED),
     ("drained", &["a refused drain", "drain"]),
     ("inserted", &["insert_str", "try_insert", "try_insert_str"]),
     ("made", &["cut", "whole"]),
@@ -625,16 +573,6 @@ const CHANGES: &[&str] = &[
     "push_str",
     "trim",
     "trim_spaces",
-];
-
-const COUNTED: &[&str] = &[
-    "drain_counted",
-    "pop_counted",
-    "remove_counted",
-    "replace_range_counted",
-    "trim_counted",
-    "truncate_str_counted",
-    "try_insert_str_counted",
 ];
 
 /// Those that are made where their conditions hold, and none, where these do not.
@@ -664,7 +602,8 @@ fn is_of_each_kind(capacity: usize, compared: &BTreeMap<Kind, usize>, calls: usi
     for (group, names) in KINDS {
         let made = compared.iter().filter(|((of, _), _)| *of == group);
         let count: usize = made.clone().map(|(_, count)| count).sum();
-        assert!(count == calls / 12 || count == calls.div_ceil(12), "{count} calls of {group} at {capacity}");
+        let due = calls / KINDS.len()..=calls.div_ceil(KINDS.len());
+        assert!(due.contains(&count), "{count} calls of {group} at {capacity}");
         let made: Vec<_> = made.filter(|(_, count)| **count >= calls / 4000).map(|((_, name), _)| *name).collect();
         // In no byte, or in one, much is refused that is made elsewhere.
         assert!(made == names || capacity < 2, "{group} at {capacity}: {made:?}");

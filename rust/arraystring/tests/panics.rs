@@ -4,7 +4,6 @@ use std::cell::RefCell;
 use std::panic::{AssertUnwindSafe, catch_unwind, set_hook};
 use std::sync::Once;
 
-use arraystring::utils::{Steps, look};
 use arraystring::{ArrayString, CacheString};
 
 /// The file and the line that a panic names.
@@ -164,21 +163,6 @@ fn a_part_of_the_array_that_is_no_text_is_not_changed() {
     }
     // Of the hundred pairs those that are in the text are 1, 3, 6 and so on.
     assert_eq!(parts, 8 * 100 - (1 + 3 + 6 + 10 + 15 + 21 + 28 + 36));
-}
-
-#[test]
-fn a_look_past_the_bytes_panics() {
-    for len in 0..=9 {
-        let bytes = &b"abcdefghi"[..len];
-        let mut steps = Steps::new();
-        for (at, byte) in bytes.iter().enumerate() {
-            assert_eq!((look(bytes, at, &mut steps), steps.looked()), (*byte, at as u64 + 1));
-        }
-        for at in [len, len + 1, 255, 256, usize::MAX] {
-            let wanted = format!("index out of bounds: the len is {len} but the index is {at}");
-            assert_eq!(words!(look(bytes, at, &mut steps)), wanted);
-        }
-    }
 }
 
 #[test]

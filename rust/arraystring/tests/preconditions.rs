@@ -7,7 +7,7 @@ use std::fmt::Debug;
 use std::hint::black_box;
 use std::panic::{AssertUnwindSafe, catch_unwind};
 
-use arraystring::utils::{Steps, encode, shift};
+use arraystring::utils::{encode, shift};
 use arraystring::{ArrayString, CacheString};
 
 const IS_TESTED: bool = cfg!(any(debug_assertions, feature = "checked"));
@@ -315,20 +315,20 @@ fn shifted<const N: usize>() {
         for (from, to) in [(last, 0), (0, last), (last, last)] {
             let (mut array, mut wanted) = (before, before);
             // SAFETY: both runs end in the array.
-            unsafe { shift(&mut array, from, to, len, &mut Steps::new()) };
+            unsafe { shift(&mut array, from, to, len) };
             wanted.copy_within(from..from + len, to);
             assert_eq!(array, wanted);
         }
         for past in [last + 1, N + 1, usize::MAX - len / 2, usize::MAX] {
             for (from, to) in [(past, 0), (0, past), (past, last), (last, past), (past, past)] {
                 // SAFETY: it panics.
-                refused(|| unsafe { shift(&mut [0; N], from, to, len, &mut Steps::new()) });
+                refused(|| unsafe { shift(&mut [0; N], from, to, len) });
             }
         }
     }
     for len in [N + 1, usize::MAX] {
         // SAFETY: it panics.
-        refused(|| unsafe { shift(&mut [0; N], 0, 0, len, &mut Steps::new()) });
+        refused(|| unsafe { shift(&mut [0; N], 0, 0, len) });
     }
 }
 

@@ -49,7 +49,7 @@ impl Item {
     }
 
     /// Whether the reference shows it: a type, a call of a type, an impl of a trait for a type that is not private, a macro that is
-    /// exported, or a function that the root names.
+    /// exported, or a function that the root or `utils` names.
     fn is_shown(&self, root: &[&str], private: &[&str]) -> bool {
         let words: Vec<_> = self.head.split_whitespace().filter(|word| !["const", "unsafe"].contains(word)).collect();
         let is_method = self.head.starts_with(' ');
@@ -91,7 +91,7 @@ fn items() -> Vec<Item> {
 
 #[test]
 fn each_item_has_an_example_that_asserts() {
-    let root = fs::read_to_string("src/lib.rs").expect("the root");
+    let root = ["src/lib.rs", "src/utils.rs"].map(|file| fs::read_to_string(file).expect("a text")).concat();
     let root: Vec<_> = root.split(|ch: char| !ch.is_alphanumeric() && ch != '_').collect();
     let items = items();
     let private: Vec<_> = items.iter().filter_map(Item::private_type).collect();
@@ -101,8 +101,9 @@ fn each_item_has_an_example_that_asserts() {
     assert!(told.is_empty(), "without an example that asserts:\n{}", told.join("\n"));
     for head in [
         "pub const fn new() -> Self {",
-        "impl fmt::Debug for Steps {",
-        "pub fn look(bytes: &[u8]",
+        "impl fmt::Debug for Error {",
+        "pub unsafe fn shift<const N: usize>(",
+        "pub fn is_char_boundary<const N: usize>(",
         "macro_rules! arraystring {",
         "impl<const N: usize> Index<$range> for ArrayString<N> {",
     ] {
@@ -156,57 +157,6 @@ fn each_contract_is_folded_and_says_how_to_read_it() {
     assert!(count >= 100, "{count} contracts");
 }
 
-/// The items below whose contract it is said that another body runs than the proved one, each by its file and its name.
-#[test]
-fn what_runs_in_place_of_a_proved_body_is_said_below_its_contract() {
-    let mut found = Vec::new();
-    for item in items() {
-        let is_said = |line: &&String| line.starts_with("Another body runs here than the one that was proved: ");
-        let said: Vec<_> = item.docs.iter().filter(is_said).collect();
-        if let [line] = said[..] {
-            assert_eq!(item.docs.last(), Some(line), "{}: {}", item.file, item.head);
-            assert_eq!(item.docs[item.docs.len() - 3], "</details>", "{}: {}", item.file, item.head);
-            let file = item.file.trim_start_matches("src/").trim_end_matches(".rs");
-            let name = match item.head.split_once("fn ") {
-                Some((_, rest)) => rest.split(['(', '<']).next().unwrap_or_default(),
-                None => item.head.trim_end_matches(" {"),
-            };
-            found.push(format!("{file}: {name}"));
-        } else {
-            assert!(said.is_empty(), "{}: {}", item.file, item.head);
-        }
-    }
-    found.sort();
-    let wanted = [
-        "arraystring_base/moves: move_bytes",
-        "arraystring_base/moves: move_long_run_of_array",
-        "arraystring_base/steps: count_moves",
-        "arraystring_base/steps: look",
-        "arraystring_core/array_string/ascii: make_ascii_lowercase_in",
-        "arraystring_core/array_string/ascii: make_ascii_uppercase_in",
-        "arraystring_core/array_string/borrowed_range: get",
-        "arraystring_core/array_string/borrowed_range: slice",
-        "arraystring_core/array_string/construct: from_utf8",
-        "arraystring_core/array_string/construct: try_from_utf8",
-        "arraystring_core/array_string/traits: cmp",
-        "arraystring_core/array_string/traits: impl<const N: usize> PartialEq for ArrayString<N>",
-        "arraystring_core/array_string/traits: impl<const N: usize> PartialOrd for ArrayString<N>",
-        "arraystring_core/array_string: as_bytes",
-        "arraystring_core/array_string: as_str",
-        "arraystring_core/blockwise/equal: equal",
-        "arraystring_core/blockwise/order: order",
-        "arraystring_core/blockwise/well_formed: read_utf8",
-        "arraystring_core/drain/traits: cmp",
-        "arraystring_core/drain/traits: impl<const N: usize> PartialOrd for Drain<N>",
-        "cache_string/traits: cmp",
-        "cache_string/traits: impl PartialEq for CacheString",
-        "cache_string/traits: impl PartialOrd for CacheString",
-        "cache_string: from_utf8",
-        "cache_string: try_from_utf8",
-    ];
-    assert_eq!(found, wanted);
-}
-
 /// Pages beside those of the crate, where the repository is around it.
 fn pages_of_the_repository() -> Vec<(String, String)> {
     let pages = ["../../README.md", "../arraystring_serde/README.md"].map(Path::new).into_iter();
@@ -241,7 +191,7 @@ fn no_example_and_no_page_converts_by_a_cast() {
     for (file, line) in &lines {
         assert!(!casts(line), "{file}: {line}");
     }
-    for file in ["src/arraystring_core/array_string.rs", "src/by_hand/owned.rs", "examples/editor.rs", "README.md"] {
+    for file in ["src/array_string.rs", "src/owned.rs", "examples/editor.rs", "README.md"] {
         assert!(lines.iter().any(|(found, _)| found == file), "{file} was not read");
     }
     assert!(casts("assert_eq!(&string[at as u8 + 1..], \"text\");") && casts("(len as usize)"));
@@ -258,7 +208,7 @@ fn what_a_feature_adds_names_it() {
             let module =
                 pair[1].trim_start_matches("pub ").strip_prefix("mod ").and_then(|rest| rest.strip_suffix(';'));
             let (Some(feature), Some(module)) = (feature, module) else { continue };
-            let source = format!("{}/{module}.rs", file.trim_end_matches(".rs"));
+            let source = format!("{}/{module}.rs", file.trim_end_matches(".rs").trim_end_matches("/lib"));
             let said = format!("With the feature `{feature}`.");
             for item in items.iter().filter(|item| item.file == source && item.head.trim_start().starts_with("impl")) {
                 assert!(item.docs.iter().any(|line| line.ends_with(&said)), "{source}: {}", item.head);
@@ -267,21 +217,6 @@ fn what_a_feature_adds_names_it() {
         }
     }
     assert_eq!(named, 21, "the impls of `copies`, `owned` and `paths`");
-}
-
-#[test]
-fn what_counts_says_first_that_most_programs_need_none_of_it() {
-    let counts = |item: &&Item| {
-        let head = item.head.trim_start();
-        ["pub struct Steps {", "pub fn look("].iter().any(|known| head.starts_with(known))
-            || head.strip_prefix("pub fn ").is_some_and(|rest| rest.contains("_counted") && !rest.contains("unchecked"))
-    };
-    let items = items();
-    let found: Vec<_> = items.iter().filter(counts).collect();
-    assert_eq!(found.len(), 9, "the counted calls, `look` and `Steps`");
-    for item in found {
-        assert!(item.docs[0].starts_with("Most programs need "), "{}: {}", item.file, item.head);
-    }
 }
 
 /// The items of the file of a type in the order of rustdoc: those of its modules, one after the other, and then its own.
@@ -304,25 +239,22 @@ fn in_order(file: &str) -> Vec<Item> {
 }
 
 #[test]
-fn what_most_programs_do_without_stands_in_the_last_blocks_of_its_type() {
-    let blocks = [("_unchecked", "# Unchecked"), ("_counted", "# Counted")];
-    for (file, wanted) in [("src/arraystring_core/array_string.rs", [8, 6]), ("src/cache_string.rs", [4, 0])] {
-        let (mut calls, mut titles, mut block) = (Vec::new(), Vec::new(), None);
+fn what_most_programs_do_without_stands_in_the_last_block_of_its_type() {
+    for (file, wanted) in [("src/array_string.rs", 8), ("src/cache_string.rs", 4)] {
+        let (mut calls, mut titles, mut is_last) = (Vec::new(), 0, false);
         for item in in_order(file) {
             let head = item.head.trim_start();
             if head.starts_with("impl") {
-                block = blocks.iter().position(|(_, title)| item.docs.first().is_some_and(|line| line == title));
-                titles.extend(block);
+                is_last = item.docs.first().is_some_and(|line| line == "# Unchecked");
+                titles += usize::from(is_last);
             } else if let Some((_, name)) = head.strip_prefix("pub ").and_then(|head| head.split_once("fn ")) {
                 let name = name.split(['(', '<']).next().unwrap_or_default();
-                assert_eq!(block, blocks.iter().position(|(ending, _)| name.ends_with(ending)), "{file}: {name}");
-                calls.push((block, name.to_string()));
+                assert_eq!(is_last, name.ends_with("_unchecked"), "{file}: {name}");
+                calls.push((is_last, name.to_string()));
             }
         }
-        assert!(calls.is_sorted_by_key(|(block, _)| *block), "{file}: {calls:?}");
-        let counts = [0, 1].map(|number| calls.iter().filter(|(block, _)| *block == Some(number)).count());
-        assert_eq!(counts, wanted, "{file}: {calls:?}");
-        assert_eq!(titles, (0..blocks.len()).filter(|number| counts[*number] > 0).collect::<Vec<_>>(), "{file}");
+        assert!(calls.is_sorted_by_key(|(is_last, _)| *is_last), "{file}: {calls:?}");
+        assert_eq!((calls.iter().filter(|(is_last, _)| *is_last).count(), titles), (wanted, 1), "{file}: {calls:?}");
     }
 }
 
@@ -331,7 +263,7 @@ fn what_is_said_of_an_iterator_is_true_of_the_call() {
     let mut count = 0;
     for item in items() {
         let said = item.docs.join(" ");
-        if !said.contains("An iterator that never ends, or that panics, is allowed.") {
+        if !said.contains("The iterator may be endless: the call stops at the first ") {
             continue;
         }
         let (takes_characters, adds) = (item.head.contains("_chars<"), item.head.contains("fn extend_"));
@@ -411,9 +343,10 @@ fn fault_of_section(item: &Item) -> Option<String> {
 
 #[test]
 fn each_unsafe_function_says_what_it_requires_in_words_of_rust() {
-    let is_made = |item: &&Item| item.head.contains("unsafe fn ") && !item.file.contains("by_hand");
+    let is_by_hand = |file: &str| fs::read_to_string(file).expect("a text").starts_with("// By hand");
+    let is_proved = |item: &&Item| item.head.contains("unsafe fn ") && !is_by_hand(&item.file);
     let items = items();
-    let found: Vec<_> = items.iter().filter(is_made).collect();
+    let found: Vec<_> = items.iter().filter(is_proved).collect();
     assert!(found.len() > 50, "{} functions", found.len());
     for item in found {
         assert_eq!(fault_of_section(item), None, "{}: {}", item.file, item.head);
@@ -464,5 +397,5 @@ fn a_page_says_of_a_file_that_the_package_lacks_where_it_is() {
             }
         }
     }
-    assert!(count >= 60, "{count} paths");
+    assert!(count >= 10, "{count} paths");
 }

@@ -169,7 +169,7 @@ fn each_call_refuses_with_what_the_page_says() {
 
 #[test]
 fn the_lists_at_the_type_are_those_of_the_page() {
-    let source = fs::read_to_string("src/arraystring_core/array_string.rs").expect("a text");
+    let source = fs::read_to_string("src/array_string.rs").expect("a text");
     let (_, list) = source.split_once("/// - **Cut**").expect("what is cut");
     let (cut, refused) = list.split_once("/// - **Refused**").expect("what is refused");
     let (refused, behind) = refused.split_once("\n///\n").expect("its end");

@@ -286,9 +286,9 @@ const KINDS: &[Kind] = &[
 
 /// The sources of these impls, in which each is one of a macro for both types of strings.
 const SOURCES: &[&str] = &[
-    include_str!("../src/by_hand/traits.rs"),
+    include_str!("../src/rust_traits.rs"),
     #[cfg(feature = "alloc")]
-    include_str!("../src/by_hand/owned.rs"),
+    include_str!("../src/owned.rs"),
 ];
 
 /// How many items are taken at most: what has no end is not taken without end.

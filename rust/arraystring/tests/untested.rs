@@ -9,7 +9,7 @@ mod access {
 }
 
 #[macro_use]
-#[path = "../src/by_hand/access.rs"]
+#[path = "../src/access.rs"]
 #[allow(dead_code, unused_imports, unused_macros)]
 mod untested;
 

@@ -3,11 +3,9 @@
 //!
 //! The feature `one_panics` puts a call that can panic in their place, and then the program must not link.
 //!
-//! Left out are the calls that panic as those of `str` do (the index, `slice`, the case calls on a range, `utils::look`),
+//! Left out are the calls that panic as those of `str` do (the index, `slice`, the case calls on a range),
 //! `Debug`, which is printed by `core`'s own code, and what the features `alloc` and `std` add. What a caller's closure or iterator
 //! does is its own.
-//!
-//! `listed` has most of the calls. By hand are those that it has not, and more ranges.
 #![no_std]
 #![no_main]
 
@@ -21,16 +19,8 @@ use core::panic::PanicInfo;
 
 use arraystring::error::{OutOfBounds, Utf8, Utf16};
 use arraystring::utf16::Units;
-use arraystring::utils::{
-    Steps, is_boundary, is_char_boundary, is_inside_boundary, truncate_str, truncate_str_counted,
-};
+use arraystring::utils::{is_boundary, is_char_boundary, is_inside_boundary, truncate_str};
 use arraystring::{ArrayString, CacheString, Error, arraystring};
-
-/// The lists of calls, which `tools/run calls --write` makes.
-mod listed {
-    include!("../../../crates/arraystring_tests/src/tests/listed.rt");
-}
-use listed::{counted_calls, index_calls, range_calls, whole_calls};
 
 #[link(name = "c")]
 unsafe extern "C" {}
@@ -111,65 +101,29 @@ fn made<const N: usize>(text: &str, bytes: &[u8], units: &[u16]) -> usize {
     strings.iter().flatten().map(|string| black_box(string).as_str().len()).sum()
 }
 
-/// What a call is given.
-struct Given<'a> {
-    text: &'a str,
-    ch: char,
-    at: u8,
-    end: u8,
-}
-
-/// What a call of a list is given.
-macro_rules! given {
-    (ch, $given:ident $steps:ident) => {
-        $given.ch
-    };
-    (text, $given:ident $steps:ident) => {
-        $given.text
-    };
-    (chars, $given:ident $steps:ident) => {
-        $given.text.chars()
-    };
-    (pieces, $given:ident $steps:ident) => {
-        [$given.text, $given.text]
-    };
-    (index, $given:ident $steps:ident) => {
-        $given.at
-    };
-    (range, $given:ident $steps:ident) => {
-        $given.at..$given.end
-    };
-    (steps, $given:ident $steps:ident) => {
-        $steps
-    };
-}
-
-/// Makes each call of a list, on a string that the compiler knows nothing of. What a call returns is used: it would else be left
-/// out of the program.
-macro_rules! make {
-    (($string:ident $values:ident $steps:ident) $($name:ident($($given:ident)*))*) => {
-        $(let _ = black_box(black_box(&mut *$string).$name($(given!($given, $values $steps)),*));)*
+/// Makes each of some calls on a string that the compiler knows nothing of. What a call returns is used: it would else be left out of
+/// the program.
+macro_rules! each {
+    ($string:ident: $($name:ident($($given:expr),*))*) => {
+        $(let _ = black_box(black_box(&mut *$string).$name($($given),*));)*
     };
 }
 
 #[inline(never)]
-fn whole<const N: usize>(string: &mut Text<N>, given: &Given) {
-    whole_calls!(make (string given steps));
+fn whole<const N: usize>(string: &mut Text<N>, text: &str, ch: char) {
+    each!(string:
+        make_ascii_uppercase() make_ascii_lowercase() try_push(ch) try_push_str(text) push_str(text) extend_chars(text.chars())
+        extend_strs([text, text]) pop() trim() trim_spaces() as_bytes() clear());
 }
 
 #[inline(never)]
-fn at_index<const N: usize>(string: &mut Text<N>, given: &Given) {
-    index_calls!(make (string given steps));
+fn at_index<const N: usize>(string: &mut Text<N>, at: u8, text: &str, ch: char) {
+    each!(string: try_insert(at, ch) try_insert_str(at, text) insert_str(at, text) truncate(at) remove(at) split_off(at));
 }
 
 #[inline(never)]
-fn counted<const N: usize>(string: &mut Text<N>, given: &Given, steps: &mut Steps) {
-    counted_calls!(make (string given steps));
-}
-
-#[inline(never)]
-fn in_range<const N: usize>(string: &mut Text<N>, given: &Given, steps: &mut Steps) {
-    range_calls!(make (string given steps));
+fn in_range<const N: usize>(string: &mut Text<N>, at: u8, end: u8, text: &str) {
+    each!(string: get(at..end) drain(at..end) replace_range(at..end, text));
 }
 
 #[inline(never)]
@@ -191,8 +145,8 @@ fn written<const N: usize>(string: &mut Text<N>) {
 }
 
 #[inline(never)]
-fn replaced<const N: usize>(string: &mut Text<N>, at: u8, end: u8, text: &str, steps: &mut Steps) -> bool {
-    string.replace_range_counted(at..=end, text, steps).is_ok()
+fn replaced<const N: usize>(string: &mut Text<N>, at: u8, end: u8, text: &str) -> bool {
+    string.replace_range(at..=end, text).is_ok()
 }
 
 #[inline(never)]
@@ -201,14 +155,14 @@ fn retained<const N: usize>(string: &mut Text<N>, dropped: char) {
 }
 
 #[inline(never)]
-fn drained<const N: usize>(string: &mut Text<N>, at: u8, end: u8, steps: &mut Steps) -> u32 {
+fn drained<const N: usize>(string: &mut Text<N>, at: u8, end: u8) -> u32 {
     let mut sum = 0u32;
     if let Ok(drain) = string.drain(at..end) {
         for ch in drain {
             sum = sum.wrapping_add(ch as u32);
         }
     }
-    if let Ok(mut drain) = string.drain_counted(at..=end, steps) {
+    if let Ok(mut drain) = string.drain(at..=end) {
         let copy = drain;
         sum = sum.wrapping_add(drain.size_hint().0 as u32);
         while let Some(ch) = drain.next_back() {
@@ -240,13 +194,12 @@ fn printed<const N: usize>(string: &Text<N>, cached: &CacheString, error: Error)
 }
 
 #[inline(never)]
-fn of_no_string(text: &str, units: &[u16], at: u8, steps: &mut Steps) -> usize {
-    let cut = truncate_str(text, at).len() + truncate_str_counted(text, at, steps).len();
+fn of_no_string(text: &str, units: &[u16], at: u8) -> usize {
+    let cut = truncate_str(text, at).len();
     let walk = Units::new(units);
     let lone = walk.clone().count() + walk.count();
     let lone = lone + Units::new(units).size_hint().0;
-    let is_told = is_inside_boundary(at, 7u8).is_ok() || is_boundary(text, lone) || steps.looked() == steps.moved();
-    let is_told = is_told || *steps == Steps::new();
+    let is_told = is_inside_boundary(at, 7u8).is_ok() || is_boundary(text, lone);
     cut + lone + usize::from(is_told)
 }
 
@@ -290,17 +243,14 @@ fn cached(text: &str, bytes: &[u8], units: &[u16], at: u8) -> usize {
 /// Makes all calls at a capacity, on values that the compiler knows nothing of.
 #[inline(never)]
 fn all_at<const N: usize>(text: &str, bytes: &[u8], units: &[u16], at: u8, end: u8, ch: char) -> usize {
-    let mut steps = Steps::new();
     let (mut string, other) = (black_box(Text::<N>::new()), black_box(Text::<N>::new()));
     let mut told = made::<N>(text, bytes, units);
     told += usize::from(added(&mut string, text, ch));
-    let given = Given { text, ch, at, end };
-    whole(&mut string, &given);
-    at_index(&mut string, &given);
-    counted(&mut string, &given, &mut steps);
-    in_range(&mut string, &given, &mut steps);
-    told += usize::from(replaced(&mut string, at, end, text, &mut steps));
-    told += drained(&mut string, at, end, &mut steps) as usize;
+    whole(&mut string, text, ch);
+    at_index(&mut string, at, text, ch);
+    in_range(&mut string, at, end, text);
+    told += usize::from(replaced(&mut string, at, end, text));
+    told += drained(&mut string, at, end) as usize;
     retained(&mut string, ch);
     written(&mut string);
     told += usize::from(shown(&string, &other, at, end));
@@ -323,9 +273,8 @@ extern "C" fn main(count: i32) -> i32 {
     macro_rules! all_at_each {
         ($($capacity:literal)*) => { 0 $(+ all_at::<$capacity>(text, bytes, units, at, end, ch))* };
     }
-    let told = all_at_each!(0 1 23 63 255 256 257 300 1000)
-        + of_no_string(text, units, at, &mut Steps::default())
-        + cached(text, bytes, units, at);
+    let told =
+        all_at_each!(0 1 23 63 255 256 257 300 1000) + of_no_string(text, units, at) + cached(text, bytes, units, at);
     black_box(told);
     0
 }

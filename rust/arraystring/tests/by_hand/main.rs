@@ -3,10 +3,10 @@
 
 // No call of the crate reaches all sizes of a vector, or a place that is not within: so these two files are compiled here, too.
 #[macro_use]
-#[path = "../../src/by_hand/access.rs"]
+#[path = "../../src/access.rs"]
 #[allow(dead_code, unused_imports, unused_macros)]
 mod access;
-#[path = "../../src/by_hand/simd.rs"]
+#[path = "../../src/simd.rs"]
 mod simd;
 
 #[path = "../inputs/mod.rs"]

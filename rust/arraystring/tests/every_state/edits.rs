@@ -2,10 +2,8 @@
 
 use std::cell::RefCell;
 use std::fmt::Write;
-use std::ops::RangeInclusive;
 
 use arraystring::ArrayString;
-use arraystring::utils::Steps;
 
 use crate::limited::Limited;
 use crate::states::{Case, WIDTHS, at_each_capacity, cases, counts, length, string_counts, texts};
@@ -21,19 +19,6 @@ pub fn indices(capacity: usize) -> impl Iterator<Item = u8> + Clone {
 /// How many strings there are at a capacity.
 pub fn total<const N: usize>(characters: &[char]) -> usize {
     string_counts::<N>(characters).iter().sum()
-}
-
-/// Makes a call with a new counter, and asserts how many bytes it looked at and moved.
-pub fn counted<T>(
-    looked: RangeInclusive<usize>,
-    moved: RangeInclusive<usize>,
-    call: impl FnOnce(&mut Steps) -> T,
-) -> T {
-    let mut steps = Steps::new();
-    let returned = call(&mut steps);
-    assert!(looked.contains(&(steps.looked() as usize)), "{} looks, and not {looked:?}", steps.looked());
-    assert!(moved.contains(&(steps.moved() as usize)), "{} moves, and not {moved:?}", steps.moved());
-    returned
 }
 
 impl<const N: usize> Case<N> {
@@ -54,16 +39,9 @@ fn edits_without_an_argument() {
         for case in cases::<N>(&WIDTHS).iter().chain(&cases(&SPACES)) {
             let popped = case.wanted(|model| model.text.pop());
             made += case.each("pop", &popped, ArrayString::pop);
-            made +=
-                case.each("pop_counted", &popped, |string| counted(0..=4, 0..=0, |steps| string.pop_counted(steps)));
             made += case.each("clear", &case.wanted(|model| model.text.clear()), ArrayString::clear);
             let wanted = case.wanted(|model| trimmed(&mut model.text, str::trim));
-            let dropped = length(&case.text) - length(case.text.trim_end());
-            let looked = length(&case.text).min(dropped + 1)..=4 * (dropped + 1);
             made += case.each("trim", &wanted, |string| string.trim());
-            made += case.each("trim_counted", &wanted, |string| {
-                counted(looked.clone(), 0..=0, |steps| string.trim_counted(steps));
-            });
             let wanted = case.wanted(|model| trimmed(&mut model.text, |text| text.trim_matches(' ')));
             made += case.each("trim_spaces", &wanted, |string| string.trim_spaces());
             let upper = case.wanted(|model| model.text.make_ascii_uppercase());
@@ -71,7 +49,7 @@ fn edits_without_an_argument() {
             let lower = case.wanted(|model| model.text.make_ascii_lowercase());
             made += case.each("make_ascii_lowercase", &lower, |string| string.make_ascii_lowercase());
         }
-        (made, 8 * (total::<N>(&WIDTHS) + total::<N>(&SPACES)))
+        (made, 6 * (total::<N>(&WIDTHS) + total::<N>(&SPACES)))
     }
     at_each_capacity!(plain);
 }
@@ -83,13 +61,7 @@ fn edits_at_an_index() {
         for case in cases::<N>(&WIDTHS) {
             for index in indices(N) {
                 let removed = case.wanted(|model| model.remove(index));
-                // What is behind the character may move, and at least the shorter side of it does.
-                let most = removed.0.map_or(0, |ch| case.text.len() - usize::from(index) - ch.len_utf8());
-                let moved = most.min(usize::from(index))..=if index == 0 { 0 } else { most };
                 made += case.each(("remove", index), &removed, |string| string.remove(index));
-                made += case.each(("remove_counted", index), &removed, |string| {
-                    counted(0..=0, moved.clone(), |steps| string.remove_counted(index, steps))
-                });
                 let wanted = case.wanted(|model| model.truncate(index));
                 made += case.each(("truncate", index), &wanted, |string| string.truncate(index));
                 let wanted = case.wanted(|model| model.split_off(index));
@@ -97,7 +69,7 @@ fn edits_at_an_index() {
                     .each(("split_off", index), &wanted, |string| string.split_off(index).map(|rest| rest.to_string()));
             }
         }
-        (made, 4 * total::<N>(&WIDTHS) * (N + 4))
+        (made, 3 * total::<N>(&WIDTHS) * (N + 4))
     }
     at_each_capacity!(by_index);
 }
@@ -252,13 +224,7 @@ fn insertions_of_a_text() {
             for (index, given) in indices(N).flat_map(|index| texts.iter().map(move |given| (index, given))) {
                 let name = |call| (call, index, given);
                 let whole = case.wanted(|model| model.try_insert_str(index, given));
-                let len = case.text.len();
-                let least = if given.is_empty() { 0 } else { len.saturating_sub(index.into()).min(index.into()) };
-                let moved = if whole.0.is_ok() { least..=len } else { 0..=0 };
                 made += case.each(name("try_insert_str"), &whole, |string| string.try_insert_str(index, given));
-                made += case.each(name("try_insert_str_counted"), &whole, |string| {
-                    counted(0..=0, moved.clone(), |steps| string.try_insert_str_counted(index, given, steps))
-                });
                 let cut = case.wanted(|model| model.insert_str(index, given));
                 made += case.each(name("insert_str"), &cut, |string| string.insert_str(index, given));
                 if whole.0.is_ok() {
@@ -274,7 +240,7 @@ fn insertions_of_a_text() {
         let fitting = |case: &Case<N>| counts[..=N - case.text.len()].iter().sum::<usize>();
         let unchecked_of = |case: &Case<N>| case.string_count() * (length(&case.text) + 1) * fitting(case);
         assert_eq!(unchecked, cases(&WIDTHS).iter().map(unchecked_of).sum(), "unchecked calls at {N}");
-        (made, 3 * total::<N>(&WIDTHS) * (N + 4) * texts.len())
+        (made, 2 * total::<N>(&WIDTHS) * (N + 4) * texts.len())
     }
     at_each_capacity!(inserted);
 }

@@ -1,10 +1,10 @@
 //! The calls that make a string, and those of `utils`.
 
 use arraystring::utf16::{Unit16, Units};
-use arraystring::utils::{encode, is_boundary, is_inside_boundary, look, shift, truncate_str, truncate_str_counted};
+use arraystring::utils::{encode, is_boundary, is_inside_boundary, shift, truncate_str};
 use arraystring::{ArrayString, Error};
 
-use crate::edits::{all_pieces, counted, indices, piece_counts};
+use crate::edits::{all_pieces, indices, piece_counts};
 use crate::limited::{Limited, cut};
 use crate::states::{WIDTHS, at_each_capacity, counts, texts};
 
@@ -205,18 +205,12 @@ fn cuts_and_boundaries_of_a_text() {
             for size in indices(N) {
                 let at = usize::from(size);
                 assert_eq!(truncate_str(&text, size), cut(&text, at), "{text} at {size}");
-                let least = usize::from(0 < at && at < text.len());
-                let counted = counted(least..=4, 0..=0, |steps| truncate_str_counted(&text, size, steps));
-                assert_eq!(
-                    (counted, is_boundary(&text, at)),
-                    (cut(&text, at), text.is_char_boundary(at)),
-                    "{text} at {size}"
-                );
+                assert_eq!(is_boundary(&text, at), text.is_char_boundary(at), "{text} at {size}");
                 assert_eq!(is_inside_boundary(size, text.len()).is_ok(), at <= text.len());
-                made += 4;
+                made += 3;
             }
         }
-        (made, 4 * counts(&WIDTHS, N + 2).iter().sum::<usize>() * (N + 4))
+        (made, 3 * counts(&WIDTHS, N + 2).iter().sum::<usize>() * (N + 4))
     }
     at_each_capacity!(cuts);
 }
@@ -234,9 +228,8 @@ fn moves_in_an_array() {
             for (from, to) in (0..=N - len).flat_map(|from| (0..=N - len).map(move |to| (from, to))) {
                 let (mut array, mut wanted) = (letters::<N>(), letters::<N>());
                 wanted.copy_within(from..from + len, to);
-                let moved = if from == to { 0 } else { len };
                 // SAFETY: both runs lie in the array.
-                counted(0..=0, moved..=moved, |steps| unsafe { shift(&mut array, from, to, len, steps) });
+                unsafe { shift(&mut array, from, to, len) };
                 assert_eq!(array, wanted, "{len} from {from} to {to}");
                 made += 1;
             }
@@ -251,10 +244,6 @@ fn characters_in_an_array() {
     fn characters<const N: usize>() -> (usize, usize) {
         let mut made = 0;
         let array = letters::<N>();
-        for (at, byte) in array.iter().enumerate() {
-            assert_eq!(counted(1..=1, 0..=0, |steps| look(&array, at, steps)), *byte);
-            made += 1;
-        }
         for ch in WIDTHS {
             for at in 0..(N + 1).saturating_sub(ch.len_utf8()) {
                 let (mut array, mut wanted) = (array, array);
@@ -265,7 +254,7 @@ fn characters_in_an_array() {
                 made += 1;
             }
         }
-        (made, N + (1..=4).map(|width| (N + 1).saturating_sub(width)).sum::<usize>())
+        (made, (1..=4).map(|width| (N + 1).saturating_sub(width)).sum::<usize>())
     }
     at_each_capacity!(characters);
 }

@@ -3,9 +3,6 @@
 //!
 //! The variable `ARRAYSTRING_CAPACITY` of the environment says how far the capacities go.
 
-use std::fs;
-use std::path::Path;
-
 use states::{WIDTHS, at_each_capacity, cases, counts, offset, string_counts, texts};
 
 mod edits;
@@ -14,42 +11,6 @@ mod looks;
 mod made;
 mod ranges;
 mod states;
-
-/// The names of the public functions of a text.
-fn public_functions(text: &str) -> impl Iterator<Item = &str> {
-    text.lines().filter_map(|line| {
-        let rest = line.trim_start().strip_prefix("pub ")?;
-        let (_, name) = rest.split_once("fn ")?;
-        name.split(['(', '<']).next()
-    })
-}
-
-/// The texts of the files below a folder.
-fn sources(folder: &Path) -> Vec<String> {
-    let entries = fs::read_dir(folder).expect("a folder").map(|entry| entry.expect("an entry").path());
-    entries
-        .flat_map(|path| if path.is_dir() { sources(&path) } else { vec![fs::read_to_string(path).expect("a text")] })
-        .collect()
-}
-
-#[test]
-fn every_call_of_a_string_is_made() {
-    let tests = sources(Path::new("tests/every_state")).concat();
-    let mut calls = sources(Path::new("src/arraystring_core/array_string"));
-    for file in ["arraystring_core/array_string.rs", "arraystring_core/drain.rs", "by_hand/room.rs"] {
-        calls.push(fs::read_to_string(Path::new("src").join(file)).expect("a text"));
-    }
-    let names: Vec<_> = calls.iter().flat_map(|text| public_functions(text)).collect();
-    assert!(names.len() >= 50, "{} calls", names.len());
-    let is_made = |name: &str| {
-        [format!(".{name}("), format!("::{name}("), format!("each(\"{name}\"")].iter().any(|it| tests.contains(it))
-    };
-    let missing: Vec<_> = names.into_iter().filter(|name| !is_made(name)).collect();
-    assert!(
-        missing.is_empty(),
-        "no file of tests/every_state calls {missing:?}; `tools/run calls` says where they would stand"
-    );
-}
 
 #[test]
 fn every_string_is_there_once() {

@@ -1,13 +1,13 @@
 //! The calls that take a range.
 
 use std::cell::Cell;
-use std::ops::{Bound, RangeBounds, RangeInclusive};
+use std::ops::{Bound, RangeBounds};
 use std::panic::{AssertUnwindSafe, catch_unwind, set_hook, take_hook};
 use std::sync::Once;
 
 use arraystring::{ArrayString, Drain};
 
-use crate::edits::{counted, indices, total};
+use crate::edits::{indices, total};
 use crate::limited::wide;
 use crate::states::{WIDTHS, at_each_capacity, cases, length, texts};
 
@@ -94,26 +94,11 @@ fn drains_between_two_bounds() {
             for range in ranges(N) {
                 let wanted = case.wanted(|model| model.drain(wide(range)));
                 made += case.each(("drain", range), &wanted, |string| string.drain(range).map(Iterator::collect));
-                // What is behind the part may move, and at least the shorter side of it does.
-                let (from, to) = case.wanted(|model| model.part(wide(range), 0)).0.unwrap_or_default();
-                let behind = if wanted.0.is_ok() { case.text.len() - to } else { 0 };
-                let moved = if from == to { 0 } else { from.min(behind) }..=if from == 0 { 0 } else { behind };
-                made += case.each(("drain_counted", range), &wanted, |string| {
-                    let drain = counted(0..=0, moved.clone(), |steps| string.drain_counted(range, steps));
-                    drain.map(|left| left.as_str().to_string())
-                });
             }
         }
-        (made, 2 * total::<N>(&WIDTHS) * range_count(N))
+        (made, total::<N>(&WIDTHS) * range_count(N))
     }
     at_each_capacity!(drained);
-}
-
-/// How many bytes of a text may move where so many take the place of a part: none before it if they are no more, and the shorter
-/// side of it at least if they are not as many.
-fn moved_by_replacement(len: usize, (from, to): (usize, usize), size: usize) -> RangeInclusive<usize> {
-    let least = if size == to - from { 0 } else { from.min(len - to) };
-    least..=if size <= to - from { len - to } else { len }
 }
 
 #[test]
@@ -124,15 +109,10 @@ fn replacements_between_two_bounds() {
         for case in cases::<N>(&WIDTHS) {
             for (range, with) in ranges(N).into_iter().flat_map(|range| texts.iter().map(move |with| (range, with))) {
                 let wanted = case.wanted(|model| model.replace_range(wide(range), with));
-                let part = case.wanted(|model| model.part(wide(range), with.len())).0;
-                let moved = part.map_or(0..=0, |part| moved_by_replacement(case.text.len(), part, with.len()));
                 made += case.each(("replace_range", range, with), &wanted, |string| string.replace_range(range, with));
-                made += case.each(("replace_range_counted", range, with), &wanted, |string| {
-                    counted(0..=0, moved.clone(), |steps| string.replace_range_counted(range, with, steps))
-                });
             }
         }
-        (made, 2 * total::<N>(&WIDTHS) * range_count(N) * texts.len())
+        (made, total::<N>(&WIDTHS) * range_count(N) * texts.len())
     }
     at_each_capacity!(replaced);
 }

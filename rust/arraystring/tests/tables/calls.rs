@@ -4,54 +4,47 @@
 //!
 //! With no text before, the call goes on with the string that the row above left; `new` is a new string, and `again` the last
 //! one that a row began with. Several calls may be in a row, each on the text before. An unchecked call is made where its
-//! conditions hold, and else gives `None`. The number is what `len` and `capacity` return, how many bytes `pop_counted` looked
-//! at, and how many bytes any other call that counts moved. A range is written as in Rust, or as two bounds in brackets.
+//! conditions hold, and else gives `None`. The number is what `len` and `capacity` return. A range is written as in Rust, or as two
+//! bounds in brackets.
+//!
+//! A call that counts its work, `pop_counted`, is the proved crate's alone: here the plain call is made in its place, and the number
+//! in its row is not read.
 
 use std::collections::BTreeSet;
 use std::fmt::Write;
 use std::ops::{Bound, RangeBounds};
 use std::sync::Mutex;
 
-use arraystring::utils::{Steps, is_char_boundary};
+use arraystring::utils::is_char_boundary;
 use arraystring::{ArrayString, MaxString};
 
 use crate::at_capacity;
 use crate::rows::{column, hash_of, parsed, returned, rows};
 
-/// The lists of calls that the tests of the proved crate make, too.
-mod listed {
-    include!("../../../../crates/arraystring_tests/src/tests/listed.rt");
-}
-use listed::{counted_calls, index_calls, range_calls, whole_calls};
-
-/// The calls of no list.
-const BY_HAND: &str = "add len capacity write_str push_unchecked push_str_unchecked clone cmp hash retain_in_turn retain_without \
-                       is_char_boundary insert_unchecked insert_str_unchecked slice make_ascii_uppercase_in \
-                       make_ascii_lowercase_in";
+/// The calls of the tables.
+const CALLS: &str = "add as_bytes capacity clear clone cmp drain extend_chars extend_strs get hash insert_str insert_str_unchecked \
+                     insert_unchecked is_char_boundary len make_ascii_lowercase make_ascii_lowercase_in make_ascii_uppercase \
+                     make_ascii_uppercase_in pop push_str push_str_unchecked push_unchecked remove replace_range retain_in_turn \
+                     retain_without slice split_off trim trim_spaces truncate try_insert try_insert_str try_push try_push_str \
+                     write_str";
 
 /// The calls that rows have made.
 static MADE: Mutex<BTreeSet<String>> = Mutex::new(BTreeSet::new());
 
-/// The names of the calls of a list.
-macro_rules! names {
-    (() $($name:ident($($given:ident)*))*) => { [$(stringify!($name)),*].as_slice() };
-}
-
-/// The names of the calls of the tables.
-fn names() -> impl Iterator<Item = &'static str> {
-    let listed = [whole_calls!(names()), index_calls!(names()), counted_calls!(names()), range_calls!(names())];
-    listed.into_iter().flatten().copied().chain(BY_HAND.split_whitespace())
+/// The name of the plain call.
+fn plain(call: &str) -> &str {
+    call.strip_suffix("_counted").unwrap_or(call)
 }
 
 /// Whether this is the name of a call of the tables.
 pub fn is_call(name: &str) -> bool {
-    names().any(|known| known == name)
+    CALLS.split(' ').any(|known| known == plain(name))
 }
 
 /// The calls of the tables that no row has made.
 pub fn not_made() -> Vec<&'static str> {
     let made = MADE.lock().expect("no panic");
-    names().filter(|name| !made.contains(*name)).collect()
+    CALLS.split(' ').filter(|name| !made.contains(*name)).collect()
 }
 
 /// Makes the calls of blocks. The line over a block is `# 8 | what it shows`, where 8 is the capacity.
@@ -114,62 +107,30 @@ fn hold_from<const N: usize>(table: &str, string: impl Fn(&str) -> ArrayString<N
 /// Makes a call, and asserts what it returns.
 fn make<const N: usize>(text: &mut ArrayString<N>, call: &str, row: &str) {
     assert!(is_call(call), "no call of the tables: {call} in {row}");
-    let is_made = whole(text, call, row)
-        || by_hand(text, call, row)
-        || compared(text, call, row)
-        || counted(text, call, row)
-        || at_index(text, call, row)
-        || in_range(text, call, row);
+    let call = plain(call);
+    let is_made =
+        whole(text, call, row) || compared(text, call, row) || at_index(text, call, row) || in_range(text, call, row);
     assert!(is_made, "nothing makes {call} in {row}");
     MADE.lock().expect("no panic").insert(call.to_string());
 }
 
-/// What a call of a list is given.
-macro_rules! given {
-    (ch, $row:ident $steps:ident $range:ident) => {
-        parsed($row, 3)
-    };
-    (text, $row:ident $steps:ident $range:ident) => {
-        column($row, 3)
-    };
-    (chars, $row:ident $steps:ident $range:ident) => {
-        column($row, 3).chars()
-    };
-    (pieces, $row:ident $steps:ident $range:ident) => {
-        column($row, 3).split(',')
-    };
-    (index, $row:ident $steps:ident $range:ident) => {
-        parsed($row, 2)
-    };
-    (range, $row:ident $steps:ident $range:ident) => {
-        $range
-    };
-    (steps, $row:ident $steps:ident $range:ident) => {
-        &mut $steps
-    };
-}
-
-/// Makes the call of a row that is in a list, and asserts what it returns. If there is none, the function returns `false`.
-macro_rules! make {
-    (($row:ident $steps:ident $range:ident $string:ident.$call:ident) $($name:ident($($given:ident)*))*) => {
-        match $call {
-            $(stringify!($name) => returned($row, $string.$name($(given!($given, $row $steps $range)),*)),)*
-            _ => return false,
-        }
-    };
-}
-
-/// The calls of a list that are given no index and no counter. Like each function below, it makes the call of a row, asserts what
-/// it returns, and returns whether it has such a call.
+/// The calls that are given no index and no range. Like each function below, it makes the call of a row, asserts what it returns, and
+/// returns whether it has such a call.
 fn whole<const N: usize>(text: &mut ArrayString<N>, call: &str, row: &str) -> bool {
-    whole_calls!(make (row steps range text.call));
-    true
-}
-
-/// The numbers of a string, and what is no call of a list.
-fn by_hand<const N: usize>(text: &mut ArrayString<N>, call: &str, row: &str) -> bool {
     let given = column(row, 3);
     match call {
+        "make_ascii_uppercase" => returned(row, text.make_ascii_uppercase()),
+        "make_ascii_lowercase" => returned(row, text.make_ascii_lowercase()),
+        "try_push" => returned(row, text.try_push(parsed(row, 3))),
+        "try_push_str" => returned(row, text.try_push_str(given)),
+        "push_str" => returned(row, text.push_str(given)),
+        "extend_chars" => returned(row, text.extend_chars(given.chars())),
+        "extend_strs" => returned(row, text.extend_strs(given.split(','))),
+        "pop" => returned(row, text.pop()),
+        "clear" => returned(row, text.clear()),
+        "trim" => returned(row, text.trim()),
+        "trim_spaces" => returned(row, text.trim_spaces()),
+        "as_bytes" => returned(row, text.as_bytes()),
         "add" => returned(row, *text = std::ops::Add::add(*text, given)),
         "len" => returned(row, assert_eq!(text.len(), parsed(row, 6), "{row}")),
         "capacity" => returned(row, assert_eq!(ArrayString::<N>::capacity(), parsed(row, 6), "{row}")),
@@ -236,19 +197,6 @@ fn where_it_fits<const N: usize>(
     (fits && is_place).then(|| call(text))
 }
 
-/// The calls that count, but those on a range.
-fn counted<const N: usize>(text: &mut ArrayString<N>, call: &str, row: &str) -> bool {
-    let mut steps = Steps::new();
-    counted_calls!(make (row steps range text.call));
-    let count: u64 = parsed(row, 6);
-    if call == "pop_counted" {
-        assert_eq!((steps.looked(), steps.moved()), (count, 0), "{row}");
-    } else {
-        assert_eq!(steps.moved(), count, "{row}");
-    }
-    true
-}
-
 /// The calls at an index.
 fn at_index<const N: usize>(text: &mut ArrayString<N>, call: &str, row: &str) -> bool {
     let Ok(index) = column(row, 2).parse() else { return false };
@@ -265,7 +213,13 @@ fn at_index<const N: usize>(text: &mut ArrayString<N>, call: &str, row: &str) ->
             row,
             where_it_fits(text, Some(index), given, |text| unsafe { text.insert_str_unchecked(index, given) }),
         ),
-        _ => index_calls!(make (row steps range text.call)),
+        "try_insert" => returned(row, text.try_insert(index, parsed(row, 3))),
+        "try_insert_str" => returned(row, text.try_insert_str(index, given)),
+        "insert_str" => returned(row, text.insert_str(index, given)),
+        "truncate" => returned(row, text.truncate(index)),
+        "remove" => returned(row, text.remove(index)),
+        "split_off" => returned(row, text.split_off(index)),
+        _ => return false,
     }
     true
 }
@@ -314,17 +268,16 @@ fn of_range<const N: usize>(
     row: &str,
     range: impl RangeBounds<u8> + Clone,
 ) -> bool {
-    let mut steps = Steps::new();
     let is_part = text.get(range.clone()).is_some();
     match call {
         "slice" | "make_ascii_uppercase_in" | "make_ascii_lowercase_in" if !is_part => returned(row, None::<()>),
         "slice" => returned(row, text.slice(range)),
         "make_ascii_uppercase_in" => returned(row, text.make_ascii_uppercase_in(range)),
         "make_ascii_lowercase_in" => returned(row, text.make_ascii_lowercase_in(range)),
-        _ => range_calls!(make (row steps range text.call)),
-    }
-    if call.ends_with("_counted") {
-        assert_eq!(steps.moved(), parsed(row, 6), "{row}");
+        "get" => returned(row, text.get(range)),
+        "drain" => returned(row, text.drain(range)),
+        "replace_range" => returned(row, text.replace_range(range, column(row, 3))),
+        _ => return false,
     }
     true
 }

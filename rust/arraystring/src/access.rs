@@ -1,0 +1,217 @@
+// By hand: no proof stands behind this file.
+//! Reads and writes without a bounds check, and texts and characters that are made without a test. Each macro has the name of the
+//! call of std that it stands for.
+//!
+//! The proved sources never panic. So each index and each part in them is within bounds, each copy is between parts of one length,
+//! and no `unreachable!()` is reached. rustc does not see that proof. Without these macros it would test all this again.
+//!
+//! No macro has an `unsafe` of its own. So rustc takes it only in an `unsafe` block, and a `SAFETY` comment before the block says why
+//! it is right.
+//!
+//! `required!` tests what a public `unsafe` call requires of its caller, with debug assertions and with the feature `checked`.
+
+/// Whether each access is tested all the same: with debug assertions, with the feature `checked`, and where a `usize` has not the 64 bits of
+/// the proofs. A sum that wraps there is a panic then.
+pub(crate) const IS_TESTED: bool = cfg!(any(debug_assertions, feature = "checked", not(target_pointer_width = "64")));
+
+/// An item or a part of a slice, an array or a text: `unsafe { get_unchecked!(text, ..end) }` for `&text[..end]`. It has to be within.
+macro_rules! get_unchecked {
+    ($of:expr, $at:expr) => {
+        if crate::access::IS_TESTED { &$of[$at] } else { $of.get_unchecked($at) }
+    };
+}
+
+/// The same, to write: `unsafe { get_unchecked_mut!(all, start..end) }` for `&mut all[start..end]`.
+macro_rules! get_unchecked_mut {
+    ($of:expr, $at:expr) => {
+        if crate::access::IS_TESTED { &mut $of[$at] } else { $of.get_unchecked_mut($at) }
+    };
+}
+
+/// Two parts of a slice or an array, also in a constant: `unsafe { split_at_unchecked!(all, at) }` for `all.split_at(at)`. The index
+/// has to be within.
+macro_rules! split_at_unchecked {
+    ($of:expr, $at:expr) => {
+        if crate::access::IS_TESTED { $of.split_at($at) } else { $of.split_at_unchecked($at) }
+    };
+}
+
+/// Writes bytes over a part: `unsafe { copy_from_slice_unchecked!(all, start..end, given) }` for
+/// `all[start..end].copy_from_slice(given)`. The part has to be within, and what is given as long, and lent apart.
+macro_rules! copy_from_slice_unchecked {
+    ($of:expr, $at:expr, $given:expr) => {{
+        let (at, given): (core::ops::Range<usize>, &[u8]) = ($at, $given);
+        if crate::access::IS_TESTED {
+            $of[at].copy_from_slice(given)
+        } else {
+            core::ptr::copy_nonoverlapping(given.as_ptr(), $of.as_mut_ptr().add(at.start), given.len())
+        }
+    }};
+}
+
+/// Moves bytes of a slice: `unsafe { copy_within_unchecked!(all, from..end, to) }` for `all.copy_within(from..end, to)`. Both parts
+/// have to be within.
+macro_rules! copy_within_unchecked {
+    ($of:expr, $at:expr, $to:expr) => {{
+        let (at, to): (core::ops::Range<usize>, usize) = ($at, $to);
+        if crate::access::IS_TESTED {
+            $of.copy_within(at, to)
+        } else {
+            let bytes: *mut u8 = $of.as_mut_ptr();
+            core::ptr::copy(bytes.add(at.start), bytes.add(to), at.end - at.start)
+        }
+    }};
+}
+
+/// What is never reached: `unsafe { unreachable_unchecked!() }` for `unreachable!()`.
+macro_rules! unreachable_unchecked {
+    () => {
+        if crate::access::IS_TESTED { unreachable!() } else { core::hint::unreachable_unchecked() }
+    };
+}
+
+/// What a public function requires, which is tested with debug assertions and with the feature `checked`: a line at the start of its body.
+macro_rules! required {
+    ($condition:expr) => {
+        if cfg!(any(debug_assertions, feature = "checked")) {
+            assert!($condition, concat!("it is required that `", stringify!($condition), "`"));
+        }
+    };
+}
+
+/// The same of the characters of an iterator, tested at each as it comes: those up to it fit into so many bytes. In another build the
+/// iterator stays as it is.
+macro_rules! required_of_each {
+    ($characters:ident fits $most:expr) => {
+        #[cfg(any(debug_assertions, feature = "checked"))]
+        let $characters = {
+            let mut size = 0;
+            $characters.into_iter().inspect(move |ch: &char| {
+                size += ch.len_utf8();
+                required!(size <= $most);
+            })
+        };
+    };
+}
+
+/// What the crate uses of `char`.
+pub(crate) mod char {
+    /// `char::from_u32_unchecked`. With the feature `checked` the number is tested.
+    ///
+    /// # Safety
+    ///
+    /// The number must be a scalar value.
+    #[inline(always)]
+    pub(crate) const unsafe fn from_u32_unchecked(number: u32) -> char {
+        if cfg!(feature = "checked") && char::from_u32(number).is_none() {
+            panic!("a character is no scalar value");
+        }
+        // SAFETY: the caller shows it.
+        unsafe { char::from_u32_unchecked(number) }
+    }
+
+    #[cfg(all(test, feature = "checked"))]
+    mod tests {
+        use std::panic::catch_unwind;
+
+        extern crate std;
+
+        /// Each scalar value is made, and each other number panics.
+        #[test]
+        fn what_is_no_scalar_value_panics() {
+            // SAFETY: a number that is none panics.
+            let made = |number: u32| catch_unwind(|| unsafe { super::from_u32_unchecked(number) }).ok();
+            for number in (0..=0x80).chain(0xD700..=0xE100).chain(0x10_FF00..=0x11_0100) {
+                assert_eq!(made(number), char::from_u32(number), "{number:X}");
+            }
+        }
+    }
+}
+
+/// What it uses of `core::str`.
+pub(crate) mod str {
+    /// `str::from_utf8_unchecked`. No index shows that bytes are not UTF-8, so with the feature `checked` they are tested.
+    ///
+    /// # Safety
+    ///
+    /// The bytes must be UTF-8.
+    #[inline(always)]
+    pub(crate) const unsafe fn from_utf8_unchecked(bytes: &[u8]) -> &str {
+        if cfg!(feature = "checked") && from_utf8(bytes).is_err() {
+            panic!("a text is not UTF-8");
+        }
+        // SAFETY: the caller shows it.
+        unsafe { core::str::from_utf8_unchecked(bytes) }
+    }
+
+    pub(crate) use core::str::from_utf8;
+}
+
+#[cfg(test)]
+mod tests {
+    extern crate std;
+
+    use std::panic::catch_unwind;
+
+    const LETTERS: [u8; 6] = *b"abcdef";
+
+    /// Each place within gives what the plain access gives.
+    #[test]
+    fn what_is_within_is_as_it_is_plainly() {
+        for start in 0..=LETTERS.len() {
+            // SAFETY: it is within, by the loops.
+            let (front, back) = unsafe { split_at_unchecked!(LETTERS, start) };
+            assert_eq!((front, back), LETTERS.split_at(start));
+            for end in start..=LETTERS.len() {
+                // SAFETY: it is within, by the loops.
+                assert_eq!(unsafe { get_unchecked!(LETTERS, start..end) }, &LETTERS[start..end]);
+                let (mut one, mut other) = (LETTERS, LETTERS);
+                // SAFETY: it is within, by the loops.
+                unsafe { get_unchecked_mut!(one, start..end) }.make_ascii_uppercase();
+                other[start..end].make_ascii_uppercase();
+                assert_eq!(one, other);
+                // SAFETY: it is within, by the loops.
+                unsafe { copy_from_slice_unchecked!(one, start..end, &b"123456"[..end - start]) };
+                other[start..end].copy_from_slice(&b"123456"[..end - start]);
+                assert_eq!(one, other);
+                for to in 0..=LETTERS.len() - (end - start) {
+                    // SAFETY: it is within, by the loops.
+                    unsafe { copy_within_unchecked!(one, start..end, to) };
+                    other.copy_within(start..end, to);
+                    assert_eq!(one, other);
+                }
+            }
+        }
+    }
+
+    /// What is not within panics, where that is tested.
+    #[test]
+    fn what_is_not_within_panics_where_it_is_tested() {
+        if !crate::access::IS_TESTED {
+            return;
+        }
+        let panics = |edit: fn(&mut [u8], usize), past: usize| {
+            assert!(catch_unwind(|| edit(&mut { LETTERS }, past)).is_err(), "{past}");
+        };
+        for past in 7..=300 {
+            // SAFETY: it is tested here, and so it panics.
+            assert!(catch_unwind(|| *unsafe { get_unchecked!(LETTERS, past - 1) }).is_err());
+            // SAFETY: it is tested here, and so it panics.
+            assert!(catch_unwind(|| unsafe { get_unchecked!(LETTERS, ..past) }.len()).is_err());
+            // SAFETY: it is tested here, and so it panics.
+            assert!(catch_unwind(|| unsafe { split_at_unchecked!(LETTERS, past) }.0.len()).is_err());
+            // SAFETY: it is tested here, and so it panics.
+            panics(|all, past| unsafe { get_unchecked_mut!(all, past..) }.fill(1), past);
+            // SAFETY: it is tested here, and so it panics.
+            panics(|all, past| unsafe { copy_from_slice_unchecked!(all, past..past + 1, b"1") }, past);
+            // SAFETY: it is tested here, and so it panics.
+            panics(|all, past| unsafe { copy_within_unchecked!(all, 0..1, past) }, past);
+            // SAFETY: it is tested here, and so it panics.
+            panics(|all, past| unsafe { copy_within_unchecked!(all, past..past + 1, 0) }, past);
+        }
+        // SAFETY: it is tested here, and so it panics.
+        panics(|all, _| unsafe { copy_from_slice_unchecked!(all, 0..1, b"12") }, 0);
+        // SAFETY: it is tested here, and so it panics.
+        assert!(catch_unwind(|| unsafe { unreachable_unchecked!() }).is_err());
+    }
+}

@@ -1,0 +1,146 @@
+// Proved sources: crates/arraystring_core/src/array_string.rt
+//! `ArrayString`: the type, and the calls that read all of it.
+//!
+//! The modules below have its other calls:
+//!
+//! - `traits` has its impls of traits;
+//! - `unchecked` has calls that leave a test to the caller;
+//! - `append`, `replaced_part` and `remove` have the private calls that put bytes into its array or take
+//!   them out.
+//!
+//! # How a string lies in its array
+//!
+//! The text is the `size` bytes of the array from the start offset on. An *offset* counts from the start of
+//! the array, an *index* from the start of the text. The drawings show an array of 8 bytes after each call. A
+//! `.` is a byte outside the text. Such a byte can have any value: strings with the same text are equal. The
+//! last column says how many bytes the call moves.
+//!
+//! ```text
+//!                           01234567   start   size   moved
+//! from("abcdef")            abcdef..       0      6
+//! remove(0)                 .bcdef..       1      5       0
+//! try_insert_str(2, "-")    .bc-def.       1      6       3
+//! try_insert_str(6, "gh")   bc-defgh       0      8       6
+//! ```
+//!
+//! - A removal at the front (`remove(0)`, `drain(..i)`, `trim`) raises the start offset and moves no byte.
+//! - If there is room after the text, an insertion moves the bytes behind the gap.
+//! - If there is none, the bytes before the gap move to offset 0, and those behind it straight to their final
+//!   offset. So each byte moves at most once.
+//!
+//! An insertion in the middle may move only the bytes before the gap:
+//!
+//! ```text
+//!                           01234567   start   size   moved
+//! from("abcdefgh")          abcdefgh       0      8
+//! remove(0)                 .bcdefgh       1      7       0
+//! try_insert_str(2, "-")    bc-defgh       0      8       2
+//! ```
+//!
+//! A `Drain<N>` borrows nothing. It has a copy of the array from before the removal, the offset and the size of
+//! the removed text, and an index into it. `next` raises the index, and `next_back` lowers the size.
+
+// In the order in which the reference shows their calls.
+mod construct;
+mod constant;
+mod constructors;
+mod utf16;
+mod views;
+mod loan;
+mod room;
+mod push;
+mod whole;
+mod insert;
+mod borrowed_range;
+mod drained_range;
+mod replaced_range;
+mod remove;
+mod retain;
+mod trim;
+mod ascii;
+mod traits;
+mod append;
+mod replaced_part;
+mod fill;
+mod unchecked;
+
+/// A string of at most `N` bytes of UTF-8, and at most 255, stored inline. Sizes, indices and the
+/// capacity count bytes of UTF-8.
+///
+/// A text *fits* if the string with it is not larger than the capacity. What does not fit is cut or
+/// refused, by the call:
+///
+/// - **Cut**, to the whole characters that fit: `from` and so `into`, [`from_str_truncate`](Self::from_str_truncate),
+///   [`from_chars`](Self::from_chars), [`from_iterator`](Self::from_iterator), [`from_utf8`](Self::from_utf8), [`from_utf16`](Self::from_utf16), [`from_utf16_lossy`](Self::from_utf16_lossy), [`push_str`](Self::push_str), `+`,
+///   [`extend_chars`](Self::extend_chars), [`extend_strs`](Self::extend_strs), [`insert_str`](Self::insert_str).
+/// - **Refused**, and then nothing has changed: `parse`, [`try_from_str`](Self::try_from_str), [`try_from_chars`](Self::try_from_chars),
+///   [`try_from_iterator`](Self::try_from_iterator), [`try_from_utf8`](Self::try_from_utf8), [`try_from_utf16`](Self::try_from_utf16), [`try_push`](Self::try_push), [`try_push_str`](Self::try_push_str), [`try_insert`](Self::try_insert),
+///   [`try_insert_str`](Self::try_insert_str), [`replace_range`](Self::replace_range), and each piece that `write!` writes.
+///
+/// A *boundary* is an index at which a character begins or the text ends. An index is *past* the
+/// text if it is greater than the length, and *inside* a character if it is less and no boundary.
+///
+/// A range that is passed in may be any `RangeBounds<u8>`. An iterator is asked for no item behind
+/// the first that does not fit.
+///
+/// # Examples
+///
+/// ```
+/// use arraystring::ArrayString;
+/// use arraystring::error::OutOfBounds;
+///
+/// let mut name = ArrayString::<8>::try_from_str("ann").unwrap();
+/// assert_eq!(name.try_push_str(" and bo"), Err(OutOfBounds)); // refused, and nothing changed
+/// name.push_str(" and bo"); // adds what fits
+/// assert_eq!(name.as_str(), "ann and ");
+/// assert_eq!((name.len(), name.get(..3)), (8, Some("ann")));
+/// ```
+///
+/// # What else cuts or refuses
+///
+/// `collect`, `extend`, `+=`, `From<char>` and std's `try_from` cut, too. [`const_try_from_str`](Self::const_try_from_str),
+/// [`try_from_format`](Self::try_from_format) and [`try_write`](Self::try_write) refuse.
+///
+/// ```
+/// use arraystring::ArrayString;
+///
+/// assert_eq!(ArrayString::<2>::try_from("abc"), Ok("ab".into())); // cut
+/// assert!(ArrayString::<2>::const_try_from_str("abc").is_err()); // refused
+/// ```
+///
+/// # Size
+///
+/// A string takes `N + 2` bytes and is aligned to one. At most 255 of them hold text, also where `N` is greater.
+///
+/// ```
+/// use arraystring::{ArrayString, SmallString};
+///
+/// assert_eq!((size_of::<ArrayString<62>>(), size_of::<SmallString>()), (64, 25));
+/// assert_eq!((size_of::<ArrayString<1000>>(), ArrayString::<1000>::capacity()), (1002, 255));
+/// ```
+///
+/// # What is counted in `u8`
+///
+/// [`len`](Self::len), [`capacity`](Self::capacity), the indices and the ranges of this type are `u8`. What the string has by
+/// `Deref` to `str`, such as `find`, is in `usize`. `usize::from` and `u8::try_from` make one of the other. A cast would make 0 of 256.
+///
+/// ```
+/// use arraystring::ArrayString;
+///
+/// let string = ArrayString::<8>::from("key=text");
+/// let at = string.find('=').unwrap(); // a usize
+/// assert_eq!((string.len(), at), (8u8, 3usize));
+/// assert_eq!(usize::from(string.len()) - at, 5);
+/// assert_eq!(&string.as_str()[at + 1..], "text"); // the index of `str` takes a usize
+/// let at = u8::try_from(at).unwrap();
+/// assert_eq!(&string[at + 1..], "text");
+/// ```
+#[derive(Clone, Copy)]
+pub struct ArrayString<const N: usize> {
+    /// The `size` bytes from `start` on are the text. They are UTF-8, and the others have no meaning.
+    array: [u8; N],
+    /// The offset at which the text begins. `start + size` is at most the lesser of `N` and 255.
+    start: u8,
+    /// The size of the text.
+    size: u8,
+}

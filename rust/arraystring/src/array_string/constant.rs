@@ -1,0 +1,90 @@
+// By hand: no proof stands behind this file.
+//! Macros: a string of a text that is known when the program is compiled, and one of what a format prints.
+#![deny(unsafe_code)]
+
+use crate::ArrayString;
+use crate::error::OutOfBounds;
+
+/// A string of a text that is known when the program is compiled. If the text does not fit, the program does not compile. The
+/// type that is wanted decides the capacity.
+///
+/// ```
+/// use arraystring::{ArrayString, CacheString, arraystring};
+///
+/// const GREETING: ArrayString<8> = arraystring!("hello");
+/// static KEY: CacheString = CacheString(arraystring!(concat!("user:", "42")));
+/// assert_eq!((GREETING.as_str(), KEY.as_str()), ("hello", "user:42"));
+///
+/// let mut line: ArrayString<16> = arraystring!("hello");
+/// line.push_str(", ann");
+/// assert_eq!(line, "hello, ann");
+/// ```
+///
+/// `hello` takes five bytes:
+///
+/// ```compile_fail,E0080
+/// use arraystring::{ArrayString, arraystring};
+///
+/// const GREETING: ArrayString<4> = arraystring!("hello");
+/// ```
+///
+/// A `let` does not compile either. There [`try_from_str`](crate::ArrayString::try_from_str) would be refused only
+/// when the program runs:
+///
+/// ```compile_fail,E0080
+/// use arraystring::{ArrayString, arraystring};
+///
+/// let greeting: ArrayString<4> = arraystring!("hello");
+/// ```
+#[macro_export]
+macro_rules! arraystring {
+    ($text:expr) => {
+        const { $crate::ArrayString::of_constant($text) }
+    };
+}
+
+/// A string of what a format prints, whole: [`try_from_format`](crate::ArrayString::try_from_format) without `format_args!`. The type
+/// that is wanted decides the capacity.
+///
+/// # Errors
+///
+/// Returns `Err(fmt::Error)` if not all of it fits, or if a `Display` in it fails.
+///
+/// ```
+/// use arraystring::{ArrayString, Error, try_format};
+///
+/// fn label(name: &str, number: u32) -> Result<ArrayString<8>, Error> {
+///     Ok(try_format!("{name}-{number}")?)
+/// }
+///
+/// assert_eq!(label("ann", 7), Ok("ann-7".into()));
+/// assert_eq!(label("ann", 12345), Err(Error::OutOfBounds));
+/// ```
+#[macro_export]
+macro_rules! try_format {
+    ($($arguments:tt)*) => {
+        $crate::ArrayString::try_from_format(::core::format_args!($($arguments)*))
+    };
+}
+
+impl<const N: usize> ArrayString<N> {
+    /// What `arraystring!` is made of. Beyond a constant it would panic when the program runs.
+    ///
+    /// ```
+    /// const GREETING: arraystring::ArrayString<8> = arraystring::ArrayString::of_constant("hello");
+    /// assert_eq!(GREETING, "hello");
+    /// ```
+    ///
+    /// # Panics
+    ///
+    /// Where the text does not fit.
+    #[doc(hidden)]
+    #[must_use]
+    #[track_caller]
+    pub const fn of_constant(text: &str) -> Self {
+        match Self::const_try_from_str(text) {
+            Ok(string) => string,
+            Err(OutOfBounds) => panic!("the text does not fit into the capacity"),
+        }
+    }
+}

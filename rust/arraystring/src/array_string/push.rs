@@ -1,0 +1,190 @@
+// Proved sources: crates/arraystring_core/src/array_string/push.rt
+//! Appends: of characters, of texts, and of the items of an iterator.
+
+use crate::ArrayString;
+use crate::error::OutOfBounds;
+use crate::utf8::truncate_str;
+
+/// Appends.
+impl<const N: usize> ArrayString<N> {
+    /// Appends `ch`.
+    ///
+    /// # Errors
+    ///
+    /// Returns [`Err(OutOfBounds)`](crate::error::OutOfBounds) if `ch` does not fit. The text is then unchanged.
+    ///
+    /// # Examples
+    ///
+    /// ```
+    /// use arraystring::ArrayString;
+    /// use arraystring::error::OutOfBounds;
+    ///
+    /// let mut string = ArrayString::<4>::from("ab");
+    /// assert_eq!(string.try_push('c'), Ok(()));
+    /// assert_eq!(string.try_push('é'), Err(OutOfBounds)); // one byte is left, and `é` takes two
+    /// assert_eq!(string.as_str(), "abc");
+    /// ```
+    ///
+    /// <details><summary>Contract</summary>
+    ///
+    /// ```text
+    /// ensures { Makes (addition self.old.text (ch ∷ []) (cap N)) self.old.text (from_out_of_bounds result) self.new.text }
+    /// ```
+    ///
+    /// [How to read a contract](crate::contracts)
+    ///
+    /// </details>
+    #[doc(alias = "push")]
+    #[inline(always)]
+    pub fn try_push(&mut self, ch: char) -> Result<(), OutOfBounds> {
+        let end = self.end();
+        // SAFETY: the `self.size` bytes of `self.array` from `self.start` on are UTF-8 and end within the capacity;
+        // `end == self.start + self.size`: as the fields of `ArrayString` say.
+        match unsafe { Self::append_char_behind(&mut self.array, self.start, &mut self.size, end, ch) } {
+            Some(_) => Ok(()),
+            None if self.start == 0 => Err(OutOfBounds),
+            None => self.push_at_front(ch),
+        }
+    }
+
+    /// Appends `string`.
+    ///
+    /// # Errors
+    ///
+    /// Returns [`Err(OutOfBounds)`](crate::error::OutOfBounds) if not all of `string` fits. The text is then unchanged.
+    ///
+    /// # Examples
+    ///
+    /// ```
+    /// use arraystring::ArrayString;
+    /// use arraystring::error::OutOfBounds;
+    ///
+    /// let mut string = ArrayString::<4>::from("ab");
+    /// assert_eq!(string.try_push_str("c"), Ok(()));
+    /// assert_eq!(string.try_push_str("de"), Err(OutOfBounds));
+    /// assert_eq!(string.as_str(), "abc");
+    /// ```
+    ///
+    /// <details><summary>Contract</summary>
+    ///
+    /// ```text
+    /// ensures { Makes (addition self.old.text (chars string.now) (cap N))
+    ///     self.old.text (from_out_of_bounds result) self.new.text }
+    /// ```
+    ///
+    /// [How to read a contract](crate::contracts)
+    ///
+    /// </details>
+    #[inline]
+    pub fn try_push_str<S: AsRef<str>>(&mut self, string: S) -> Result<(), OutOfBounds> {
+        let string = string.as_ref();
+        let end = self.end();
+        // SAFETY: the `self.size` bytes of `self.array` from `self.start` on are UTF-8 and end within the capacity;
+        // `end == self.start + self.size`: as the fields of `ArrayString` say.
+        match unsafe { Self::append_str_behind(&mut self.array, self.start, &mut self.size, end, string) } {
+            Some(_) => Ok(()),
+            None if self.start == 0 => Err(OutOfBounds),
+            None => self.push_str_at_front(string),
+        }
+    }
+
+    /// Appends the longest prefix of whole characters of `string` that fits.
+    ///
+    /// # Examples
+    ///
+    /// ```
+    /// use arraystring::ArrayString;
+    ///
+    /// let mut string = ArrayString::<4>::from("abc");
+    /// string.push_str("dé"); // one byte is left, and `é` takes two
+    /// assert_eq!(string.as_str(), "abcd");
+    /// ```
+    ///
+    /// <details><summary>Contract</summary>
+    ///
+    /// ```text
+    /// ensures { Makes (addition_of_cut self.old.text (chars string.now) (cap N)) self.old.text (Ok result) self.new.text }
+    /// ```
+    ///
+    /// [How to read a contract](crate::contracts)
+    ///
+    /// </details>
+    #[inline]
+    pub fn push_str<S: AsRef<str>>(&mut self, string: S) {
+        let string = string.as_ref();
+        let room = Self::capacity() - self.len();
+        // SAFETY: `self.len() + truncate_str(string, room).len() <= Self::capacity()`: `truncate_str` returns no more
+        // bytes than it is told, which is the room.
+        unsafe { self.push_str_unchecked(truncate_str(string, room)) };
+    }
+
+    /// Appends the longest prefix of the characters that fits.
+    ///
+    /// The iterator may be endless: the call stops at the first character that does not fit. Where the iterator panics, the text has the characters before that.
+    ///
+    /// # Examples
+    ///
+    /// ```
+    /// use arraystring::ArrayString;
+    ///
+    /// let mut string = ArrayString::<4>::from("a");
+    /// string.extend_chars('b'..='z');
+    /// assert_eq!(string.as_str(), "abcd");
+    /// ```
+    ///
+    /// <details><summary>Contract</summary>
+    ///
+    /// ```text
+    /// requires { IsFiniteIterable I.into_iter_gives I.IntoIter.can_next I.IntoIter.remaining characters }
+    /// ensures taken { (taken : List ℕ)
+    ///     × Takes I.into_iter_gives I.IntoIter.next_gives (λ cs. cs) characters (cap N - size self.old.text) taken
+    ///     × Makes (addition_of_cut self.old.text taken (cap N)) self.old.text (Ok result) self.new.text }
+    /// ensures whole { (all : List ℕ) → Gives I.into_iter_gives I.IntoIter.next_gives (λ c. c) characters all
+    ///     → Makes (addition_of_cut self.old.text all (cap N)) self.old.text (Ok result) self.new.text }
+    /// ```
+    ///
+    /// [How to read a contract](crate::contracts)
+    ///
+    /// </details>
+    #[doc(alias = "extend")]
+    #[inline]
+    pub fn extend_chars<I: IntoIterator<Item = char>>(&mut self, characters: I) {
+        let _ = self.add_chars(characters);
+    }
+
+    /// Appends the longest prefix of whole characters of the joined pieces that fits.
+    ///
+    /// The iterator may be endless: the call stops at the first piece that does not fit. It does not return if empty pieces
+    /// come without an end. Where the iterator panics, the text has the pieces
+    /// before that.
+    ///
+    /// # Examples
+    ///
+    /// ```
+    /// use arraystring::ArrayString;
+    ///
+    /// let mut string = ArrayString::<8>::from("one");
+    /// string.extend_strs([" two", " three"]);
+    /// assert_eq!(string.as_str(), "one two ");
+    /// ```
+    ///
+    /// <details><summary>Contract</summary>
+    ///
+    /// ```text
+    /// requires { IsFiniteIterable I.into_iter_gives I.IntoIter.can_next I.IntoIter.remaining pieces }
+    /// ensures taken { (taken : List (Bor (List ℕ)))
+    ///     × Takes I.into_iter_gives I.IntoIter.next_gives joined_pieces pieces (cap N - size self.old.text) taken
+    ///     × Makes (addition_of_cut self.old.text (joined_pieces taken) (cap N)) self.old.text (Ok result) self.new.text }
+    /// ensures whole { (all : List (List ℕ)) → Gives I.into_iter_gives I.IntoIter.next_gives piece_text pieces all
+    ///     → Makes (addition_of_cut self.old.text (joined all) (cap N)) self.old.text (Ok result) self.new.text }
+    /// ```
+    ///
+    /// [How to read a contract](crate::contracts)
+    ///
+    /// </details>
+    #[doc(alias = "extend")]
+    #[inline]
+    pub fn extend_strs<U: AsRef<str>, I: IntoIterator<Item = U>>(&mut self, pieces: I) {
+        let _ = self.add_strs(pieces);
+    }
+}

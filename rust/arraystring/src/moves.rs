@@ -1,0 +1,280 @@
+// Proved sources: crates/arraystring_base/src/moves.rt
+//! How a run of bytes is moved inside an array or a slice: as its first `K` and its last `K` bytes, which
+//! may overlap, and both are read before the first is written. `memmove` moves short runs in this way
+//! too. A byte that both have is written twice, to one offset. They are read as vectors, since those stay in
+//! registers; arrays of bytes would be put on the stack.
+//!
+//! `move_bytes` and `write_long_run` take a slice, and so each stands once in a program.
+
+use crate::simd::Simd;
+
+/// Moves `len` bytes of the array from the offset `from` to the offset `to`; the two runs may
+/// overlap. No byte outside the target changes.
+///
+/// # Safety
+///
+/// The run that is moved must lie in the array. So must the run that is written over.
+///
+/// # Examples
+///
+/// ```
+/// use arraystring::utils;
+///
+/// let mut array = *b"abcd";
+/// // SAFETY: the bytes 0..3 and 1..4 lie in the array.
+/// unsafe { utils::shift(&mut array, 0, 1, 3) };
+/// assert_eq!(&array, b"aabc");
+/// ```
+///
+/// <details><summary>Contract</summary>
+///
+/// ```text
+/// requires source { from + len ≤ N }
+/// requires target { to + len ≤ N }
+/// ensures bytes { array.new ≡ take to array.old ++ (take len (drop from array.old) ++ drop (to + len) array.old) }
+/// ```
+///
+/// [How to read a contract](crate::contracts)
+///
+/// </details>
+#[inline(always)]
+pub unsafe fn shift<const N: usize>(array: &mut [u8; N], from: usize, to: usize, len: usize) {
+    required!(from <= N && len <= N - from);
+    required!(to <= N && len <= N - to);
+    if from != to {
+        // SAFETY: `from + len <= N`; `to + len <= N`: by this function's `# Safety`.
+        unsafe { move_run(array, from, to, len) };
+    }
+}
+
+/// Moves `len` bytes of the array from the offset `from` to the offset `to`; the two runs may overlap.
+/// No byte outside the target changes. Up to 64 bytes are moved without a call. No test is made for more bytes than an array of `N` bytes can have.
+///
+/// # Safety
+///
+/// - `from + len <= N`
+/// - `to + len <= N`
+unsafe fn move_run<const N: usize>(array: &mut [u8; N], from: usize, to: usize, len: usize) {
+    let all = &mut array[..];
+    if len < 16 {
+        // SAFETY: `from + len <= all.len()`; `to + len <= all.len()`; `len <= N`; `len < 16`: by this function's
+        // `# Safety` and the tests above, since `len` is at most `N`.
+        unsafe { move_short_run::<N>(all, from, to, len) };
+    } else if N > 64 && len > 64 {
+        // SAFETY: `from + len <= all.len()`; `to + len <= all.len()`; `len <= N`; `64 < len`: by this function's
+        // `# Safety` and the tests above, since `len` is at most `N`.
+        unsafe { move_long_run_of_array::<N>(all, from, to, len) };
+    } else if N > 32 && len > 32 {
+        // SAFETY: `from + len <= all.len()`; `to + len <= all.len()`; `32 <= len`; `len - 32 <= 32`: by this function's
+        // `# Safety` and the tests above, since `len` is at most `N`.
+        unsafe { move_ends::<32>(all, from, to, len) };
+    } else {
+        // SAFETY: `from + len <= all.len()`; `to + len <= all.len()`; `16 <= len`; `len - 16 <= 16`: by this function's
+        // `# Safety` and the tests above, since `len` is at most `N`.
+        unsafe { move_ends::<16>(all, from, to, len) };
+    }
+}
+
+/// Moves `len` bytes of a slice from the offset `from` to the offset `to`, as `move_run` does those of
+/// an array. It is not inlined: a program has one copy of it, and each use is a call.
+///
+/// # Safety
+///
+/// - `from + len <= all.len()`
+/// - `to + len <= all.len()`
+#[inline(never)]
+pub(crate) unsafe fn move_bytes(all: &mut [u8], from: usize, to: usize, len: usize) {
+    // SAFETY: this is within: by this function's `# Safety`.
+    unsafe { copy_within_unchecked!(all, from..from + len, to) };
+}
+
+/// Moves `len` bytes: more than 64, and at most `N`. The branches for sizes above `N` are left out.
+///
+/// # Safety
+///
+/// - `from + len <= all.len()`
+/// - `to + len <= all.len()`
+/// - `len <= N`
+/// - `64 < len`
+unsafe fn move_long_run_of_array<const N: usize>(all: &mut [u8], from: usize, to: usize, len: usize) {
+    // SAFETY: `from + len <= all.len()`; `to + len <= all.len()`: by this function's `# Safety`.
+    unsafe { move_bytes(all, from, to, len) };
+}
+
+/// Moves `len` bytes: fewer than 16, and at most `N`. The branches for sizes above `N` are left out.
+///
+/// # Safety
+///
+/// - `from + len <= all.len()`
+/// - `to + len <= all.len()`
+/// - `len <= N`
+/// - `len < 16`
+unsafe fn move_short_run<const N: usize>(all: &mut [u8], from: usize, to: usize, len: usize) {
+    if N >= 4 && len >= 4 {
+        if N >= 8 && len >= 8 {
+            // SAFETY: `from + len <= all.len()`; `to + len <= all.len()`; `8 <= len`; `len - 8 <= 8`: by this
+            // function's `# Safety` and the tests above.
+            unsafe { move_ends::<8>(all, from, to, len) };
+        } else {
+            // SAFETY: `from + len <= all.len()`; `to + len <= all.len()`; `4 <= len`; `len - 4 <= 4`: by this
+            // function's `# Safety` and the tests above.
+            unsafe { move_ends::<4>(all, from, to, len) };
+        }
+    } else if N >= 2 && len >= 2 {
+        // SAFETY: `from + len <= all.len()`; `to + len <= all.len()`; `2 <= len`; `len - 2 <= 2`: by this function's
+        // `# Safety` and the tests above.
+        unsafe { move_ends::<2>(all, from, to, len) };
+    } else if len == 1 {
+        // SAFETY: `from + len <= all.len()`; `to + len <= all.len()`; `1 <= len`; `len - 1 <= 1`: by this function's
+        // `# Safety` and the tests above.
+        unsafe { move_ends::<1>(all, from, to, len) };
+    }
+}
+
+/// Moves `len` bytes, from `K` to `2 * K` of them: the first `K` and the last `K`, which may overlap.
+///
+/// # Safety
+///
+/// - `from + len <= all.len()`
+/// - `to + len <= all.len()`
+/// - `K <= len`
+/// - `len - K <= K`
+unsafe fn move_ends<const K: usize>(all: &mut [u8], from: usize, to: usize, len: usize) {
+    let rest = len - K;
+    // SAFETY: `from + K <= all.len()`: the slice has the `len` bytes from `from` on by this function's `# Safety`, and
+    // `rest + K` is `len`.
+    let first = unsafe { bytes_of::<K>(all, from) };
+    // SAFETY: `from + rest + K <= all.len()`: the slice has the `len` bytes from `from` on by this function's
+    // `# Safety`, and `rest + K` is `len`.
+    let last = unsafe { bytes_of::<K>(all, from + rest) };
+    // SAFETY: `to + K <= all.len()`: the slice has the `len` bytes from `to` on by this function's `# Safety`, and
+    // `rest + K` is `len`.
+    unsafe { put_bytes(all, to, first) };
+    // SAFETY: `to + rest + K <= all.len()`: the slice has the `len` bytes from `to` on by this function's `# Safety`,
+    // and `rest + K` is `len`.
+    unsafe { put_bytes(all, to + rest, last) };
+}
+
+/// Writes `given` over the bytes of the array from the offset `at` on. No other byte changes. Up to 64
+/// bytes are written without a call, and more bytes by a call of `memcpy`. No test is made for more
+/// bytes than an array of `N` bytes can have.
+///
+/// # Safety
+///
+/// - `at + given.len() <= N`
+pub(crate) unsafe fn write_over<const N: usize>(array: &mut [u8; N], at: usize, given: &[u8]) {
+    let all = &mut array[..];
+    if N > 32 && given.len() > 32 {
+        if N > 64 && given.len() > 64 {
+            // SAFETY: `at + given.len() <= all.len()`: by this function's `# Safety`.
+            unsafe { write_long_run(all, given, at) };
+        } else {
+            // SAFETY: `at + given.len() <= all.len()`; `32 <= given.len()`; `given.len() - 32 <= 32`: by this
+            // function's `# Safety` and the tests above, since `len` is at most `N`.
+            unsafe { copy_ends::<32>(all, at, given) };
+        }
+    } else if given.len() >= 16 {
+        // SAFETY: `at + given.len() <= all.len()`; `16 <= given.len()`; `given.len() - 16 <= 16`: by this function's
+        // `# Safety` and the tests above, since `len` is at most `N`.
+        unsafe { copy_ends::<16>(all, at, given) };
+    } else {
+        // SAFETY: `at + given.len() <= all.len()`; `given.len() <= N`; `given.len() < 16`: by this function's
+        // `# Safety` and the tests above, since `len` is at most `N`.
+        unsafe { write_short_run::<N>(all, at, given) };
+    }
+}
+
+/// Writes `given` over the bytes of a slice from the offset `at` on, as `write_over` does, by one call
+/// whatever its length.
+///
+/// # Safety
+///
+/// - `at + given.len() <= all.len()`
+#[inline(always)]
+pub(crate) unsafe fn write_by_call(all: &mut [u8], at: usize, given: &[u8]) {
+    // SAFETY: this is within: by this function's `# Safety`.
+    unsafe { copy_from_slice_unchecked!(all, at..at + given.len(), given) };
+}
+
+/// Does what `write_by_call` does, for more than 64 bytes.
+///
+/// # Safety
+///
+/// - `at + given.len() <= all.len()`
+#[inline]
+unsafe fn write_long_run(all: &mut [u8], given: &[u8], at: usize) {
+    // SAFETY: `at + given.len() <= all.len()`: by this function's `# Safety`.
+    unsafe { write_by_call(all, at, given) };
+}
+
+/// Writes `given`: fewer than 16 bytes, and at most `N`. The branches for sizes above `N` are left out.
+///
+/// # Safety
+///
+/// - `at + given.len() <= all.len()`
+/// - `given.len() <= N`
+/// - `given.len() < 16`
+unsafe fn write_short_run<const N: usize>(all: &mut [u8], at: usize, given: &[u8]) {
+    let len = given.len();
+    if N >= 4 && len >= 4 {
+        if N >= 8 && len >= 8 {
+            // SAFETY: `at + given.len() <= all.len()`; `8 <= given.len()`; `given.len() - 8 <= 8`: by this function's
+            // `# Safety` and the tests above.
+            unsafe { copy_ends::<8>(all, at, given) };
+        } else {
+            // SAFETY: `at + given.len() <= all.len()`; `4 <= given.len()`; `given.len() - 4 <= 4`: by this function's
+            // `# Safety` and the tests above.
+            unsafe { copy_ends::<4>(all, at, given) };
+        }
+    } else if N >= 2 && len >= 2 {
+        // SAFETY: `at + given.len() <= all.len()`; `2 <= given.len()`; `given.len() - 2 <= 2`: by this function's
+        // `# Safety` and the tests above.
+        unsafe { copy_ends::<2>(all, at, given) };
+    } else if len == 1 {
+        // SAFETY: `at + given.len() <= all.len()`; `1 <= given.len()`; `given.len() - 1 <= 1`: by this function's
+        // `# Safety` and the tests above.
+        unsafe { copy_ends::<1>(all, at, given) };
+    }
+}
+
+/// Writes `given`, from `K` to `2 * K` bytes: the first `K` and the last `K`, which may overlap.
+///
+/// # Safety
+///
+/// - `at + given.len() <= all.len()`
+/// - `K <= given.len()`
+/// - `given.len() - K <= K`
+unsafe fn copy_ends<const K: usize>(all: &mut [u8], at: usize, given: &[u8]) {
+    let rest = given.len() - K;
+    // SAFETY: `K <= given.len()`: `rest + K` is `given.len()`, which is at least `K` by this function's `# Safety`.
+    let first = unsafe { bytes_of::<K>(given, 0) };
+    // SAFETY: `rest + K <= given.len()`: `rest + K` is `given.len()`, which is at least `K` by this function's
+    // `# Safety`.
+    let last = unsafe { bytes_of::<K>(given, rest) };
+    // SAFETY: `at + K <= all.len()`: the slice has the `given.len()` bytes from `at` on by this function's `# Safety`,
+    // and `rest + K` is `given.len()`.
+    unsafe { put_bytes(all, at, first) };
+    // SAFETY: `at + rest + K <= all.len()`: the slice has the `given.len()` bytes from `at` on by this function's
+    // `# Safety`, and `rest + K` is `given.len()`.
+    unsafe { put_bytes(all, at + rest, last) };
+}
+
+/// The `K` bytes of `given` from `at` on.
+///
+/// # Safety
+///
+/// - `at + K <= given.len()`
+unsafe fn bytes_of<const K: usize>(given: &[u8], at: usize) -> Simd<u8, K> {
+    // SAFETY: this is within: by this function's `# Safety`.
+    Simd::<u8, K>::from_slice(unsafe { get_unchecked!(given, at..at + K) })
+}
+
+/// Writes `K` bytes from `at` on.
+///
+/// # Safety
+///
+/// - `at + K <= all.len()`
+unsafe fn put_bytes<const K: usize>(all: &mut [u8], at: usize, bytes: Simd<u8, K>) {
+    // SAFETY: this is within: by this function's `# Safety`.
+    bytes.copy_to_slice(unsafe { get_unchecked_mut!(all, at..at + K) });
+}

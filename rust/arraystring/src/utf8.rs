@@ -1,0 +1,229 @@
+// Proved sources: crates/arraystring_base/src/utf8.rt, crates/arraystring_core/src/blockwise/well_formed.rt
+//! The UTF-8 of texts and characters: boundaries, cuts, the last character of a text, and the bytes of a
+//! character, and whether bytes are UTF-8. Sizes and indices count bytes of UTF-8.
+
+use crate::access::{char, str};
+use crate::error::Utf8;
+
+/// Returns whether `at` is a boundary of `text`: the size of one of its prefixes of whole characters.
+/// Returns false if `at` is past the length of the text.
+///
+/// # Examples
+///
+/// ```
+/// use arraystring::utils;
+///
+/// assert!(utils::is_boundary("aé", 1) && utils::is_boundary("aé", 3));
+/// assert!(!utils::is_boundary("aé", 2) && !utils::is_boundary("aé", 4));
+/// ```
+///
+/// <details><summary>Contract</summary>
+///
+/// ```text
+/// ensures { result ≡ boundary (chars text.now) at }
+/// ```
+///
+/// [How to read a contract](crate::contracts)
+///
+/// </details>
+#[must_use]
+#[inline]
+pub fn is_boundary(text: &str, at: usize) -> bool {
+    text.is_char_boundary(at)
+}
+
+/// Returns the longest prefix of whole characters of `text` that takes at most `size` bytes,
+/// borrowed from the text.
+///
+/// # Examples
+///
+/// ```
+/// use arraystring::utils;
+///
+/// assert_eq!(utils::truncate_str("aéb", 3), "aé");
+/// assert_eq!(utils::truncate_str("aéb", 2), "a"); // the index 2 is inside `é`
+/// assert_eq!(utils::truncate_str("aéb", 9), "aéb");
+/// ```
+///
+/// <details><summary>Contract</summary>
+///
+/// ```text
+/// ensures { result.now ≡ bytes (cut (chars text.now) size) }
+/// ```
+///
+/// [How to read a contract](crate::contracts)
+///
+/// </details>
+#[must_use]
+#[inline]
+pub fn truncate_str(text: &str, size: u8) -> &str {
+    let limit = size as usize;
+    if text.len() <= limit {
+        return text;
+    }
+    // SAFETY: `limit < text.len()`: by the test above.
+    let end = unsafe { last_boundary(text, limit) };
+    // SAFETY: this is within: `last_boundary` returns a boundary of `text`.
+    unsafe { get_unchecked!(text, ..end) }
+}
+
+/// The last boundary that is not past `limit`.
+///
+/// # Safety
+///
+/// - `limit < text.len()`
+#[inline]
+unsafe fn last_boundary(text: &str, limit: usize) -> usize {
+    let all = text.as_bytes();
+    let mut end = limit;
+    // At most three bytes continue a character. The bound is for the compiler, which unrolls the loop.
+    // SAFETY: `end < all.len()`: `end` is at most `limit`, which is below `text.len()` by this function's `# Safety`.
+    while end > 0 && continues(*unsafe { get_unchecked!(all, end) }) && limit - end < 3 {
+        end -= 1;
+    }
+    end
+}
+
+/// Whether a byte continues a character that began before it.
+#[inline]
+fn continues(byte: u8) -> bool {
+    matches!(byte, 0x80..=0xBF)
+}
+
+/// Returns the index at which the last character of `text` begins, and that character. Returns `None` if the
+/// text is empty.
+#[inline]
+pub(crate) fn last_char(text: &str) -> Option<(usize, char)> {
+    if text.is_empty() {
+        return None;
+    }
+    // SAFETY: `0 < text.len()`: the test above returned for an empty text.
+    let (start, ch) = unsafe { char_before_end(text) };
+    Some((start, ch))
+}
+
+/// The last character of a text that has one, and where it begins. The bytes are read from the end
+/// back to the one that does not continue a character.
+///
+/// # Safety
+///
+/// - `0 < text.len()`
+#[inline]
+unsafe fn char_before_end(text: &str) -> (usize, char) {
+    let all = text.as_bytes();
+    let end = all.len();
+    // SAFETY: `end - 1 < all.len()`: `end` is `all.len()`, which is above 0 by this function's `# Safety`.
+    let last = *unsafe { get_unchecked!(all, end - 1) } as u32;
+    if last < 0x80 {
+        // SAFETY: a number below 0x80 is a scalar value.
+        return (end - 1, unsafe { char::from_u32_unchecked(last) });
+    }
+    // SAFETY: `end - 2 < all.len()`: the last byte is not ASCII, so its character has one more before it.
+    let second = *unsafe { get_unchecked!(all, end - 2) } as u32;
+    if second >= 0xC0 {
+        let code = (second - 0xC0) * 64 + (last - 0x80);
+        // SAFETY: the bytes of a `&str` are UTF-8. `second` begins a character and `last` continues it, so `code` is
+        // its number, a scalar value.
+        return (end - 2, unsafe { char::from_u32_unchecked(code) });
+    }
+    // SAFETY: `end - 3 < all.len()`: the last two bytes only continue a character, so it has one more before them.
+    let third = *unsafe { get_unchecked!(all, end - 3) } as u32;
+    if third >= 0xC0 {
+        let code = (third - 0xE0) * 4096 + (second - 0x80) * 64 + (last - 0x80);
+        // SAFETY: the bytes of a `&str` are UTF-8. `third` begins a character and the two behind it continue it, so
+        // `code` is its number, a scalar value.
+        return (end - 3, unsafe { char::from_u32_unchecked(code) });
+    }
+    // SAFETY: `end - 4 < all.len()`: the last three bytes only continue a character, so it has one more before them.
+    let fourth = *unsafe { get_unchecked!(all, end - 4) } as u32;
+    let front = (fourth - 0xF0) * 262_144 + (third - 0x80) * 4096;
+    let code = front + (second - 0x80) * 64 + (last - 0x80);
+    // SAFETY: the bytes of a `&str` are UTF-8. `fourth` begins a character, since none has more than four bytes, and
+    // the three behind it continue it, so `code` is its number, a scalar value.
+    (end - 4, unsafe { char::from_u32_unchecked(code) })
+}
+
+/// Writes the UTF-8 of `ch` into the array, starting at the offset `at`, and returns the number of
+/// bytes that it takes. No other byte changes.
+///
+/// # Safety
+///
+/// What is written must lie in the array.
+///
+/// # Examples
+///
+/// ```
+/// use arraystring::utils;
+///
+/// let mut array = *b"a__d";
+/// // SAFETY: `é` takes two bytes, and there are three from offset 1 on.
+/// let len = unsafe { utils::encode('é', &mut array, 1) };
+/// assert_eq!((len, &array), (2, b"a\xC3\xA9d"));
+/// ```
+///
+/// <details><summary>Contract</summary>
+///
+/// ```text
+/// requires { at + width ch ≤ N }
+/// ensures width { result ≡ width ch }
+/// ensures bytes { array.new ≡ take at array.old ++ (utf8 ch ++ drop (at + width ch) array.old) }
+/// ```
+///
+/// [How to read a contract](crate::contracts)
+///
+/// </details>
+#[expect(clippy::cast_possible_truncation, reason = "by the tests of `code` each is a byte of UTF-8")]
+#[inline(always)]
+pub unsafe fn encode<const N: usize>(ch: char, array: &mut [u8; N], at: usize) -> usize {
+    required!(at <= N && ch.len_utf8() <= N - at);
+    let code = ch as u32;
+    let all = &mut array[..];
+    if code < 0x80 {
+        // SAFETY: this is within: by this function's `# Safety`, since `ch` takes as many bytes as are written.
+        *unsafe { get_unchecked_mut!(all, at) } = code as u8;
+        1
+    } else if code < 0x800 {
+        let first = (0xC0 + code / 64) as u8;
+        let second = (0x80 + code % 64) as u8;
+        // SAFETY: this is within: by this function's `# Safety`, since `ch` takes as many bytes as are written.
+        unsafe { copy_from_slice_unchecked!(all, at..at + 2, &[first, second]) };
+        2
+    } else if code < 0x1_0000 {
+        let first = (0xE0 + code / 4096) as u8;
+        let second = (0x80 + code / 64 % 64) as u8;
+        let third = (0x80 + code % 64) as u8;
+        // SAFETY: this is within: by this function's `# Safety`, since `ch` takes as many bytes as are written.
+        unsafe { copy_from_slice_unchecked!(all, at..at + 3, &[first, second, third]) };
+        3
+    } else {
+        let first = (0xF0 + code / 262_144) as u8;
+        let second = (0x80 + code / 4096 % 64) as u8;
+        let third = (0x80 + code / 64 % 64) as u8;
+        let fourth = (0x80 + code % 64) as u8;
+        // SAFETY: this is within: by this function's `# Safety`, since `ch` takes as many bytes as are written.
+        unsafe { copy_from_slice_unchecked!(all, at..at + 4, &[first, second, third, fourth]) };
+        4
+    }
+}
+
+/// Returns the text whose UTF-8 is `given`, or `Err(Utf8)` if `given` is not well-formed.
+///
+/// <details><summary>Contract</summary>
+///
+/// ```text
+/// ensures { MatchResult result (λ string. (string.now ≡ given.now) × IsUtf8 given.now) (λ _. ¬ (IsUtf8 given.now)) }
+/// ```
+///
+/// [How to read a contract](crate::contracts)
+///
+/// </details>
+#[inline]
+pub(crate) fn read_utf8(given: &[u8]) -> Result<&str, Utf8> {
+    let (blocks, last) = (given.len() / 32 * 32, given.len().saturating_sub(32));
+    // SAFETY: this is within: `blocks` is at most `given.len()`, and so is `last`.
+    if unsafe { get_unchecked!(given, ..blocks) }.is_ascii() && unsafe { get_unchecked!(given, last..) }.is_ascii() {
+        // SAFETY: the blocks of 32 bytes in front and the last 32 bytes are all of them, and ASCII is UTF-8.
+        return Ok(unsafe { str::from_utf8_unchecked(given) });
+    }
+    str::from_utf8(given).map_err(Utf8::from)
+}
