@@ -1,0 +1,258 @@
+//! Holds each item of the Rust crate beside that of its source.
+
+use std::collections::{BTreeMap, BTreeSet};
+
+use crate::differences::{self, Block, Says, apply};
+use crate::docs;
+use crate::items::{Item, items};
+use crate::lexer::{Fault, Token, line};
+use crate::rules::{Rules, runs_code};
+
+/// Each file that is read, by its path in the repository.
+pub type Tree = BTreeMap<String, String>;
+
+/// Where the sources are, and the Rust.
+pub const SOURCES: [&str; 3] =
+    ["crates/arraystring_base/src/", "crates/arraystring_core/src/", "crates/arraystring/src/"];
+pub const RUST: &str = "rust/arraystring/src/";
+
+const HEAD: &str = "// Proved sources: ";
+const BY_HAND: &str = "// By hand: no proof stands behind this file.";
+
+/// What was found.
+#[derive(Default)]
+pub struct Report {
+    pub faults: Vec<Fault>,
+    pub same: usize,
+    pub by_entry: usize,
+    pub only_in_the_source: usize,
+    pub only_in_rust: usize,
+}
+
+/// An item as it is read, and as the rules leave it.
+pub struct Ruled {
+    pub item: Item,
+    /// A source as it would stand in Rust.
+    pub printed: Vec<Token>,
+    tokens: Vec<Token>,
+    /// Whether it is the counted form of a call: `pop_counted`.
+    is_counted: bool,
+}
+
+impl Ruled {
+    /// Whether a source only calls its counted form, as `pop` does: the body of that is the one that Rust has.
+    pub fn only_counts(&self) -> bool {
+        let name = self.item.path.rsplit("::").next().unwrap_or("");
+        let body = self.printed.iter().position(|token| token.is("{")).unwrap_or(0);
+        let is_named = |pair: &&[Token]| pair[1].is(":") && pair[0].text.starts_with(char::is_lowercase);
+        let names: Vec<&str> = self.printed[..body].windows(2).filter(is_named).map(|pair| &*pair[0].text).collect();
+        let called: String = self.printed[body..].iter().map(|token| &*token.text).collect();
+        let counted = format!("{name}_counted");
+        let is_counting = self.item.tokens.iter().any(|token| *token.text == *counted);
+        is_counting && called.replace("self.", "").replace(';', "") == format!("{{{name}({})}}", names.join(","))
+    }
+}
+
+/// Reads the sources.
+pub fn sources(tree: &Tree, rules: &Rules) -> Result<Vec<Ruled>, Fault> {
+    let mut all: Vec<Ruled> = Vec::new();
+    for (name, text) in tree.iter().filter(|(name, _)| SOURCES.iter().any(|folder| name.starts_with(folder))) {
+        for mut item in items(name, text)? {
+            let is_counted = item.path.ends_with("_counted");
+            item.path = item.path.trim_end_matches("_counted").to_string();
+            item.contract.retain(|clause| !clause.contains("steps."));
+            let printed = rules.as_rust(&item.tokens);
+            all.push(Ruled { tokens: rules.of_both(&printed), item, printed, is_counted });
+        }
+    }
+    Ok(all)
+}
+
+/// The sources that a file of Rust names in its first lines, or none of a file by hand.
+fn named_sources(name: &str, text: &str) -> Result<Vec<String>, Fault> {
+    let fault = |what: String| Fault { file: name.to_string(), line: 1, what };
+    if text.lines().next() == Some(BY_HAND) {
+        return Ok(Vec::new());
+    }
+    let Some(first) = text.strip_prefix(HEAD) else {
+        return Err(fault(format!("the first line is neither `{HEAD}..` nor `{BY_HAND}`")));
+    };
+    let mut list = String::new();
+    for line in first.lines() {
+        list.push_str(line.trim_start_matches("//").trim());
+        if !list.ends_with(',') {
+            break;
+        }
+    }
+    Ok(list.split(',').map(|path| path.trim().to_string()).collect())
+}
+
+/// One comparison, as far as it went.
+struct Comparison<'a> {
+    sources: Vec<Ruled>,
+    blocks: &'a [Block],
+    /// Which sources were found, and which paths of which blocks were used.
+    found: BTreeSet<usize>,
+    used: BTreeSet<(usize, String)>,
+    report: Report,
+}
+
+/// Compares a tree.
+pub fn compare(tree: &Tree) -> Report {
+    match compared(tree) {
+        Ok(report) => report,
+        Err(fault) => Report { faults: vec![fault], ..Report::default() },
+    }
+}
+
+fn compared(tree: &Tree) -> Result<Report, Fault> {
+    let blocks = differences::read(tree.get(differences::NAME).map_or("", String::as_str))?;
+    let (rules, found, used) = (Rules::new(), BTreeSet::new(), BTreeSet::new());
+    let mut all =
+        Comparison { sources: sources(tree, &rules)?, blocks: &blocks, found, used, report: Report::default() };
+    for (name, text) in tree.iter().filter(|(name, _)| name.starts_with(RUST)) {
+        let named = named_sources(name, text)?;
+        if let Some(missing) = named.iter().find(|named| !tree.contains_key(*named)) {
+            return Err(Fault { file: name.clone(), line: 1, what: format!("there is no source `{missing}`") });
+        }
+        for item in items(name, text)? {
+            let rust = Ruled { tokens: rules.of_rust(&item.tokens), item, printed: Vec::new(), is_counted: false };
+            all.keeps_tests(&rust);
+            if !named.is_empty() {
+                all.item(&rust, &named);
+            }
+        }
+    }
+    all.rest();
+    Ok(all.report)
+}
+
+impl Comparison<'_> {
+    fn fault(&mut self, item: &Item, what: String) {
+        self.report.faults.push(Fault { file: item.file.clone(), line: item.line, what });
+    }
+
+    /// The block that says one thing of a path.
+    fn block(&mut self, path: &str, is_meant: fn(&Says) -> bool) -> Option<usize> {
+        let at = self
+            .blocks
+            .iter()
+            .position(|block| is_meant(&block.says) && block.paths.iter().any(|other| other == path))?;
+        self.used.insert((at, path.to_string()));
+        Some(at)
+    }
+
+    /// What runs a caller's code has no `unsafe` block, and so no access without a test.
+    fn keeps_tests(&mut self, rust: &Ruled) {
+        let is_unsafe = rust.item.tokens.windows(2).any(|pair| pair[0].is("unsafe") && pair[1].is("{"));
+        let runs = rust.item.tokens.iter().any(|token| token.is("fn")) && runs_code(&rust.tokens, &rust.item.around);
+        if is_unsafe && runs && self.block(&rust.item.path, |says| *says == Says::Unsafe).is_none() {
+            let what = format!("`{}` runs a caller's code, and has an `unsafe` block", rust.item.path);
+            self.fault(&rust.item, what);
+        }
+    }
+
+    /// Holds an item of Rust beside its source, which is in one of some files.
+    fn item(&mut self, rust: &Ruled, named: &[String]) {
+        let path = &rust.item.path;
+        let is_like = |source: &Ruled| source.item.path == *path && named.contains(&source.item.file);
+        let like: Vec<usize> = (0..self.sources.len()).filter(|at| is_like(&self.sources[*at])).collect();
+        self.found.extend(&like);
+        match like.iter().find(|at| !self.sources[**at].only_counts()) {
+            Some(&body) => {
+                self.tokens(rust, body);
+                self.promises(rust, &like, body);
+            }
+            None if self.block(path, |says| *says == Says::OnlyInRust).is_some() => self.report.only_in_rust += 1,
+            None => self.fault(&rust.item, format!("`{path}` is only in Rust")),
+        }
+    }
+
+    /// Compares what an item says with what its source says, and what it requires.
+    fn promises(&mut self, rust: &Ruled, like: &[usize], body: usize) {
+        let path = &rust.item.path;
+        let all = || like.iter().map(|at| &self.sources[*at]);
+        let is_one = all().all(|other| other.only_counts() || other.tokens == self.sources[body].tokens);
+        let said = all().find(|source| !source.is_counted).unwrap_or(&self.sources[body]);
+        let requires = said.item.contract.iter().any(|clause| clause.starts_with("requires"));
+        let is_unsafe = rust.item.tokens.windows(2).any(|pair| pair[0].is("unsafe") && pair[1].is("fn"));
+        if let Some(what) = docs::compare(&said.item, &rust.item) {
+            self.fault(&rust.item, format!("`{path}`: {what}"));
+        }
+        if !is_one {
+            self.fault(&rust.item, format!("`{path}` has two sources, which differ"));
+        }
+        if requires && !is_unsafe && self.block(path, |says| *says == Says::Safe).is_none() {
+            self.fault(&rust.item, format!("`{path}` is no `unsafe fn`, and its source requires something"));
+        }
+    }
+
+    /// Compares the tokens of an item, and those of its entries.
+    fn tokens(&mut self, rust: &Ruled, source: usize) {
+        let path = &rust.item.path;
+        let block = self.block(path, |says| matches!(says, Says::Differs(_)));
+        let source = &self.sources[source];
+        let pairs = block.map(|at| &self.blocks[at].says);
+        let made = match pairs {
+            Some(Says::Differs(pairs)) => apply(&source.tokens, pairs),
+            _ => Ok(source.tokens.clone()),
+        };
+        match made {
+            Ok(made) if made == rust.tokens && block.is_some() => self.report.by_entry += 1,
+            Ok(made) if made == rust.tokens => self.report.same += 1,
+            Ok(made) => {
+                let what = difference(&source.item, &made, rust);
+                self.fault(&rust.item, what);
+            }
+            Err(what) => {
+                let line = block.map_or(0, |at| self.blocks[at].line);
+                self.report.faults.push(differences::fault(line, format!("`{path}`: {what}")));
+            }
+        }
+    }
+
+    /// What no item of Rust was like, and the entries that fitted nothing.
+    fn rest(&mut self) {
+        for at in 0..self.sources.len() {
+            let (file, path) = (self.sources[at].item.file.clone(), self.sources[at].item.path.clone());
+            let is_alone = |says: &Says| *says == Says::OnlyInTheSource;
+            if self.found.contains(&at) || self.sources[at].only_counts() {
+                continue;
+            }
+            if self.block(&path, is_alone).is_some() || self.block(&file, is_alone).is_some() {
+                self.report.only_in_the_source += 1;
+            } else {
+                let item = self.sources[at].item.clone();
+                self.fault(&item, format!("`{path}` is only in the source"));
+            }
+        }
+        for (at, block) in self.blocks.iter().enumerate() {
+            for path in block.paths.iter().filter(|path| !self.used.contains(&(at, (*path).clone()))) {
+                self.report.faults.push(differences::fault(block.line, format!("`{path}` fits nothing")));
+            }
+        }
+    }
+}
+
+/// Where two items differ, with the tokens that an entry would have.
+fn difference(source: &Item, from: &[Token], rust: &Ruled) -> String {
+    let to = &rust.tokens;
+    let same = from.iter().zip(to).take_while(|(one, other)| one == other).count();
+    let behind = from.iter().rev().zip(to.iter().rev()).take_while(|(one, other)| one == other).count();
+    let behind = behind.min(from.len() - same).min(to.len() - same);
+    let (mut start, mut end) = (same, behind);
+    let stands = |tokens: &[Token]| from.windows(tokens.len().max(1)).filter(|part| *part == tokens).count();
+    while stands(&from[start..from.len() - end]) != 1 && (start > 0 || end > 0) {
+        (start, end) = (start.saturating_sub(1), end.saturating_sub(1));
+    }
+    let place = |tokens: &[Token], line: usize| tokens.get(same).map_or(line, |token| token.line);
+    format!(
+        "`{}` differs, here at line {}, and at {}:{}\n    source: {}\n    rust: {}",
+        source.path,
+        place(to, rust.item.line),
+        source.file,
+        place(from, source.line),
+        line(&from[start..from.len() - end]),
+        line(&to[start..to.len() - end]),
+    )
+}

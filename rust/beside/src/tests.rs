@@ -1,0 +1,510 @@
+use std::collections::BTreeMap;
+use std::path::Path;
+
+use crate::compare::{RUST, Tree, compare};
+use crate::items::{Item, items};
+use crate::lexer::scan;
+use crate::rules::Rules;
+use crate::{differences, print, read, run};
+
+const SOURCE: &str = "crates/arraystring_base/src/a.rt";
+
+/// A tree of one source, one file of Rust and a file of differences.
+fn tree(source: &str, rust: &str, differences: &str) -> Tree {
+    let rust = format!("// Proved sources: {SOURCE}\n{rust}");
+    let files = [(SOURCE, source.to_string()), ("rust/arraystring/src/a.rs", rust)];
+    let mut tree: Tree = files.into_iter().map(|(name, text)| (name.to_string(), text)).collect();
+    tree.insert(differences::NAME.to_string(), differences.to_string());
+    tree
+}
+
+fn faults(tree: &Tree) -> String {
+    compare(tree).faults.iter().map(|fault| format!("{fault}\n")).collect()
+}
+
+/// Each row of Rust is its source.
+fn same(pairs: &[(&str, &str)]) {
+    for (source, rust) in pairs {
+        assert_eq!(faults(&tree(source, rust, "")), "", "{source} and {rust}");
+    }
+}
+
+/// Each row of Rust is not its source.
+fn differ(pairs: &[(&str, &str)]) {
+    for (source, rust) in pairs {
+        assert_ne!(faults(&tree(source, rust, "")), "", "{source} and {rust}");
+    }
+}
+
+/// What is told of a tree has some words.
+fn tells(tree: &Tree, words: &str) {
+    let told = faults(tree);
+    assert!(told.contains(words), "{told}");
+}
+
+#[test]
+fn ghost_parts_go() {
+    same(&[
+        ("fn f() requires a { b < \"c\" } ensures { d } { g() }", "unsafe fn f() { g() }"),
+        ("ghost use a.b; ghost c = { λ d. d };\nfn f() {}", "fn f() {}"),
+        ("impl Model for A { ghost a = { b }; }\nfn f() {}", "fn f() {}"),
+        ("impl B for A { ghost a = { b }; fn f() {} }", "impl B for A { fn f() {} }"),
+        ("fn f<F: Fn() + Drop>(a: F) {}", "fn f<F: Fn()>(a: F) {}"),
+        ("fn f() { prove!(a < b); g() }", "fn f() { g() }"),
+        ("fn f() { text_fits(self); only_reading(units); g() }", "fn f() { g() }"),
+        ("#[tactic(auto, using(a))] #[derive(Drop)] struct A;", "struct A;"),
+    ]);
+    differ(&[
+        ("fn f() { prove!(a == { b }); }", "fn f() {}"),
+        ("fn f() { prove!(a = b); }", "fn f() {}"),
+        ("fn f() { prove!(g(&mut a)); }", "fn f() {}"),
+        ("fn f() { prove!(self.pop()); }", "fn f() {}"),
+        ("fn f() { other(self); }", "fn f() {}"),
+    ]);
+}
+
+#[test]
+fn the_counter_goes() {
+    same(&[
+        ("fn f(a: u8, steps: &mut Steps) { g(a, steps); h(a, &mut Steps::new(), b) }", "fn f(a: u8) { g(a); h(a, b) }"),
+        ("fn f(a: u8, mut steps: Steps) { g(a, *steps, &mut steps, Steps::new(),) }", "fn f(a: u8) { g(a) }"),
+        ("fn f() { look(a.b, c + 1, steps) }", "fn f() { a.b[c + 1] }"),
+        ("fn f() { look(*a, c, steps) }", "fn f() { (*a)[c] }"),
+        ("fn f() { f_counted(&mut Steps::new()) } fn f_counted() { g_counted() }", "fn f() { g() }"),
+        (
+            "impl A { fn f(a: u8) { self.f_counted(a, &mut Steps::new()); } fn f_counted(a: u8) { b } }",
+            "impl A { fn f(a: u8) { b } }",
+        ),
+    ]);
+    differ(&[
+        ("fn f() { look(*a, c, steps) }", "fn f() { *a[c] }"),
+        ("fn f(a: u8) { f_counted(b, &mut Steps::new()) } fn f_counted(a: u8) { c }", "fn f(a: u8) { c }"),
+        ("fn f() { g() } fn f_counted() { h() }", "fn f() { g() }"),
+    ]);
+}
+
+#[test]
+fn what_changes_no_result_goes() {
+    same(&[
+        ("#[inline] fn f() {}", "#[must_use] #[inline(always)] #[track_caller] #[doc(alias = \"g\")] fn f() {}"),
+        ("#[cold] fn f() {}", "#[expect(clippy::a, reason = \"b\")] fn f() {}"),
+        ("fn f(\n    a: u8,\n) { [1, 2,]; A { b, } }", "fn f(a: u8) { [1, 2]; A { b } }"),
+        ("use a::b; pub fn f() {}", "use c::d; pub(crate) fn f() {}"),
+        ("fn f() {}", "// a\n/* /* b */ */ fn f() { /* c */ }"),
+        ("struct A {\n    /// b\n    c: u8,\n}", "struct A { c: u8 }"),
+        ("mod a;\nfn f() {}", "mod b { fn f() {} }\n#[cfg(test)] mod tests { fn g() {} }"),
+    ]);
+    differ(&[
+        ("fn f() {}", "#[cfg(a)] fn f() {}"),
+        ("fn f() {}", "#[cfg(a)] mod b { fn f() {} }"),
+        ("struct A;", "#[repr(C)] struct A;"),
+        ("struct A { a: u8 }", "struct A { pub a: u8 }"),
+        ("fn f() { 1 }", "fn f() { 1u8 }"),
+        ("fn f() { a < b }", "fn f() { a <= b }"),
+        ("fn f() { \"a\" }", "fn f() { \"b\" }"),
+    ]);
+}
+
+#[test]
+fn unsafe_blocks_and_functions_go() {
+    same(&[
+        ("fn f() requires { a } { g() }", "unsafe fn f() { unsafe { g() } }"),
+        ("fn f() { let a = g().b + 1; h(-c) }", "fn f() { let a = unsafe { g() }.b + 1; h(unsafe { -c }) }"),
+        ("fn f() { (a + b).c() }", "fn f() { unsafe { a + b }.c() }"),
+        ("fn f() { g::<1>(a); }", "fn f() { unsafe { g::<1>(a) }; }"),
+        ("fn f() { unsafe { g() } }", "fn f() { unsafe { g() } }"),
+    ]);
+    differ(&[
+        ("fn f() { a + b.c() }", "fn f() { unsafe { a + b }.c() }"),
+        ("fn f() { a + b * c }", "fn f() { unsafe { a + b } * c }"),
+        ("fn f() { g(); h() }", "fn f() { unsafe { g(); h() } }"),
+        ("fn f() { g() }", "fn f() { unsafe { g(); } }"),
+    ]);
+    tells(&tree("fn f() requires { a } {}", "fn f() {}", ""), "a.rs:2: `f` is no `unsafe fn`, and its source requires");
+}
+
+#[test]
+fn accesses_have_their_tests_again() {
+    same(&[
+        ("fn f() { a[i] as u32 }", "fn f() { *unsafe { get_unchecked!(a, i) } as u32 }"),
+        ("fn f() { a[i] = b }", "fn f() { *unsafe { get_unchecked_mut!(a, i) } = b }"),
+        ("fn f() { g(&a[i..], &mut a.b[1..]) }", "fn f() { g(get_unchecked!(a, i..), get_unchecked_mut!(a.b, 1..)) }"),
+        ("fn f() { a[i..].len() }", "fn f() { unsafe { get_unchecked!(a, i..) }.len() }"),
+        ("fn f() { (*a)[i].g() }", "fn f() { get_unchecked_mut!(*a, i).g() }"),
+        ("fn f() { a[b[1]] }", "fn f() { *get_unchecked!(a, *get_unchecked!(b, 1)) }"),
+        ("fn f() { a[1..2].copy_from_slice(&b) }", "fn f() { unsafe { copy_from_slice_unchecked!(a, 1..2, &b) } }"),
+        ("fn f() { unreachable!() }", "fn f() { unsafe { unreachable_unchecked!() } }"),
+    ]);
+    differ(&[
+        ("fn f() { a[i].g() }", "fn f() { *get_unchecked!(a, i).g() }"),
+        ("fn f() { *a[i] }", "fn f() { *get_unchecked!(*a, i) }"),
+        ("fn f() { a[i] }", "fn f() { *get_unchecked!(a, j) }"),
+        ("fn f() { a[i] }", "fn f() { get_unchecked!(a, i) }"),
+        ("fn f() { a[i] }", "fn f() { *other_unchecked!(a, i) }"),
+        ("fn f() { a[1] }", "fn f() { *get_unchecked!(a, 1)[2] }"),
+    ]);
+}
+
+#[test]
+fn what_is_asked_once_is_what_was_given() {
+    same(&[
+        ("fn f(a: &str) -> u8 { a.len() }", "fn f<S: AsRef<str>>(a: S) -> u8 { let a = a.as_ref(); a.len() }"),
+        ("fn f(a: &[u16]) { g(a) }", "fn f<B: AsRef<[u16]>>(a: B) { let a = a.as_ref(); g(a) }"),
+        (
+            "fn f<R: A<u8>>(&mut self, r: R, a: &str) {}",
+            "fn f<S: AsRef<str>, R: A<u8>>(&mut self, r: R, a: S) { let a = a.as_ref(); }",
+        ),
+        (
+            "fn f<'a, I: IntoIterator<Item = &'a str>>(all: I) { for a in all { g(a) } }",
+            "fn f<U: AsRef<str>, I: IntoIterator<Item = U>>(all: I) { for a in all { let a = a.as_ref(); g(a) } }",
+        ),
+    ]);
+    differ(&[
+        ("fn f(a: &str) { g(); h(a) }", "fn f<S: AsRef<str>>(a: S) { g(); let a = a.as_ref(); h(a) }"),
+        ("fn f(a: &str) { h(a) }", "fn f<S: AsRef<str>>(a: S) { h(a.as_ref()) }"),
+        ("fn f(a: &str, b: &str) {}", "fn f<S: AsRef<str>>(a: S, b: S) { let b = b.as_ref(); }"),
+        ("fn f(a: &str) {}", "fn f<S: AsRef<[u8]>>(a: S) { let a = a.as_ref(); }"),
+        ("fn f(a: &str) {}", "fn f<S: Into<str>>(a: S) { let a = a.as_ref(); }"),
+    ]);
+}
+
+#[test]
+fn a_formatter_has_no_type_of_its_own_and_what_is_required_is_no_step() {
+    same(&[
+        ("fn fmt<W: fmt::Write>(f: &mut fmt::Formatter<W>) {}", "fn fmt(f: &mut fmt::Formatter<'_>) {}"),
+        ("fn f() {}", "fn f() { required!(a < b); required_of_each!(c fits d); }"),
+    ]);
+    differ(&[
+        ("fn f() {}", "fn f() { required!({ a = b; true }); }"),
+        ("fn f() {}", "fn f() { required!(g(&mut a)); }"),
+        ("fn f() {}", "fn f() { assert!(a); }"),
+    ]);
+}
+
+/// A path has the type and the trait of its impl, and no lifetime.
+#[test]
+fn an_item_is_held_beside_that_of_its_path() {
+    let source = "impl<'a, const N: usize> From<&'a str> for A<N> { fn f() { 1 } }\nimpl<const N: usize> A<N> { fn f() { 2 } }\nfn f() { 3 }";
+    let rust = source.replace('3', "4").replace('2', "5").replace('1', "6");
+    let told = faults(&tree(source, &rust, ""));
+    for path in ["`A as From<&str>::f` differs", "`A::f` differs", "`f` differs"] {
+        assert!(told.contains(path), "{told}");
+    }
+    tells(&tree("impl<const N: usize> A<N> {}", "impl A<3> {}", ""), "`impl A` differs");
+    tells(&tree("struct A;", "enum A {}", ""), "`A` differs");
+    tells(
+        &tree("\nfn f() {\n    g(1)\n}", "\n\nfn f() {\n    g(2)\n}", ""),
+        "a.rs:4: `f` differs, here at line 5, and at crates/arraystring_base/src/a.rt:3",
+    );
+    tells(&tree("", "static A: u8 = 1;", ""), "`A` is only in Rust");
+    tells(&tree("const A: u8 = 1;", "", ""), "a.rt:1: `A` is only in the source");
+}
+
+#[test]
+fn a_file_says_where_its_sources_are() {
+    let mut files = tree("fn f() {}", "fn f() {}", "");
+    let rust = "rust/arraystring/src/a.rs".to_string();
+    files.insert(rust.clone(), "fn f() {}".to_string());
+    tells(&files, "the first line is neither");
+    files.insert(rust.clone(), "// Proved sources: crates/b.rt\n".to_string());
+    tells(&files, "there is no source `crates/b.rt`");
+    files.insert("crates/arraystring_base/src/b.rt".to_string(), "fn g() {}".to_string());
+    files.insert(
+        rust.clone(),
+        format!("// Proved sources: {SOURCE},\n// crates/arraystring_base/src/b.rt\nfn f() {{}} fn g() {{}}"),
+    );
+    assert_eq!(faults(&files), "");
+    files.insert(format!("{RUST}c.rs"), "// By hand: no proof stands behind this file.\nfn h() {}".to_string());
+    assert_eq!(faults(&files), "");
+}
+
+#[test]
+fn each_kind_of_entry_is_used_or_fails() {
+    let because = "    why: because\n";
+    let pair = ("fn f() { g(1) + g(2) } fn h() {}", "fn f() { i(1) + 3 } fn j() {}");
+    let entry = "f\n    source: g(1)\n    rust: i(1)\n    source: + g(2)\n    rust: +\n        3\n";
+    let alone = "only in the source: h\nonly in Rust: j\n";
+    assert_eq!(faults(&tree(pair.0, pair.1, &format!("# a remark\n{entry}{alone}{because}"))), "");
+    let wrong = [
+        (entry.replace("g(1)", "g(3)"), "`f`: `g(3)` stands 0 times in the source"),
+        (entry.replace("source: g(1)", "source: g"), "`f`: `g` stands 2 times in the source"),
+        (entry.replace("i(1)", "i(2)"), "`f` differs"),
+        (entry.replace("+ g(2)", "(1) + g(2)"), "two entries for the same tokens"),
+        (entry.replace("i(1)", "g(1)"), "an entry that says nothing"),
+        (format!("f\n{because}"), "this has no `source`"),
+        (format!("{entry}{because}k\n    source: a\n    rust: b\n"), "`k` fits nothing"),
+        (format!("{entry}    why:\n"), "a `why` that says nothing"),
+        (format!("    source: a\n{entry}"), "a `source` of nothing"),
+        (format!("    other\n{entry}"), "this belongs to nothing"),
+        (entry.replace("f\n", "unsafe: f\n"), "a `source` of nothing"),
+    ];
+    for (text, words) in wrong {
+        tells(&tree(pair.0, pair.1, &format!("{text}{alone}{because}")), words);
+    }
+    tells(&tree("", "", "only in Rust: a\n"), "this has no `why`");
+    tells(&tree("", "", &format!("only in Rust: a\n{because}{because}")), "a `why` of nothing");
+    for kind in ["only in the source", "only in Rust", "unsafe", "safe"] {
+        tells(&tree("fn a() {}", "fn a() {}", &format!("{kind}: a\n{because}")), "`a` fits nothing");
+    }
+    assert_eq!(faults(&tree("fn a() {} struct B;", "", &format!("only in the source: {SOURCE}\n{because}"))), "");
+    assert_eq!(faults(&tree("fn a() requires { b } {}", "fn a() {}", &format!("safe: a\n{because}"))), "");
+}
+
+/// Code of a caller may do anything, so no access stands beside it without a test.
+#[test]
+fn what_runs_a_callers_code_has_no_unsafe_block() {
+    let body = "{ unsafe { g() } }";
+    let heads = [
+        "fn f<T: B>(a: T)",
+        "fn f<T>(a: T)",
+        "fn f<'a, const N: usize, T: B>()",
+        "fn f(a: impl B)",
+        "fn f(a: &dyn B)",
+        "fn f(a: fn(u8) -> u8)",
+        "fn f(a: &mut fmt::Formatter<'_>)",
+    ];
+    for head in heads {
+        let text = format!("{head} {body}");
+        tells(&tree(&text, &text, ""), "`f` runs a caller's code, and has an `unsafe` block");
+        assert_eq!(faults(&tree(&text, &text, "unsafe: f\n    why: because\n")), "");
+        assert_eq!(faults(&tree(&format!("{head} {{ g() }}"), &format!("{head} {{ g() }}"), "")), "");
+    }
+    let around = format!("impl<T: B> A<T> {{ fn f() {body} }}");
+    tells(&tree(&around, &around, ""), "`A::f` runs a caller's code");
+    let asked = ("fn f(a: &str) { g() }", "fn f<S: AsRef<str>>(a: S) { let a = a.as_ref(); unsafe { g() } }");
+    same(&[("fn f<const N: usize>(a: [u8; N]) { g() }", "fn f<const N: usize>(a: [u8; N]) { unsafe { g() } }"), asked]);
+    let mut by_hand = tree("", "", "");
+    let text = format!("// By hand: no proof stands behind this file.\nfn f<T: B>(a: T) {body}");
+    by_hand.insert(format!("{RUST}c.rs"), text);
+    tells(&by_hand, "c.rs:2: `f` runs a caller's code");
+}
+
+/// Documentation of a public call, with a contract, a first sentence and an error.
+fn documented(contract: &str, first: &str, errors: &str) -> String {
+    let block = format!("/// <details><summary>Contract</summary>\n///\n/// ```text\n/// {contract}\n/// ```\n");
+    format!(
+        "/// {first} More.\n///\n/// # Errors\n///\n/// {errors}\n///\n/// # Examples\n///\n/// none\n///\n{block}pub fn f() {{}}"
+    )
+}
+
+#[test]
+fn documentation_of_a_public_call_is_that_of_its_source() {
+    let source = "/// Does `a`.\n///\n/// # Errors\n///\n/// Returns `Err(B)` if c.\npub fn f() ensures { d-e ≡\n    // a remark\n    f } {}";
+    let (contract, first, errors) = ("ensures { d-e ≡ f }", "Does `a`.", "Returns `Err(B)` if c.");
+    let good = [
+        documented(contract, first, errors),
+        documented(contract, "Does [`a`](crate::a).", "Returns [`Err(B)`](crate::B) if c. Else it does not return."),
+        format!("/// Other words.\n{}", "fn f() {}"),
+    ];
+    for rust in good {
+        assert_eq!(faults(&tree(source, &rust, "")), "", "{rust}");
+    }
+    let bad = [
+        (documented("ensures { d - e ≡ f }", first, errors), "the contract says other words"),
+        (documented("ensures { d-e ≡ f } ensures { g }", first, errors), "the contract says other words"),
+        (documented(contract, "Does `b`.", errors), "the documentation begins with"),
+        (documented(contract, first, "Returns `Err(C)` if c."), "the errors are"),
+        (documented(contract, first, &format!("{errors} Or `Err(D)`.")), "the errors are"),
+        ("/// Does `a`.\npub fn f() {}".to_string(), "its documentation has no contract"),
+    ];
+    for (rust, words) in bad {
+        tells(&tree(source, &rust, ""), words);
+    }
+    let short =
+        "/// <summary>Contract</summary>\n/// ```text\n/// eq = { a };\n/// laws = { .. };\n/// ```\nimpl A for B {}";
+    same(&[("impl A for B { ghost eq = { a }; ghost laws = { b }; }", short)]);
+    differ(&[("impl A for B { ghost eq = { c }; ghost laws = { b }; }", short)]);
+}
+
+#[test]
+fn each_token_is_what_it_is() {
+    let text = "r#\"a\"b\"# b'\\'' 'a' 'a '\\u{7f}' br\"\\\" \"\\\\\" r#fn 1..2 1.5e3 x.0.1 a >>= b /* \" */ '\"' é";
+    let texts: Vec<String> = scan("", text).expect("tokens").into_iter().map(|token| token.text.to_string()).collect();
+    let expected = [
+        "r#\"a\"b\"#",
+        "b'\\''",
+        "'a'",
+        "'a",
+        "'\\u{7f}'",
+        "br\"\\\"",
+        "\"\\\\\"",
+        "r",
+        "#",
+        "fn",
+        "1",
+        "..",
+        "2",
+        "1.5e3",
+        "x",
+        ".",
+        "0.1",
+        "a",
+        ">",
+        ">=",
+        "b",
+        "'\"'",
+        "é",
+    ];
+    assert_eq!(texts, expected);
+    for (text, words) in [
+        ("\"a", "does not end"),
+        ("/* /* */", "does not end"),
+        ("r#\"a\"", "does not end"),
+        ("a\rb", "may end a line"),
+        ("(]", "`]` stands alone"),
+        (")", "`)` stands alone"),
+        ("fn f() {", "not closed"),
+        ("what", "no item is known"),
+    ] {
+        tells(&tree("", text, ""), words);
+    }
+}
+
+#[test]
+fn a_source_is_printed_as_it_would_stand_in_rust() {
+    let source = "fn f(a: u8, steps: &mut Steps) -> u8\n    requires { b }\n{\n    // What is looked at.\n    let c = look(d, a - 1, steps);\n    prove!(c < a);\n    g_counted(c, steps)\n}";
+    let rules = Rules::new();
+    let printed: String = rules
+        .as_rust(&items("", source).expect("items")[0].tokens)
+        .iter()
+        .flat_map(|token| [token.gap.to_string(), token.text.to_string()])
+        .collect();
+    assert_eq!(printed, "fn f(a: u8) -> u8\n{\n    // What is looked at.\n    let c = d[a - 1];\n    g(c)\n}");
+    assert!(print(&tree(source, "", ""), "f").is_ok() && print(&tree(source, "", ""), "g").is_err());
+}
+
+#[test]
+fn a_wrong_argument_is_told() {
+    for arguments in [&["--root"][..], &["--other", "a"], &["--root", "/nowhere"]] {
+        assert!(run(arguments.iter().map(|argument| argument.to_string())).is_err());
+    }
+}
+
+// ---- The repository ----
+
+fn repository() -> Tree {
+    read(&Path::new(env!("CARGO_MANIFEST_DIR")).join("../..")).expect("the repository")
+}
+
+#[test]
+fn the_rust_crate_is_beside_its_sources() {
+    assert_eq!(faults(&repository()), "");
+}
+
+/// Numbers that look random, by a rule of Marsaglia's.
+struct Random(u64);
+
+impl Random {
+    fn below(&mut self, limit: usize) -> usize {
+        self.0 ^= self.0 << 13;
+        self.0 ^= self.0 >> 7;
+        self.0 ^= self.0 << 17;
+        (self.0 % limit as u64) as usize
+    }
+}
+
+/// A file with one token changed: left out, written twice, or written as another token of the file. Returns the line of the token, too.
+fn changed(text: &str, random: &mut Random) -> (String, String) {
+    let tokens = scan("", text).expect("tokens");
+    let at = loop {
+        let at = random.below(tokens.len());
+        if !tokens[at].text.starts_with("///") {
+            break at;
+        }
+    };
+    let old = &tokens[at].text;
+    let new = match random.below(4) {
+        0 => String::new(),
+        1 => format!("{old} {old}"),
+        _ => {
+            let others: Vec<&str> = tokens
+                .iter()
+                .map(|token| &*token.text)
+                .filter(|text| *text != &**old && !text.starts_with("///"))
+                .collect();
+            others[random.below(others.len())].to_string()
+        }
+    };
+    let line = text.lines().nth(tokens[at].line - 1).unwrap_or("").trim();
+    let parts = tokens
+        .iter()
+        .enumerate()
+        .map(|(place, token)| format!("{}{}", token.gap, if place == at { &*new } else { &*token.text }));
+    (parts.collect(), format!("`{old}` as `{new}` in `{line}`"))
+}
+
+/// What a file has by path: the tokens of its items as they are read, and as they are compared.
+fn read_items(name: &str, text: &str, rules: &Rules) -> BTreeMap<String, (Vec<String>, Vec<String>)> {
+    let text_of = |tokens: Vec<crate::lexer::Token>| tokens.into_iter().map(|token| token.text.to_string()).collect();
+    let ruled = |item: &Item| {
+        if name.starts_with(RUST) { rules.of_rust(&item.tokens) } else { rules.of_both(&rules.as_rust(&item.tokens)) }
+    };
+    let all = items(name, text).expect("items");
+    all.iter()
+        .enumerate()
+        .map(|(at, item)| (format!("{at} {}", item.path), (text_of(item.tokens.clone()), text_of(ruled(item)))))
+        .collect()
+}
+
+/// A changed token is seen, but for what is in no item (a `use`, a `mod`, a visibility, a contract of a private function, a ghost item),
+/// for what a rule leaves out, and for what an entry says is on one side alone.
+#[test]
+fn a_changed_token_is_seen() {
+    let (mut tree, rules, mut random) = (repository(), Rules::new(), Random(0x9E37_79B9_7F4A_7C15));
+    let compared = |name: &&String, text: &str| text.starts_with("// Proved sources: ") || name.ends_with(".rt");
+    let names: Vec<String> =
+        tree.iter().filter(|(name, text)| compared(name, text)).map(|(name, _)| name.clone()).collect();
+    let alone = tree[differences::NAME].clone();
+    let (mut seen, mut outside, mut ruled, mut on_one_side) = (0, 0, 0, 0);
+    for turn in 0..400 {
+        let side: Vec<&String> = names.iter().filter(|name| name.starts_with(RUST) == (turn % 2 == 0)).collect();
+        let name = side[random.below(side.len())].clone();
+        let (text, what) = changed(&tree[&name], &mut random);
+        let old = tree.insert(name.clone(), text.clone()).expect("a file");
+        if !compare(&tree).faults.is_empty() {
+            seen += 1;
+        } else {
+            let (before, after) = (read_items(&name, &old, &rules), read_items(&name, &text, &rules));
+            let is_left_out = ["steps", "Steps", "#[", "prove!", "required", "look", "_counted", "Drop", "W"]
+                .iter()
+                .any(|word| what.contains(word))
+                || what.starts_with("`,`");
+            let other: Vec<&String> = before.keys().filter(|path| before.get(*path) != after.get(*path)).collect();
+            let is_alone =
+                |path: &&String| alone.contains(path.split(' ').next_back().unwrap_or("?")) || alone.contains(&name);
+            if other.is_empty() {
+                outside += 1;
+            } else if before.iter().all(|(path, (_, ruled))| after.get(path).is_some_and(|(_, now)| now == ruled))
+                && is_left_out
+            {
+                ruled += 1;
+            } else if other.iter().all(is_alone) {
+                on_one_side += 1;
+            } else {
+                panic!("{name}: {what} is not seen");
+            }
+        }
+        tree.insert(name, old);
+    }
+    println!(
+        "{seen} of 400 are seen; {outside} are in no item, {ruled} are left out by a rule, {on_one_side} are on one side alone"
+    );
+    assert!(seen > 150);
+}
+
+/// No text makes the program panic.
+#[test]
+fn any_text_is_read_or_refused() {
+    let (tree, rules, mut random) = (repository(), Rules::new(), Random(0x2545_F491_4F6C_DD1D));
+    let names: Vec<&String> = tree.keys().collect();
+    for _ in 0..3000 {
+        let text = &tree[names[random.below(names.len())]];
+        let letters: Vec<char> = text.chars().skip(random.below(text.len())).take(random.below(200)).collect();
+        let text: String = letters.into_iter().filter(|_| random.below(40) > 0).collect();
+        for item in items("a", &text).unwrap_or_default() {
+            rules.of_rust(&item.tokens);
+            rules.of_both(&rules.as_rust(&item.tokens));
+        }
+        let _ = differences::read(&text);
+    }
+}
