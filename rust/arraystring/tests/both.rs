@@ -98,7 +98,7 @@ macro_rules! tables {
                 use std::fmt::Write;
                 vec![
                     ("push_str", false, |string, text| Ok(string.push_str(text))),
-                    ("+", false, |string, text| Ok(*string = *string + text)),
+                    ("+", false, |string, text| Ok(*string = std::ops::Add::add(*string, text))),
                     ("+=", false, |string, text| Ok(*string += text)),
                     ("extend_chars", false, |string, text| Ok(string.extend_chars(text.chars()))),
                     ("extend_strs", false, |string, text| Ok(string.extend_strs(behind_empty_ones(text)))),

@@ -91,7 +91,7 @@ fn appended<const N: usize>() {
             let cutting: [(&str, Edit<N>); 9] = [
                 ("push_str", &|string| string.push_str(given)),
                 ("+=", &|string| *string += given),
-                ("+", &|string| *string = *string + given),
+                ("+", &|string| *string = std::ops::Add::add(*string, given)),
                 ("extend_chars", &|string| string.extend_chars(given.chars())),
                 ("extend of characters", &|string| string.extend(given.chars())),
                 ("extend_strs", &|string| string.extend_strs([given])),
