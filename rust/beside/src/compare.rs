@@ -118,8 +118,9 @@ fn compared(tree: &Tree) -> Result<Report, Fault> {
         for item in items(name, text)? {
             let rust = Ruled { tokens: rules.of_rust(&item.tokens), item, printed: Vec::new(), is_counted: false };
             all.keeps_tests(&rust);
-            if !named.is_empty() {
-                all.item(&rust, &named);
+            match named.is_empty() {
+                true => all.by_hand(&rust.item),
+                false => all.item(&rust, &named),
             }
         }
     }
@@ -149,6 +150,13 @@ impl Comparison<'_> {
         if is_unsafe && runs && self.block(&rust.item.path, |says| *says == Says::Unsafe).is_none() {
             let what = format!("`{}` runs a caller's code, and has an `unsafe` block", rust.item.path);
             self.fault(&rust.item, what);
+        }
+    }
+
+    /// No item by hand has the path of a source, so that none is called in its place.
+    fn by_hand(&mut self, rust: &Item) {
+        if !rust.path.starts_with("impl ") && self.sources.iter().any(|source| source.item.path == rust.path) {
+            self.fault(rust, format!("`{}` is by hand, and a source has this name", rust.path));
         }
     }
 

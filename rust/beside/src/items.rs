@@ -162,7 +162,7 @@ impl Reader<'_> {
 fn position(tokens: &[Token], signs: &[&str]) -> Option<usize> {
     let mut at = 0;
     while at < tokens.len() {
-        if signs.iter().any(|sign| tokens[at].is(sign)) {
+        if tokens[at].is_one_of(signs) {
             return Some(at);
         }
         at = closing(tokens, at) + 1;
