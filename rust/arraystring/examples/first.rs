@@ -1,10 +1,11 @@
 //! The program that both pages begin with. A comment says what a line prints.
 
-use arraystring::ArrayString;
+use arraystring::{ArrayString, OutOfBounds};
 
-fn main() {
-    let mut name = ArrayString::<8>::from("Zoé"); // `é` takes two bytes
+fn main() -> Result<(), OutOfBounds> {
+    let mut name = ArrayString::<8>::try_from_str("Zoé")?; // `é` takes two bytes
     println!("{:?}", name.try_push_str(" Amélie")); // prints: Err(OutOfBounds)
-    name.push_str(" Amélie"); // keeps the whole characters that fit
+    name.push_str(" Amélie"); // cuts: it keeps the whole characters that fit
     println!("{name} has {} bytes", name.len()); // prints: Zoé Am has 7 bytes
+    Ok(())
 }

@@ -98,8 +98,10 @@ mod unchecked;
 ///
 /// # What else cuts or refuses
 ///
-/// `collect`, `extend`, `+=`, `From<char>` and std's `try_from` cut, too. [`const_try_from_str`](Self::const_try_from_str),
-/// [`try_from_format`](Self::try_from_format) and [`try_write`](Self::try_write) refuse.
+/// `collect`, `extend`, `+=`, `From<char>`, [`from_utf8_lossy`](Self::from_utf8_lossy) and std's
+/// `try_from` cut, too. [`const_try_from_str`](Self::const_try_from_str), [`try_from_format`](Self::try_from_format),
+/// [`try_format!`](crate::try_format), [`try_write`](Self::try_write), [`try_extend_chars`](Self::try_extend_chars) and
+/// [`try_extend_strs`](Self::try_extend_strs) refuse.
 ///
 /// ```
 /// use arraystring::ArrayString;

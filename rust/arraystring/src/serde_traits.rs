@@ -3,7 +3,6 @@
 #![deny(unsafe_code)]
 
 use core::fmt;
-use core::marker::PhantomData;
 use core::str::from_utf8;
 
 use serde::de::{Deserialize, Deserializer, Error, Unexpected, Visitor};
@@ -11,13 +10,23 @@ use serde::ser::{Serialize, Serializer};
 
 use crate::{ArrayString, CacheString};
 
-/// Writes the text, as serde writes that of a `String`. It needs the feature `serde`.
+/// Writes the text, as serde writes that of a `String`. With the feature `serde`.
 ///
-/// # Examples
+/// ```
+/// use std::fmt;
 ///
-/// ```ignore
-/// let name = ArrayString::<8>::from("Zoé");
-/// assert_eq!(serde_json::to_string(&name)?, r#""Zoé""#);
+/// use arraystring::ArrayString;
+/// use serde::Serialize;
+///
+/// struct Shown(ArrayString<8>);
+///
+/// impl fmt::Display for Shown {
+///     fn fmt(&self, f: &mut fmt::Formatter<'_>) -> fmt::Result {
+///         self.0.serialize(f) // a formatter is a serializer, too
+///     }
+/// }
+///
+/// assert_eq!(Shown("Zoé".into()).to_string(), "Zoé");
 /// ```
 impl<const N: usize> Serialize for ArrayString<N> {
     fn serialize<S: Serializer>(&self, serializer: S) -> Result<S::Ok, S::Error> {
@@ -25,26 +34,37 @@ impl<const N: usize> Serialize for ArrayString<N> {
     }
 }
 
-/// As that of the string inside. It needs the feature `serde`.
+/// Writes the text, as that of the string inside. With the feature `serde`.
+///
+/// ```
+/// # use serde::Serialize;
+/// fn is_written<T: Serialize>(_: &T) -> bool {
+///     true
+/// }
+///
+/// assert!(is_written(&arraystring::CacheString::from("a")));
+/// ```
 impl Serialize for CacheString {
     fn serialize<S: Serializer>(&self, serializer: S) -> Result<S::Ok, S::Error> {
         self.0.serialize(serializer)
     }
 }
 
-/// Reads a text, borrowed or owned, or its UTF-8. It needs the feature `serde`.
+/// Reads a text, borrowed or owned, or its UTF-8. With the feature `serde`.
 ///
 /// # Errors
 ///
 /// Those of the deserializer. What is no text, and a text that does not fit: the error has its length and the capacity.
 /// [`cut`](crate::cut) keeps what fits.
 ///
-/// # Examples
+/// ```
+/// use arraystring::ArrayString;
+/// use serde::Deserialize;
+/// use serde::de::value::{BorrowedStrDeserializer, Error};
 ///
-/// ```ignore
-/// let name: ArrayString<4> = serde_json::from_str(r#""Zoé""#)?;
-/// let refused = serde_json::from_str::<ArrayString<4>>(r#""Amélie""#);
-/// assert_eq!(refused.unwrap_err().to_string(), "invalid length 7, expected a text of at most 4 bytes at line 1 column 9");
+/// let read = |text| ArrayString::<4>::deserialize(BorrowedStrDeserializer::<Error>::new(text));
+/// assert!(read("Zoé").is_ok_and(|name| name == "Zoé"));
+/// assert!(read("Amélie").is_err()); // in JSON: invalid length 7, expected a text of at most 4 bytes
 /// ```
 impl<'de, const N: usize> Deserialize<'de> for ArrayString<N> {
     fn deserialize<D: Deserializer<'de>>(deserializer: D) -> Result<Self, D::Error> {
@@ -52,11 +72,21 @@ impl<'de, const N: usize> Deserialize<'de> for ArrayString<N> {
     }
 }
 
-/// As that of the string inside. It needs the feature `serde`.
+/// Reads a text, as that of the string inside. With the feature `serde`.
 ///
 /// # Errors
 ///
 /// Those of the string inside.
+///
+/// ```
+/// use arraystring::CacheString;
+/// use serde::Deserialize;
+/// use serde::de::value::{BorrowedStrDeserializer, Error};
+///
+/// let read = |text| CacheString::deserialize(BorrowedStrDeserializer::<Error>::new(text));
+/// assert!(read("user:42").is_ok_and(|key| key == "user:42"));
+/// assert!(read(&"m".repeat(64)).is_err());
+/// ```
 impl<'de> Deserialize<'de> for CacheString {
     fn deserialize<D: Deserializer<'de>>(deserializer: D) -> Result<Self, D::Error> {
         ArrayString::deserialize(deserializer).map(CacheString)
@@ -83,26 +113,7 @@ impl<const N: usize> Visitor<'_> for Whole<N> {
     }
 }
 
-/// Reads a text, and keeps what fits of it.
-pub(crate) struct Cut<T>(pub(crate) PhantomData<T>);
-
-impl<T: for<'a> From<&'a str>> Visitor<'_> for Cut<T> {
-    type Value = T;
-
-    fn expecting(&self, f: &mut fmt::Formatter<'_>) -> fmt::Result {
-        f.write_str("a text")
-    }
-
-    fn visit_str<E: Error>(self, text: &str) -> Result<T, E> {
-        Ok(T::from(text))
-    }
-
-    fn visit_bytes<E: Error>(self, bytes: &[u8]) -> Result<T, E> {
-        Ok(T::from(text_of(bytes, &self)?))
-    }
-}
-
 /// The text whose UTF-8 the bytes are.
-fn text_of<'a, 'de, E: Error>(bytes: &'a [u8], visitor: &impl Visitor<'de>) -> Result<&'a str, E> {
+pub(crate) fn text_of<'a, 'de, E: Error>(bytes: &'a [u8], visitor: &impl Visitor<'de>) -> Result<&'a str, E> {
     from_utf8(bytes).map_err(|_| E::invalid_value(Unexpected::Bytes(bytes), visitor))
 }

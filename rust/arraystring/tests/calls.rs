@@ -10,21 +10,17 @@ const TRIED_ELSEWHERE: &[(&str, &str)] = &[
     ("as_mut_str", "tests/by_hand/loans.rs writes into each text through it"),
     ("const_try_from_str", "tests/constants.rs and tests/by_hand/made.rs"),
     ("of_constant", "`arraystring!` calls it: tests/constants.rs, and tests/panics.rs where the text is too long"),
+    ("deserialize", "rust/with_serde of the repository"),
+    ("serialize", "rust/with_serde of the repository"),
     ("try_from_format", "tests/by_hand/made.rs, and tests/both.rs of both types"),
 ];
 
 /// What the page does not name, and why.
 const OFF_THE_PAGE: &[(&str, &str)] = &[
-    ("encode", OF_UTILS),
-    ("is_boundary", OF_UTILS),
-    ("is_char_boundary", OF_UTILS),
-    ("is_inside_boundary", OF_UTILS),
+    ("deserialize", "the page has `with = \"arraystring::cut\"`, which calls it"),
     ("of_constant", "the page has `arraystring!`, which calls it"),
-    ("shift", OF_UTILS),
-    ("truncate_str", OF_UTILS),
+    ("serialize", "the page has `with = \"arraystring::cut\"`, which calls it"),
 ];
-
-const OF_UTILS: &str = "a program that edits strings needs none of `utils`, and the reference has it";
 
 /// The texts of the files below a folder.
 fn texts(folder: &Path) -> Vec<String> {

@@ -141,3 +141,33 @@ fn a_text_with_a_byte_of_none_panics_where_it_is_lent() {
     }
     assert_eq!(count, 7 * 10 * 4);
 }
+
+/// The last byte of a text is tested as the first one is, at each length.
+#[test]
+fn a_byte_of_none_is_told_at_each_length() {
+    let mut count = 0;
+    for len in 1..=255 {
+        for at in [0, len / 2, len - 1] {
+            let mut bytes = vec![b'm'; len];
+            bytes[at] = 0xFF;
+            let lent = || {
+                let mut string = ArrayString::<255>::from("m".repeat(len).as_str());
+                // SAFETY: the text is lent no more: the next call has to end before it could do harm.
+                unsafe { string.as_mut_str().as_bytes_mut()[at] = 0xFF };
+                string
+            };
+            // SAFETY: of no call here the precondition holds, so each has to end before it could do harm.
+            let calls: [(&str, &dyn Fn() -> usize); 4] = unsafe {
+                [
+                    ("made", &|| ArrayString::<255>::from_utf8_unchecked(&bytes).as_str().len()),
+                    ("cached", &|| CacheString::from_utf8_unchecked(&bytes).as_str().len()),
+                    ("read", &|| lent().as_str().len()),
+                    ("written", &|| lent().as_mut_str().len()),
+                ]
+            };
+            assert_eq!(without_panic(&calls), [""; 0], "{len} {at}");
+            count += calls.len();
+        }
+    }
+    assert_eq!(count, 255 * 3 * 4);
+}

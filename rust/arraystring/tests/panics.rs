@@ -1,10 +1,11 @@
 //! Every call that panics, by the words of its panic and by the line that it names: as the index of `str` does, and no other call.
 
 use std::cell::RefCell;
+use std::ops::Bound;
 use std::panic::{AssertUnwindSafe, catch_unwind, set_hook};
 use std::sync::Once;
 
-use arraystring::{ArrayString, CacheString};
+use arraystring::{ArrayString, CacheString, Error};
 
 /// The file and the line that a panic names.
 type Place = (String, u32);
@@ -189,4 +190,126 @@ fn what_does_not_fit_into_a_constant_names_its_line() {
             assert_eq!(ArrayString::<300>::of_constant(&text).as_str(), text);
         }
     }
+}
+
+/// Asserts of each call on a range what `str` does from one index to another. What is removed ends at 255 at most.
+macro_rules! calls_do {
+    ($string:expr, $range:expr, $from:expr, $to:expr) => {{
+        let (string, from, to) = ($string, $from, $to);
+        let text = string.as_str();
+        assert_eq!(string.get($range), text.get(from..to), "{from}..{to}");
+        let (mut upper, mut lower) = (*string, *string);
+        if text.get(from..to).is_some() {
+            assert_eq!(string.slice($range), &text[from..to], "{from}..{to}");
+            let (mut wanted_upper, mut wanted_lower) = (text.to_string(), text.to_string());
+            wanted_upper[from..to].make_ascii_uppercase();
+            wanted_lower[from..to].make_ascii_lowercase();
+            upper.make_ascii_uppercase_in($range);
+            lower.make_ascii_lowercase_in($range);
+            assert_eq!((upper.as_str(), lower.as_str()), (&*wanted_upper, &*wanted_lower), "{from}..{to}");
+        } else {
+            let wanted = words!(&text[from..to]);
+            assert_eq!(words!(string.slice($range)), wanted);
+            assert_eq!(words!(upper.make_ascii_uppercase_in($range)), wanted);
+            assert_eq!(words!(lower.make_ascii_lowercase_in($range)), wanted);
+            assert_eq!((upper, lower), (*string, *string));
+        }
+        let (from, to) = (from.min(255), to.min(255));
+        let is_within = from <= to && to <= text.len();
+        let (mut drained, mut replaced) = (*string, *string);
+        let (drain, replacement) = (drained.drain($range), replaced.replace_range($range, ""));
+        if let Some(part) = text.get(from..to) {
+            let left = [&text[..from], &text[to..]].concat();
+            assert_eq!((drain.expect("a part").as_str(), replacement), (part, Ok(())), "{from}..{to}");
+            assert_eq!((drained.as_str(), replaced.as_str()), (&*left, &*left), "{from}..{to}");
+        } else {
+            let refusal = if is_within { Error::Utf8 } else { Error::OutOfBounds };
+            assert_eq!((drain.map(drop), replacement), (Err(refusal), Err(refusal)), "{from}..{to}");
+            assert_eq!((drained, replaced), (*string, *string));
+        }
+    }};
+}
+
+/// Asserts of the index what `str` does from one index to another.
+macro_rules! index_does {
+    ($string:expr, $range:expr, $from:expr, $to:expr) => {{
+        let (string, from, to) = ($string, $from, $to);
+        let (mut lent, mut text) = (*string, string.to_string());
+        if text.get(from..to).is_some() {
+            assert_eq!(
+                (&string[$range], &mut lent[$range]),
+                (&text[from..to], &mut text.clone()[from..to]),
+                "{from}..{to}"
+            );
+            lent[$range].make_ascii_uppercase();
+            text[from..to].make_ascii_uppercase();
+            assert_eq!(lent.as_str(), text, "{from}..{to}");
+        } else {
+            let wanted = words!(&text[from..to]);
+            assert_eq!(words!(&string[$range]), wanted);
+            assert_eq!(words!(&mut lent[$range]), wanted);
+        }
+    }};
+}
+
+/// Strings that are full or nearly, of letters and with a wide character at the end, at the first offset and the last.
+fn nearly_full<const N: usize>() -> Vec<ArrayString<N>> {
+    let capacity = ArrayString::<N>::capacity() as usize;
+    let mut strings = Vec::new();
+    for len in capacity.saturating_sub(5)..=capacity {
+        for end in ["", "a", "é", "€", "🤔"].into_iter().filter(|end| end.len() <= len) {
+            let text = format!("{}{end}", "m".repeat(len - end.len()));
+            for offset in [0, capacity - len] {
+                let mut string = ArrayString::<N>::from("~".repeat(offset).as_str());
+                string.push_str(&text);
+                assert!(string.drain(..offset as u8).is_ok());
+                assert_eq!(string.as_str(), text);
+                strings.push(string);
+            }
+        }
+    }
+    strings
+}
+
+/// Every kind of range with both ends from 250 to 255.
+fn ranges_at_the_end_of_a_byte<const N: usize>() {
+    for string in &nearly_full::<N>() {
+        let len = string.len() as usize;
+        calls_do!(string, .., 0, len);
+        index_does!(string, .., 0, len);
+        for (bound, at) in (250..=255u8).map(|bound| (bound, bound as usize)) {
+            index_does!(string, bound.., at, len);
+            index_does!(string, ..bound, 0, at);
+            index_does!(string, ..=bound, 0, at + 1);
+            for (end, to) in (250..=255u8).map(|end| (end, end as usize)) {
+                index_does!(string, bound..end, at, to);
+                index_does!(string, bound..=end, at, to + 1);
+            }
+        }
+        let bounds =
+            || (250..=255u8).flat_map(|at| [Bound::Included(at), Bound::Excluded(at)]).chain([Bound::Unbounded]);
+        for (start, end) in bounds().flat_map(|start| bounds().map(move |end| (start, end))) {
+            let from = match start {
+                Bound::Included(at) => at as usize,
+                Bound::Excluded(at) => at as usize + 1,
+                Bound::Unbounded => 0,
+            };
+            let to = match end {
+                Bound::Included(at) => at as usize + 1,
+                Bound::Excluded(at) => at as usize,
+                Bound::Unbounded => len,
+            };
+            calls_do!(string, (start, end), from, to);
+        }
+    }
+}
+
+#[test]
+fn each_kind_of_range_is_as_that_of_str_at_the_end_of_a_byte() {
+    ranges_at_the_end_of_a_byte::<255>();
+    ranges_at_the_end_of_a_byte::<300>();
+    ranges_at_the_end_of_a_byte::<254>();
+    ranges_at_the_end_of_a_byte::<251>();
+    ranges_at_the_end_of_a_byte::<63>();
+    ranges_at_the_end_of_a_byte::<0>();
 }

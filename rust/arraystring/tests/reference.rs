@@ -201,6 +201,7 @@ fn no_example_and_no_page_converts_by_a_cast() {
 #[test]
 fn what_a_feature_adds_names_it() {
     let (mut named, items) = (0, items());
+    let private: Vec<_> = items.iter().filter_map(Item::private_type).collect();
     for (file, text) in files(Path::new("src")) {
         let lines: Vec<_> = text.lines().collect();
         for pair in lines.windows(2) {
@@ -210,13 +211,14 @@ fn what_a_feature_adds_names_it() {
             let (Some(feature), Some(module)) = (feature, module) else { continue };
             let source = format!("{}/{module}.rs", file.trim_end_matches(".rs").trim_end_matches("/lib"));
             let said = format!("With the feature `{feature}`.");
-            for item in items.iter().filter(|item| item.file == source && item.head.trim_start().starts_with("impl")) {
+            let is_impl = |item: &&Item| item.head.trim_start().starts_with("impl") && item.is_shown(&[], &private);
+            for item in items.iter().filter(|item| item.file == source).filter(is_impl) {
                 assert!(item.docs.iter().any(|line| line.ends_with(&said)), "{source}: {}", item.head);
                 named += 1;
             }
         }
     }
-    assert_eq!(named, 21, "the impls of `copies`, `owned` and `paths`");
+    assert_eq!(named, 26, "the impls of `copies`, `owned`, `paths` and `serde_traits`");
 }
 
 /// The items of the file of a type in the order of rustdoc: those of its modules, one after the other, and then its own.
@@ -272,7 +274,7 @@ fn what_is_said_of_an_iterator_is_true_of_the_call() {
         assert_eq!(said.contains("Where the iterator panics, the text has"), adds, "{}", item.head);
         count += 1;
     }
-    assert_eq!(count, 10, "the safe calls over an iterator");
+    assert_eq!(count, 12, "the safe calls over an iterator");
 }
 
 #[test]

@@ -5,7 +5,7 @@ use std::any::type_name;
 use std::fmt::Write;
 use std::fs;
 
-use arraystring::{ArrayString, Error};
+use arraystring::{ArrayString, Error, try_format};
 
 /// Most strings here hold `ab`, which fills them.
 type Two = ArrayString<2>;
@@ -45,6 +45,7 @@ fn cuts() -> Vec<(&'static str, Two)> {
         ("try_from", Two::try_from("abc").expect("std's never fails")),
         ("from_str_truncate", Two::from_str_truncate("abc")),
         ("from_utf8", Two::from_utf8("abc").expect("UTF-8")),
+        ("from_utf8_lossy", Two::from_utf8_lossy("abc")),
         ("from_utf16", Two::from_utf16([0x61, 0x62, 0x63]).expect("UTF-16")),
         ("from_utf16_lossy", Two::from_utf16_lossy([0x61, 0x62, 0x63])),
         ("collect", "abc".chars().collect()),
@@ -83,6 +84,7 @@ fn refuse_what_is_too_large() -> Vec<Refusal> {
         refusal("try_from_str", Two::try_from_str("abc")),
         refusal("parse", "abc".parse::<Two>()),
         refusal("const_try_from_str", Two::const_try_from_str("abc")),
+        refusal("try_format!", try_format!("{wide}") as Result<Two, _>),
         refusal("try_from_format", Two::try_from_format(format_args!("{wide}"))),
         refusal("try_from_utf8", Two::try_from_utf8("abc")),
         refusal("try_from_utf16", Two::try_from_utf16([0x61, 0x62, 0x63])),
@@ -91,6 +93,8 @@ fn refuse_what_is_too_large() -> Vec<Refusal> {
         kept("try_push", "ab", |string| string.try_push('c')),
         kept("try_push_str", "a", |string| string.try_push_str("bc")),
         kept("try_write", "a", |string| string.try_write(format_args!("{wide}"))),
+        kept("try_extend_chars", "a", |string| string.try_extend_chars("bc".chars())),
+        kept("try_extend_strs", "a", |string| string.try_extend_strs(["b", "c"])),
         kept("try_insert", "ab", |string| string.try_insert(1, 'c')),
         kept("try_insert_str", "a", |string| string.try_insert_str(0, "bc")),
         kept("replace_range", "ab", |string| string.replace_range(..1, "cd")),

@@ -6,7 +6,7 @@ use crate::{ArrayString, CacheString};
 
 /// The capacity as a constant, and the room that is left.
 impl<const N: usize> ArrayString<N> {
-    /// The capacity in bytes, as [`capacity`](Self::capacity) returns it.
+    /// The capacity in bytes, for the length of an array. [`capacity`](Self::capacity) returns it as a `u8`.
     ///
     /// # Examples
     ///
@@ -15,10 +15,10 @@ impl<const N: usize> ArrayString<N> {
     ///
     /// type Name = ArrayString<8>;
     ///
-    /// let field = [0u8; Name::CAPACITY as usize];
+    /// let field = [0u8; Name::CAPACITY];
     /// assert_eq!((field.len(), ArrayString::<300>::CAPACITY), (8, 255));
     /// ```
-    pub const CAPACITY: u8 = Self::capacity();
+    pub const CAPACITY: usize = Self::capacity() as usize;
 
     /// Returns how many bytes can still be added: the capacity without the length.
     ///
@@ -57,7 +57,7 @@ impl CacheString {
     /// ```
     /// use arraystring::CacheString;
     ///
-    /// assert_eq!(CacheString::CAPACITY, CacheString::capacity());
+    /// assert_eq!([0u8; CacheString::CAPACITY].len(), 63);
     /// ```
-    pub const CAPACITY: u8 = Self::capacity();
+    pub const CAPACITY: usize = Self::capacity() as usize;
 }

@@ -10,7 +10,6 @@ use crate::moves::write_over;
 ///
 /// Most programs need none of these calls. What stands under *Safety* is for the caller to keep. A release build
 /// without the feature `checked` does not test it.
-/// Calls that leave a test to the caller. Most programs need none of them.
 impl<const N: usize> ArrayString<N> {
     /// Creates a string from `string`.
     ///

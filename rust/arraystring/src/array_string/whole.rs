@@ -52,7 +52,9 @@ impl<const N: usize> ArrayString<N> {
     /// # Errors
     ///
     /// Returns [`Err(OutOfBounds)`](crate::error::OutOfBounds) if not all of them fit. The text is then unchanged. It is so, too, where
-    /// the iterator panics. The iterator may be endless: the call stops at the first character that does not fit.
+    /// the iterator panics.
+    ///
+    /// The iterator may be endless: the call stops at the first character that does not fit.
     ///
     /// # Examples
     ///
@@ -79,7 +81,10 @@ impl<const N: usize> ArrayString<N> {
     /// # Errors
     ///
     /// Returns [`Err(OutOfBounds)`](crate::error::OutOfBounds) if not all of them fit. The text is then unchanged. It is so, too, where
-    /// the iterator panics. The iterator may be endless: the call stops at the first text that does not fit.
+    /// the iterator panics.
+    ///
+    /// The iterator may be endless: the call stops at the first piece that does not fit. It does not return if empty pieces come
+    /// without an end.
     ///
     /// # Examples
     ///

@@ -4,7 +4,7 @@ use std::borrow::Cow;
 #[cfg(feature = "std")]
 use std::{ffi::OsStr, path::Path};
 
-use arraystring::CacheString;
+use arraystring::{ArrayString, CacheString};
 
 use crate::inputs::{GIVEN, at_capacities, behind, capacity, edges, letters, some_offsets, texts_of};
 
@@ -104,5 +104,23 @@ fn a_string_is_beside_a_cow() {
     let text = letters(520);
     for (len, given) in (0..=63).flat_map(|len| GIVEN.map(move |given| (len, given))) {
         is_beside_a_cow!(CacheString::from(&text[..len]), &text[..len], &text[..given]);
+    }
+}
+
+/// More strings than a byte counts are collected, and those behind as well as the first ones.
+#[test]
+fn strings_are_collected_whatever_their_number() {
+    for count in (0..=8).chain(250..=260).chain([511, 512, 513, 1000, 70_000]) {
+        let texts: Vec<String> = (0..count).map(|at| (at % 10).to_string()).collect();
+        let wanted = texts.concat();
+        let strings = || texts.iter().map(|text| ArrayString::<4>::from(text.as_str()));
+        let cached = || texts.iter().map(|text| CacheString::from(text.as_str()));
+        assert!(strings().collect::<String>() == wanted && cached().collect::<String>() == wanted, "{count}");
+        assert!(*strings().collect::<Box<str>>() == *wanted && *cached().collect::<Box<str>>() == *wanted, "{count}");
+        assert!(strings().collect::<Cow<str>>() == wanted && cached().collect::<Cow<str>>() == wanted, "{count}");
+        let (mut one, mut other) = (String::from("~"), String::from("~"));
+        one.extend(strings());
+        other.extend(cached());
+        assert!(one[1..] == wanted && other == one, "{count}");
     }
 }

@@ -159,7 +159,10 @@ fn additions_of_items() {
                     string.extend_chars(&mut left);
                     left.count()
                 });
+                let whole = case.wanted(|model| model.try_push_str(given));
+                made += case.each(("try_extend_chars", given), &whole, |string| string.try_extend_chars(given.chars()));
                 for pieces in all_pieces(given) {
+                    made += case.each(("try_extend_strs", &pieces), &whole, |string| string.try_extend_strs(&pieces));
                     let wanted = case.wanted(|model| pieces.len() - model.extend(&pieces));
                     made += case.each(("extend_strs", &pieces), &wanted, |string| {
                         let mut left = pieces.iter();
@@ -174,7 +177,7 @@ fn additions_of_items() {
                 }
             }
         }
-        (made, total::<N>(&WIDTHS) * (texts.len() + 2 * piece_counts(N + 2)))
+        (made, total::<N>(&WIDTHS) * (2 * texts.len() + 3 * piece_counts(N + 2)))
     }
     at_each_capacity!(extended);
 }

@@ -152,9 +152,11 @@ fn made_of_bytes() {
             };
             let whole = ArrayString::<N>::try_from_utf8(&given);
             assert_eq!((whole.err(), whole.is_err() || whole.ok() == string.ok()), (refusal, true), "{given:x?}");
-            made += 2;
+            let lossy = ArrayString::<N>::from_utf8_lossy(&given);
+            assert_eq!(lossy.as_str(), cut(&String::from_utf8_lossy(&given), N), "{given:x?}");
+            made += 3;
         }
-        (made, 2 * list_count(BYTES.len(), MOST))
+        (made, 3 * list_count(BYTES.len(), MOST))
     }
     at_each_capacity!(of_bytes);
 }

@@ -1,0 +1,252 @@
+//! How much an edit does, by addresses: where there is room behind a text it stays where it is, and no byte of the array is written
+//! but those of what is given and those behind it in the text. So for each call, at each start offset.
+
+use std::fmt::Write;
+use std::ops::Range;
+use std::slice;
+
+use arraystring::ArrayString;
+use inputs::{at_capacities, behind, capacity, cut, edges, letters, mixed};
+
+mod inputs;
+
+type Edit<'a, const N: usize> = &'a dyn Fn(&mut ArrayString<N>);
+
+/// How many bytes after the address of a string that of its text is.
+fn distance<const N: usize>(string: &ArrayString<N>) -> usize {
+    string.as_bytes().as_ptr().addr() - std::ptr::from_ref(string).addr()
+}
+
+/// The start offset of the text: a new string begins at offset 0.
+fn start<const N: usize>(string: &ArrayString<N>) -> usize {
+    distance(string) - distance(&ArrayString::<N>::new())
+}
+
+/// All bytes of the array, also those around the text.
+fn array<const N: usize>(string: &ArrayString<N>) -> &[u8] {
+    let place = std::ptr::from_ref(string).cast::<u8>();
+    // SAFETY: the array is a part of the value, from there on, and each byte of it has a value.
+    unsafe { slice::from_raw_parts(place.add(distance(&ArrayString::<N>::new())), N) }
+}
+
+/// Asserts that an edit leaves the text at a start offset, and writes no byte of the array but some.
+fn edited<const N: usize>(before: &ArrayString<N>, place: usize, written: Range<usize>, name: &str, edit: Edit<N>) {
+    let mut after = *before;
+    edit(&mut after);
+    assert_eq!(start(&after), place, "{name} of {before:?} at {} of {N}: {after:?}", start(before));
+    let around = |string| [array(string)[..written.start].to_vec(), array(string)[written.end..].to_vec()];
+    assert!(around(before) == around(&after), "{name} of {before:?} at {}: more than {written:?}", start(before));
+}
+
+/// Strings of some lengths at each start offset: in turn of letters, of wide characters, and of a letter among spaces.
+fn strings<const N: usize>() -> impl Iterator<Item = ArrayString<N>> {
+    let lengths = edges(capacity::<N>()).into_iter().filter(|len| *len <= capacity::<N>());
+    let places = lengths.flat_map(|len| (0..=capacity::<N>() - len).map(move |offset| (len, offset)));
+    places.map(|(len, offset)| {
+        let texts = [letters(len), mixed(len, offset), format!("{:^len$}", &"x"[..len.min(1)])];
+        behind(offset, &texts[(len + offset) % 3])
+    })
+}
+
+/// The boundaries of a text: each of a short one, and of a long one those at its ends and in the middle.
+fn boundaries(text: &str) -> Vec<usize> {
+    let len = text.len();
+    let is_near = |at: &usize| len < 10 || *at < 2 || len - at < 2 || *at == len / 2;
+    (0..=len).filter(|at| text.is_char_boundary(*at)).filter(is_near).collect()
+}
+
+/// Texts that fit behind a text exactly, nearly or too far, and texts that fit once it moves, exactly, nearly or too far.
+fn given<const N: usize>(string: &ArrayString<N>) -> Vec<String> {
+    let (room, behind) =
+        (string.remaining_capacity() as usize, capacity::<N>() - start(string) - string.len() as usize);
+    let mut sizes: Vec<_> =
+        (0..3).flat_map(|by| [by, (behind + by).saturating_sub(1), (room + by).saturating_sub(1)]).collect();
+    sizes.sort_unstable();
+    sizes.dedup();
+    sizes.into_iter().flat_map(|size| [letters(size), mixed(size, 0)]).collect()
+}
+
+/// Asserts of edits that put a text at an index, in place of so many bytes, that they move the text to the start of the array only
+/// where it has no room else.
+fn put<const N: usize>(string: &ArrayString<N>, at: usize, replaced: usize, put: &str, edits: &[(&str, Edit<N>)]) {
+    let (offset, len) = (start(string), string.len() as usize);
+    let end = offset + len - replaced + put.len();
+    for (name, edit) in edits {
+        if end > capacity::<N>() {
+            edited(string, 0, 0..N, name, *edit);
+        } else if replaced == put.len() {
+            edited(string, offset, offset + at..offset + at + put.len(), name, *edit);
+        } else {
+            edited(string, offset, offset + at..end, name, *edit);
+        }
+    }
+}
+
+fn appended<const N: usize>() {
+    for string in strings::<N>() {
+        let (len, room) = (string.len() as usize, string.remaining_capacity() as usize);
+        for given in given(&string) {
+            let (given, (front, back)) = (given.as_str(), given.split_at(cut(&given, given.len() / 2).len()));
+            let kept = cut(given, room);
+            let cutting: [(&str, Edit<N>); 9] = [
+                ("push_str", &|string| string.push_str(given)),
+                ("+=", &|string| *string += given),
+                ("+", &|string| *string = *string + given),
+                ("extend_chars", &|string| string.extend_chars(given.chars())),
+                ("extend of characters", &|string| string.extend(given.chars())),
+                ("extend_strs", &|string| string.extend_strs([given])),
+                ("extend_strs of two", &|string| string.extend_strs([front, back])),
+                ("extend of texts", &|string| string.extend([front, back])),
+                ("extend_strs of characters", &|string| string.extend_strs(given.chars().map(|ch| ch.to_string()))),
+            ];
+            put(&string, len, 0, kept, &cutting);
+            let refusing: [(&str, Edit<N>); 4] = [
+                ("try_push_str", &|string| _ = string.try_push_str(given)),
+                ("write_str", &|string| _ = string.write_str(given)),
+                ("write!", &|string| _ = write!(string, "{given}")),
+                ("try_write", &|string| _ = string.try_write(format_args!("{given}"))),
+            ];
+            put(&string, len, 0, if given.len() <= room { given } else { "" }, &refusing);
+            if given.len() <= room {
+                // SAFETY: it fits.
+                put(
+                    &string,
+                    len,
+                    0,
+                    given,
+                    &[("push_str_unchecked", &|string| unsafe { string.push_str_unchecked(given) })],
+                );
+                put(
+                    &string,
+                    len,
+                    0,
+                    given,
+                    &[("try_write of two", &|string| _ = string.try_write(format_args!("{front}{back}")))],
+                );
+            }
+        }
+        for ch in ['a', 'é', '€', '🤔'] {
+            let fits = ch.len_utf8() <= room;
+            let given = if fits { ch.to_string() } else { String::new() };
+            put(&string, len, 0, &given, &[("try_push", &|string| _ = string.try_push(ch))]);
+            if fits {
+                // SAFETY: it fits.
+                put(&string, len, 0, &given, &[("push_unchecked", &|string| unsafe { string.push_unchecked(ch) })]);
+            }
+        }
+    }
+}
+
+fn inserted<const N: usize>() {
+    for string in strings::<N>() {
+        let room = string.remaining_capacity() as usize;
+        for at in boundaries(&string) {
+            let index = at as u8;
+            for given in given(&string) {
+                let kept = cut(&given, room);
+                put(&string, at, 0, kept, &[("insert_str", &|string| _ = string.insert_str(index, &given))]);
+                let whole = if given.len() <= room { &given } else { "" };
+                put(&string, at, 0, whole, &[("try_insert_str", &|string| _ = string.try_insert_str(index, &given))]);
+            }
+            for ch in ['a', 'é', '€', '🤔'].into_iter() {
+                let given = if ch.len_utf8() <= room { ch.to_string() } else { String::new() };
+                put(&string, at, 0, &given, &[("try_insert", &|string| _ = string.try_insert(index, ch))]);
+                if !given.is_empty() {
+                    let by_char: Edit<N> = &|string| unsafe { string.insert_unchecked(index, ch) };
+                    let by_text: Edit<N> = &|string| unsafe { string.insert_str_unchecked(index, &given) };
+                    put(&string, at, 0, &given, &[("insert_unchecked", by_char), ("insert_str_unchecked", by_text)]);
+                }
+            }
+        }
+    }
+}
+
+/// What is removed at the front raises the start offset, and what is removed at the end lowers the size: no byte is written.
+fn removed<const N: usize>() {
+    for string in strings::<N>() {
+        let (offset, len) = (start(&string), string.len() as usize);
+        let none = |place: usize, name: &str, edit: Edit<N>| edited(&string, place, 0..0, name, edit);
+        none(offset, "pop", &|string| _ = string.pop());
+        none(offset, "clear", &|string| string.clear());
+        let leading = |trimmed: &str| offset + len - trimmed.len();
+        none(leading(string.as_str().trim_start()), "trim", &|string| string.trim());
+        none(leading(string.as_str().trim_start_matches(' ')), "trim_spaces", &|string| string.trim_spaces());
+        let boundaries = boundaries(&string);
+        for at in boundaries.iter().copied() {
+            none(offset, "truncate", &|string| _ = string.truncate(at as u8));
+            none(offset, "split_off", &|string| _ = string.split_off(at as u8));
+            let width = string[at as u8..].chars().next().map_or(0, char::len_utf8);
+            let remove: Edit<N> = &|string| _ = string.remove(at as u8);
+            match at {
+                0 => none(offset + width, "remove", remove),
+                _ => edited(&string, offset, offset + at..offset + len - width, "remove", remove),
+            }
+            for end in boundaries.iter().copied().filter(|end| at <= *end) {
+                let drain: Edit<N> = &|string| _ = string.drain(at as u8..end as u8);
+                match at {
+                    0 => none(offset + end, "drain", drain),
+                    _ => edited(&string, offset, offset + at..offset + len - (end - at), "drain", drain),
+                }
+            }
+        }
+    }
+}
+
+/// What is kept moves no further to the front than to the start of the text.
+fn retained<const N: usize>() {
+    for string in strings::<N>() {
+        let offset = start(&string);
+        for pattern in 1..8 {
+            let keeps = |at: usize| pattern >> (at % 3) & 1 == 1;
+            let kept: usize =
+                string.chars().enumerate().filter(|(at, _)| keeps(*at)).map(|(_, ch)| ch.len_utf8()).sum();
+            let same =
+                string.chars().enumerate().take_while(|(at, _)| keeps(*at)).map(|(_, ch)| ch.len_utf8()).sum::<usize>();
+            edited(&string, offset, offset + same..offset + kept, "retain", &|string| {
+                let mut at = 0..;
+                string.retain(|_| at.next().is_some_and(keeps));
+            });
+        }
+        edited(&string, offset, offset..offset + string.len() as usize, "make_ascii_uppercase", &|string| {
+            string.make_ascii_uppercase();
+            string.make_ascii_lowercase();
+        });
+    }
+}
+
+fn replaced<const N: usize>() {
+    for string in strings::<N>() {
+        let boundaries = boundaries(&string);
+        for (at, end) in
+            boundaries.iter().flat_map(|at| boundaries.iter().map(move |end| (*at, *end))).filter(|(at, end)| at <= end)
+        {
+            let room = string.remaining_capacity() as usize + end - at;
+            let given: Vec<_> = given(&string)
+                .into_iter()
+                .chain([letters(end - at), letters(room)])
+                .filter(|given| given.len() <= room)
+                .collect();
+            for given in given {
+                let edit: Edit<N> = &|string| string.replace_range(at as u8..end as u8, &given).expect("a part");
+                put(&string, at, end - at, &given, &[("replace_range", edit)]);
+            }
+        }
+    }
+}
+
+macro_rules! each_moves_what_it_has_to {
+    ($($test:ident $check:ident)*) => {$(
+        #[test]
+        fn $test() {
+            at_capacities!($check: 0 1 2 3 4 5 6 7 8 23 63 255);
+        }
+    )*};
+}
+
+each_moves_what_it_has_to! {
+    an_append_copies_what_is_given_where_there_is_room_behind appended
+    an_insertion_moves_what_is_behind_it_where_there_is_room_behind inserted
+    a_removal_moves_what_is_behind_it_or_nothing removed
+    what_is_kept_moves_to_the_front_of_the_text retained
+    a_replacement_moves_what_is_behind_it_where_there_is_room_behind replaced
+}
