@@ -35,7 +35,7 @@ const BOTH: &[Row] = &[
     row("#[must_use]", "", Then::Anything),
     row("#[track_caller]", "", Then::Anything),
     row("#[doc($how)]", "", Then::Anything),
-    row("#[expect($how)]", "", Then::Anything),
+    row("#[expect(clippy::cast_possible_truncation, $why)]", "", Then::Anything),
     row("#[tactic($how)]", "", Then::Anything),
     row("#[derive(Drop)]", "", Then::Anything),
     row(",)", ")", Then::Anything),
