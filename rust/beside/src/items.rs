@@ -36,7 +36,7 @@ struct Reader<'a> {
 type Around<'a> = (&'a str, &'a [Token]);
 
 /// What stands before an item.
-#[derive(Default)]
+#[derive(Clone, Default)]
 struct Front {
     docs: Vec<String>,
     attributes: Vec<Token>,
@@ -65,7 +65,8 @@ impl Reader<'_> {
             "fn" => return self.function(front, rest, name(at + 1), around),
             "mod" => return self.module(&front, rest, around),
             "impl" => return self.implementation(front, rest),
-            "ghost" | "use" | "extern" => return self.end(rest, &[";"]),
+            "ghost" | "extern" => return self.end(rest, &[";"]),
+            "use" => return self.names(front, rest),
             "const" | "static" | "type" => (&[";"], name(at + 1).to_string()),
             "struct" | "enum" | "union" | "trait" => (&[";", "{"], name(at + 1).to_string()),
             "macro_rules" => (&[";", "{"], name(at + 2).to_string()),
@@ -122,6 +123,15 @@ impl Reader<'_> {
             }
         }
         Err(self.fault(rest, "a function that does not end"))
+    }
+
+    /// Of a `use` the new names are items: `Error as StdError`. The rest is nothing.
+    fn names(&mut self, front: Front, rest: &[Token]) -> Result<usize, Fault> {
+        let end = self.end(rest, &[";"])?;
+        for renamed in rest[..end].windows(3).filter(|part| part[1].is("as") && !part[2].is("_")) {
+            self.put(front.clone(), renamed, &renamed[2].text, Vec::new(), ("", &[]));
+        }
+        Ok(end)
     }
 
     /// `mod a;` is nothing, and of `mod a { .. }` the items are read.

@@ -89,9 +89,9 @@ fn the_counter_goes() {
 fn what_changes_no_result_goes() {
     same(&[
         ("#[inline] fn f() {}", "#[must_use] #[inline(always)] #[track_caller] #[doc(alias = \"g\")] fn f() {}"),
-        ("#[cold] fn f() {}", "#[expect(clippy::a, reason = \"b\")] fn f() {}"),
+        ("#[cold] fn f() {}", "#[expect(clippy::cast_possible_truncation, reason = \"b\")] fn f() {}"),
         ("fn f(\n    a: u8,\n) { [1, 2,]; A { b, } }", "fn f(a: u8) { [1, 2]; A { b } }"),
-        ("use a::b; pub fn f() {}", "use c::d; pub(crate) fn f() {}"),
+        ("use a::{b, c as d}; pub fn f() {}", "use e::c as d; use g as _; pub(crate) fn f() {}"),
         ("fn f() {}", "// a\n/* /* b */ */ fn f() { /* c */ }"),
         ("struct A {\n    /// b\n    c: u8,\n}", "struct A { c: u8 }"),
         ("mod a;\nfn f() {}", "mod b { fn f() {} }\n#[cfg(test)] mod tests { fn g() {} }"),
@@ -100,6 +100,9 @@ fn what_changes_no_result_goes() {
         ("fn f() {}", "#[cfg(a)] fn f() {}"),
         ("fn f() {}", "#[cfg(a)] mod b { fn f() {} }"),
         ("struct A;", "#[repr(C)] struct A;"),
+        ("fn f() {}", "#[expect(clippy::undocumented_unsafe_blocks, reason = \"b\")] fn f() {}"),
+        ("use a::b; fn f() { b() }", "use a::c as b; fn f() { b() }"),
+        ("use a::d as b; fn f() { b() }", "use a::c as b; fn f() { b() }"),
         ("struct A { a: u8 }", "struct A { pub a: u8 }"),
         ("fn f() { 1 }", "fn f() { 1u8 }"),
         ("fn f() { a < b }", "fn f() { a <= b }"),
@@ -476,7 +479,7 @@ fn change_tokens(is_side: fn(&str, &str) -> bool, seed: u64) -> [usize; 4] {
             match () {
                 () if others.is_empty() && before.len() == after.len() => 1,
                 () if is_same && is_ruled => 2,
-                () if others.iter().all(|path| is_alone(&path)) => 3,
+                () if others.iter().all(|path| is_alone(path)) => 3,
                 () => panic!("{name}: {what} is not seen"),
             }
         } else {
