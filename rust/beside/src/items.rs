@@ -65,8 +65,8 @@ impl Reader<'_> {
             "fn" => return self.function(front, rest, name(at + 1), around),
             "mod" => return self.module(&front, rest, around),
             "impl" => return self.implementation(front, rest),
-            "ghost" | "extern" => return self.end(rest, &[";"]),
-            "use" => return self.names(front, rest),
+            "ghost" => return self.end(rest, &[";"]),
+            "use" | "extern" => return self.names(front, rest),
             "const" | "static" | "type" => (&[";"], name(at + 1).to_string()),
             "struct" | "enum" | "union" | "trait" => (&[";", "{"], name(at + 1).to_string()),
             "macro_rules" => (&[";", "{"], name(at + 2).to_string()),
@@ -114,6 +114,11 @@ impl Reader<'_> {
                 _ => closing(rest, at) + 1,
             };
             match is_clause {
+                true if is_unclear(&rest[start..at]) => {
+                    return Err(
+                        self.fault(&rest[start..], "a clause with a comment or a quote, which may end elsewhere")
+                    );
+                }
                 true => clauses.push(words(&rest[start..at])),
                 false => kept.extend_from_slice(&rest[start..at]),
             }
@@ -178,6 +183,12 @@ fn position(tokens: &[Token], signs: &[&str]) -> Option<usize> {
         at = closing(tokens, at) + 1;
     }
     None
+}
+
+/// Whether a clause may end elsewhere in Rattle: where `--` begins a comment, or `a'` is a name.
+fn is_unclear(clause: &[Token]) -> bool {
+    let is_quote = |token: &Token| matches!(token.kind, Kind::Literal | Kind::Lifetime) || token.is("'");
+    clause.iter().any(is_quote) || clause.windows(2).any(|pair| pair[0].is("-") && pair[1].is("-"))
 }
 
 /// The words of tokens as they are written, without comments: names such as `stored-size` have signs in them.

@@ -45,7 +45,7 @@ fn tells(tree: &Tree, words: &str) {
 #[test]
 fn ghost_parts_go() {
     same(&[
-        ("fn f() requires a { b < \"c\" } ensures { d } { g() }", "unsafe fn f() { g() }"),
+        ("fn f() requires a { b < c } ensures { d } { g() }", "unsafe fn f() { g() }"),
         ("ghost use a.b; ghost c = { λ d. d };\nfn f() {}", "fn f() {}"),
         ("impl Model for A { ghost a = { b }; }\nfn f() {}", "fn f() {}"),
         ("impl B for A { ghost a = { b }; fn f() {} }", "impl B for A { fn f() {} }"),
@@ -54,6 +54,12 @@ fn ghost_parts_go() {
         ("fn f() { text_fits(self); only_reading(units); g() }", "fn f() { g() }"),
         ("#[tactic(auto, using(a))] #[derive(Drop)] struct A;", "struct A;"),
     ]);
+    for clause in ["a -- b", "a'}'", "a' b", "\"}\"", "'a"] {
+        tells(
+            &tree(&format!("fn f()\n    ensures {{ {clause}\n}} {{}}"), "", ""),
+            "a.rt:2: a clause with a comment or a quote",
+        );
+    }
     differ(&[
         ("fn f() { prove!(a == { b }); }", "fn f() {}"),
         ("fn f() { prove!(a = b); }", "fn f() {}"),
@@ -91,7 +97,7 @@ fn what_changes_no_result_goes() {
         ("#[inline] fn f() {}", "#[must_use] #[inline(always)] #[track_caller] #[doc(alias = \"g\")] fn f() {}"),
         ("#[cold] fn f() {}", "#[expect(clippy::cast_possible_truncation, reason = \"b\")] fn f() {}"),
         ("fn f(\n    a: u8,\n) { [1, 2,]; A { b, } }", "fn f(a: u8) { [1, 2]; A { b } }"),
-        ("use a::{b, c as d}; pub fn f() {}", "use e::c as d; use g as _; pub(crate) fn f() {}"),
+        ("use a::{b, c as d}; extern crate g; pub fn f() {}", "use e::c as d; use g as _; pub(crate) fn f() {}"),
         ("fn f() {}", "// a\n/* /* b */ */ fn f() { /* c */ }"),
         ("struct A {\n    /// b\n    c: u8,\n}", "struct A { c: u8 }"),
         ("mod a;\nfn f() {}", "mod b { fn f() {} }\n#[cfg(test)] mod tests { fn g() {} }"),
@@ -102,6 +108,7 @@ fn what_changes_no_result_goes() {
         ("struct A;", "#[repr(C)] struct A;"),
         ("fn f() {}", "#[expect(clippy::undocumented_unsafe_blocks, reason = \"b\")] fn f() {}"),
         ("use a::b; fn f() { b() }", "use a::c as b; fn f() { b() }"),
+        ("fn f() { b() }", "extern crate a as b; fn f() { b() }"),
         ("use a::d as b; fn f() { b() }", "use a::c as b; fn f() { b() }"),
         ("struct A { a: u8 }", "struct A { pub a: u8 }"),
         ("fn f() { 1 }", "fn f() { 1u8 }"),
@@ -479,7 +486,7 @@ fn change_tokens(is_side: fn(&str, &str) -> bool, seed: u64) -> [usize; 4] {
             match () {
                 () if others.is_empty() && before.len() == after.len() => 1,
                 () if is_same && is_ruled => 2,
-                () if others.iter().all(|path| is_alone(path)) => 3,
+                () if others.iter().all(is_alone) => 3,
                 () => panic!("{name}: {what} is not seen"),
             }
         } else {
