@@ -1,6 +1,9 @@
 // By hand: no proof stands behind this file.
 //! Copies of the text as `String`, `Box<str>`, `Rc<str>`, `Arc<str>`, `Cow<str>` and `Vec<u8>`, behind the feature `alloc`: of one
 //! string, and of many that are collected.
+//!
+//! `Box<str>`, `Rc<str>` and `Arc<str>` are made of no borrowed string. If they were, `Box::<str>::from(text.as_ref())` would no longer
+//! be compiled in a program that has this crate, since `From<&str>` is then not the only one.
 #![deny(unsafe_code)]
 
 extern crate alloc;
@@ -33,25 +36,6 @@ macro_rules! copied_as {
                 string.as_str().into()
             }
         }
-
-        /// A copy of the text. With the feature `alloc`.
-        ///
-        /// ```
-        /// # #[allow(unused_imports)]
-        /// use std::{rc::Rc, sync::Arc};
-        ///
-        /// use arraystring::{ArrayString, CacheString};
-        ///
-        /// let (string, key) = (ArrayString::<4>::from("ab"), CacheString::from("c"));
-        #[doc = concat!("let copies: [", stringify!($copy), "; 2] = [(&string).into(), (&key).into()];")]
-        /// assert_eq!((&*copies[0], &*copies[1]), ("ab", "c"));
-        /// ```
-        impl<$($generics)*> From<&$string> for $copy {
-            #[inline]
-            fn from(string: &$string) -> Self {
-                string.as_str().into()
-            }
-        }
     )*};
 }
 
@@ -69,6 +53,21 @@ copied_as! {
 /// Implements what is copied of both types of strings.
 macro_rules! copied {
     ($(($($generics:tt)*) $string:ty),*) => {$(
+        /// A copy of the text. With the feature `alloc`.
+        ///
+        /// ```
+        /// use arraystring::{ArrayString, CacheString};
+        ///
+        /// let (string, key) = (ArrayString::<4>::from("ab"), CacheString::from("c"));
+        /// assert_eq!([String::from(&string), String::from(&key)], ["ab", "c"]);
+        /// ```
+        impl<$($generics)*> From<&$string> for String {
+            #[inline]
+            fn from(string: &$string) -> Self {
+                string.as_str().into()
+            }
+        }
+
         /// A copy of the text, owned. With the feature `alloc`.
         ///
         /// ```

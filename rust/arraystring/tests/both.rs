@@ -54,6 +54,7 @@ macro_rules! tables {
                     ("from_iterator", false, |text| Ok(Self::from_iterator(halves(text)))),
                     ("from_iterator behind empty ones", false, |text| Ok(Self::from_iterator(behind_empty_ones(text)))),
                     ("from_utf8", false, |text| Ok(Self::from_utf8(text)?)),
+                    ("from_utf8_lossy", false, |text| Ok(Self::from_utf8_lossy(text))),
                     ("from_utf16", false, |text| Ok(Self::from_utf16(units(text))?)),
                     ("from_utf16_lossy", false, |text| Ok(Self::from_utf16_lossy(units(text)))),
                     ("collect of characters", false, |text| Ok(text.chars().collect())),
@@ -97,7 +98,7 @@ macro_rules! tables {
                 use std::fmt::Write;
                 vec![
                     ("push_str", false, |string, text| Ok(string.push_str(text))),
-                    ("+", false, |string, text| Ok(*string = *string + text)),
+                    ("+", false, |string, text| Ok(*string = std::ops::Add::add(*string, text))),
                     ("+=", false, |string, text| Ok(*string += text)),
                     ("extend_chars", false, |string, text| Ok(string.extend_chars(text.chars()))),
                     ("extend_strs", false, |string, text| Ok(string.extend_strs(behind_empty_ones(text)))),
@@ -120,6 +121,8 @@ macro_rules! tables {
                     ("try_push_str", true, |string, text| Ok(string.try_push_str(text)?)),
                     ("try_insert_str", true, |string, text| { let end = string.len(); string.try_insert_str(end, text) }),
                     ("replace_range", true, |string, text| { let end = string.len(); string.replace_range(end.., text) }),
+                    ("try_extend_chars", true, |string, text| Ok(string.try_extend_chars(text.chars())?)),
+                    ("try_extend_strs", true, |string, text| Ok(string.try_extend_strs(behind_empty_ones(text))?)),
                     ("write_str", true, |string, text| Ok(string.write_str(text)?)),
                     ("write!", true, |string, text| Ok(write!(string, "{text}")?)),
                     ("try_write", true, |string, text| {

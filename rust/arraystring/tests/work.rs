@@ -91,7 +91,7 @@ fn appended<const N: usize>() {
             let cutting: [(&str, Edit<N>); 9] = [
                 ("push_str", &|string| string.push_str(given)),
                 ("+=", &|string| *string += given),
-                ("+", &|string| *string = *string + given),
+                ("+", &|string| *string = std::ops::Add::add(*string, given)),
                 ("extend_chars", &|string| string.extend_chars(given.chars())),
                 ("extend of characters", &|string| string.extend(given.chars())),
                 ("extend_strs", &|string| string.extend_strs([given])),
@@ -100,29 +100,23 @@ fn appended<const N: usize>() {
                 ("extend_strs of characters", &|string| string.extend_strs(given.chars().map(|ch| ch.to_string()))),
             ];
             put(&string, len, 0, kept, &cutting);
-            let refusing: [(&str, Edit<N>); 4] = [
+            let refusing: [(&str, Edit<N>); 5] = [
                 ("try_push_str", &|string| _ = string.try_push_str(given)),
+                ("try_extend_strs", &|string| _ = string.try_extend_strs([given])),
                 ("write_str", &|string| _ = string.write_str(given)),
                 ("write!", &|string| _ = write!(string, "{given}")),
                 ("try_write", &|string| _ = string.try_write(format_args!("{given}"))),
             ];
             put(&string, len, 0, if given.len() <= room { given } else { "" }, &refusing);
             if given.len() <= room {
-                // SAFETY: it fits.
-                put(
-                    &string,
-                    len,
-                    0,
-                    given,
-                    &[("push_str_unchecked", &|string| unsafe { string.push_str_unchecked(given) })],
-                );
-                put(
-                    &string,
-                    len,
-                    0,
-                    given,
-                    &[("try_write of two", &|string| _ = string.try_write(format_args!("{front}{back}")))],
-                );
+                let fitting: [(&str, Edit<N>); 4] = [
+                    // SAFETY: it fits.
+                    ("push_str_unchecked", &|string| unsafe { string.push_str_unchecked(given) }),
+                    ("try_write of two", &|string| _ = string.try_write(format_args!("{front}{back}"))),
+                    ("try_extend_chars", &|string| _ = string.try_extend_chars(given.chars())),
+                    ("try_extend_strs of two", &|string| _ = string.try_extend_strs([front, back])),
+                ];
+                put(&string, len, 0, given, &fitting);
             }
         }
         for ch in ['a', 'é', '€', '🤔'] {
@@ -148,10 +142,11 @@ fn inserted<const N: usize>() {
                 let whole = if given.len() <= room { &given } else { "" };
                 put(&string, at, 0, whole, &[("try_insert_str", &|string| _ = string.try_insert_str(index, &given))]);
             }
-            for ch in ['a', 'é', '€', '🤔'].into_iter() {
+            for ch in ['a', 'é', '€', '🤔'] {
                 let given = if ch.len_utf8() <= room { ch.to_string() } else { String::new() };
                 put(&string, at, 0, &given, &[("try_insert", &|string| _ = string.try_insert(index, ch))]);
                 if !given.is_empty() {
+                    // SAFETY: it fits, and the index is a boundary.
                     let by_char: Edit<N> = &|string| unsafe { string.insert_unchecked(index, ch) };
                     let by_text: Edit<N> = &|string| unsafe { string.insert_str_unchecked(index, &given) };
                     put(&string, at, 0, &given, &[("insert_unchecked", by_char), ("insert_str_unchecked", by_text)]);

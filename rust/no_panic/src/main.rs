@@ -87,6 +87,7 @@ fn made<const N: usize>(text: &str, bytes: &[u8], units: &[u16]) -> usize {
         Some(Text::from_iterator([text, text])),
         Some([text, text].into_iter().collect()),
         Text::from_utf8(bytes).ok(),
+        Some(Text::from_utf8_lossy(bytes)),
         Text::try_from_utf8(bytes).ok(),
         Text::from_utf16(units).ok(),
         Text::try_from_utf16(units).ok(),
@@ -113,7 +114,7 @@ macro_rules! each {
 fn whole<const N: usize>(string: &mut Text<N>, text: &str, ch: char) {
     each!(string:
         make_ascii_uppercase() make_ascii_lowercase() try_push(ch) try_push_str(text) push_str(text) extend_chars(text.chars())
-        extend_strs([text, text]) pop() trim() trim_spaces() as_bytes() clear());
+        extend_strs([text, text]) try_extend_chars(text.chars()) try_extend_strs([text, text]) pop() trim() trim_spaces() as_bytes() clear());
 }
 
 #[inline(never)]
@@ -217,6 +218,7 @@ fn cached(text: &str, bytes: &[u8], units: &[u16], at: u8) -> usize {
         text.parse().ok(),
         Some(CacheString::default()),
         CacheString::from_utf8(bytes).ok(),
+        Some(CacheString::from_utf8_lossy(bytes)),
         CacheString::from_utf16(units).ok(),
         Some(CacheString::from_utf16_lossy(units)),
         Some(CacheString::from_chars(text.chars())),
