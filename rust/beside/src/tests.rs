@@ -206,7 +206,7 @@ fn an_item_is_held_beside_that_of_its_path() {
     tells(&tree("struct A;", "enum A {}", ""), "`A` differs");
     tells(
         &tree("\nfn f() {\n    g(1)\n}", "\n\nfn f() {\n    g(2)\n}", ""),
-        "a.rs:4: `f` differs, here at line 5, and at crates/arraystring_base/src/a.rt:3",
+        "a.rs:5: `f` differs from crates/arraystring_base/src/a.rt:3",
     );
     tells(&tree("", "static A: u8 = 1;", ""), "`A` is only in Rust");
     tells(&tree("const A: u8 = 1;", "", ""), "a.rt:1: `A` is only in the source");
