@@ -118,8 +118,9 @@ fn compared(tree: &Tree) -> Result<Report, Fault> {
         for item in items(name, text)? {
             let rust = Ruled { tokens: rules.of_rust(&item.tokens), item, printed: Vec::new(), is_counted: false };
             all.keeps_tests(&rust);
-            if !named.is_empty() {
-                all.item(&rust, &named);
+            match named.is_empty() {
+                true => all.by_hand(&rust.item),
+                false => all.item(&rust, &named),
             }
         }
     }
@@ -149,6 +150,13 @@ impl Comparison<'_> {
         if is_unsafe && runs && self.block(&rust.item.path, |says| *says == Says::Unsafe).is_none() {
             let what = format!("`{}` runs a caller's code, and has an `unsafe` block", rust.item.path);
             self.fault(&rust.item, what);
+        }
+    }
+
+    /// No item by hand has the path of a source, so that none is called in its place.
+    fn by_hand(&mut self, rust: &Item) {
+        if !rust.path.starts_with("impl ") && self.sources.iter().any(|source| source.item.path == rust.path) {
+            self.fault(rust, format!("`{}` is by hand, and a source has this name", rust.path));
         }
     }
 
@@ -200,10 +208,7 @@ impl Comparison<'_> {
         match made {
             Ok(made) if made == rust.tokens && block.is_some() => self.report.by_entry += 1,
             Ok(made) if made == rust.tokens => self.report.same += 1,
-            Ok(made) => {
-                let what = difference(&source.item, &made, rust);
-                self.fault(&rust.item, what);
-            }
+            Ok(made) => self.report.faults.push(difference(&source.item, &made, rust)),
             Err(what) => {
                 let line = block.map_or(0, |at| self.blocks[at].line);
                 self.report.faults.push(differences::fault(line, format!("`{path}`: {what}")));
@@ -235,7 +240,7 @@ impl Comparison<'_> {
 }
 
 /// Where two items differ, with the tokens that an entry would have.
-fn difference(source: &Item, from: &[Token], rust: &Ruled) -> String {
+fn difference(source: &Item, from: &[Token], rust: &Ruled) -> Fault {
     let to = &rust.tokens;
     let same = from.iter().zip(to).take_while(|(one, other)| one == other).count();
     let behind = from.iter().rev().zip(to.iter().rev()).take_while(|(one, other)| one == other).count();
@@ -246,13 +251,13 @@ fn difference(source: &Item, from: &[Token], rust: &Ruled) -> String {
         (start, end) = (start.saturating_sub(1), end.saturating_sub(1));
     }
     let place = |tokens: &[Token], line: usize| tokens.get(same).map_or(line, |token| token.line);
-    format!(
-        "`{}` differs, here at line {}, and at {}:{}\n    source: {}\n    rust: {}",
+    let what = format!(
+        "`{}` differs from {}:{}\n    source: {}\n    rust: {}",
         source.path,
-        place(to, rust.item.line),
         source.file,
         place(from, source.line),
         line(&from[start..from.len() - end]),
         line(&to[start..to.len() - end]),
-    )
+    );
+    Fault { file: rust.item.file.clone(), line: place(to, rust.item.line), what }
 }

@@ -36,7 +36,7 @@ struct Reader<'a> {
 type Around<'a> = (&'a str, &'a [Token]);
 
 /// What stands before an item.
-#[derive(Default)]
+#[derive(Clone, Default)]
 struct Front {
     docs: Vec<String>,
     attributes: Vec<Token>,
@@ -65,7 +65,8 @@ impl Reader<'_> {
             "fn" => return self.function(front, rest, name(at + 1), around),
             "mod" => return self.module(&front, rest, around),
             "impl" => return self.implementation(front, rest),
-            "ghost" | "use" | "extern" => return self.end(rest, &[";"]),
+            "ghost" => return self.end(rest, &[";"]),
+            "use" | "extern" => return self.names(front, rest),
             "const" | "static" | "type" => (&[";"], name(at + 1).to_string()),
             "struct" | "enum" | "union" | "trait" => (&[";", "{"], name(at + 1).to_string()),
             "macro_rules" => (&[";", "{"], name(at + 2).to_string()),
@@ -113,6 +114,11 @@ impl Reader<'_> {
                 _ => closing(rest, at) + 1,
             };
             match is_clause {
+                true if is_unclear(&rest[start..at]) => {
+                    return Err(
+                        self.fault(&rest[start..], "a clause with a comment or a quote, which may end elsewhere")
+                    );
+                }
                 true => clauses.push(words(&rest[start..at])),
                 false => kept.extend_from_slice(&rest[start..at]),
             }
@@ -122,6 +128,15 @@ impl Reader<'_> {
             }
         }
         Err(self.fault(rest, "a function that does not end"))
+    }
+
+    /// Of a `use` the new names are items: `Error as StdError`. The rest is nothing.
+    fn names(&mut self, front: Front, rest: &[Token]) -> Result<usize, Fault> {
+        let end = self.end(rest, &[";"])?;
+        for renamed in rest[..end].windows(3).filter(|part| part[1].is("as") && !part[2].is("_")) {
+            self.put(front.clone(), renamed, &renamed[2].text, Vec::new(), ("", &[]));
+        }
+        Ok(end)
     }
 
     /// `mod a;` is nothing, and of `mod a { .. }` the items are read.
@@ -162,12 +177,18 @@ impl Reader<'_> {
 fn position(tokens: &[Token], signs: &[&str]) -> Option<usize> {
     let mut at = 0;
     while at < tokens.len() {
-        if signs.iter().any(|sign| tokens[at].is(sign)) {
+        if tokens[at].is_one_of(signs) {
             return Some(at);
         }
         at = closing(tokens, at) + 1;
     }
     None
+}
+
+/// Whether a clause may end elsewhere in Rattle: where `--` begins a comment, or `a'` is a name.
+fn is_unclear(clause: &[Token]) -> bool {
+    let is_quote = |token: &Token| matches!(token.kind, Kind::Literal | Kind::Lifetime) || token.is("'");
+    clause.iter().any(is_quote) || clause.windows(2).any(|pair| pair[0].is("-") && pair[1].is("-"))
 }
 
 /// The words of tokens as they are written, without comments: names such as `stored-size` have signs in them.

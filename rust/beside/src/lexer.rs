@@ -48,6 +48,10 @@ impl Token {
     pub fn is(&self, text: &str) -> bool {
         *self.text == *text && matches!(self.kind, Kind::Word | Kind::Sign)
     }
+
+    pub fn is_one_of(&self, texts: &[&str]) -> bool {
+        texts.iter().any(|text| self.is(text))
+    }
 }
 
 /// The signs of more than one character, the longest first. `>>` is two, since it may end generics: a `> >` is nothing else.
@@ -156,30 +160,32 @@ fn number(text: &str) -> usize {
 
 /// The length of a literal in quotes: `"a"`, `b"a"`, `r#"a"#`, `'a'`, `b'\''`; or none.
 fn literal(text: &str) -> Result<Option<usize>, &'static str> {
-    let prefix = ["br", "cr", "b", "c", "r", ""].into_iter().find(|prefix| {
-        let rest = text.strip_prefix(prefix).unwrap_or("");
-        rest.starts_with(['"', '\'']) || prefix.ends_with('r') && rest.trim_start_matches('#').starts_with('"')
-    });
-    let Some(prefix) = prefix else { return Ok(None) };
-    let rest = &text[prefix.len()..];
-    if prefix.ends_with('r') {
-        let fence = rest.len() - rest.trim_start_matches('#').len();
-        let end = format!("\"{}", "#".repeat(fence));
-        let body = rest.get(fence + 1..).unwrap_or("");
-        let found = if rest[fence..].starts_with('"') { body.find(&end) } else { return Ok(None) };
-        return found.map(|at| Some(prefix.len() + fence + 1 + at + end.len())).ok_or("a raw text that does not end");
-    }
-    if rest.starts_with('\'') {
-        return Ok(character(rest).filter(|_| prefix != "c").map(|len| prefix.len() + len));
-    }
+    let (prefix, rest) = text.split_at(run(text, is_inside_word));
+    let len = match prefix {
+        "" | "b" if rest.starts_with('\'') => return Ok(character(rest).map(|len| prefix.len() + len)),
+        "" | "b" | "c" if rest.starts_with('"') => quoted(rest),
+        "r" | "br" | "cr" if rest.trim_start_matches('#').starts_with('"') => raw(rest),
+        _ => return Ok(None),
+    };
+    len.map(|len| Some(prefix.len() + len)).ok_or("a text that does not end")
+}
+
+/// The length of `"a\"b"`.
+fn quoted(text: &str) -> Option<usize> {
     let mut is_escaped = false;
-    for (at, ch) in rest.char_indices().skip(1) {
-        if ch == '"' && !is_escaped {
-            return Ok(Some(prefix.len() + at + 1));
-        }
-        is_escaped = ch == '\\' && !is_escaped;
-    }
-    Err("a text that does not end")
+    let end = text.char_indices().skip(1).find(|(_, ch)| {
+        let is_end = *ch == '"' && !is_escaped;
+        is_escaped = *ch == '\\' && !is_escaped;
+        is_end
+    });
+    end.map(|(at, _)| at + 1)
+}
+
+/// The length of `#"a"b"#`.
+fn raw(text: &str) -> Option<usize> {
+    let (fence, _) = text.split_once('"')?;
+    let end = format!("\"{fence}");
+    text[fence.len() + 1..].find(&end).map(|at| fence.len() + 1 + at + end.len())
 }
 
 /// The length of `'a'` or `'\n'`; none of the lifetime `'a`.
@@ -197,38 +203,28 @@ fn character(text: &str) -> Option<usize> {
 /// Each bracket is closed by its like: `([)]` is refused.
 fn balanced(file: &str, tokens: &[Token]) -> Result<(), Fault> {
     let mut open: Vec<&Token> = Vec::new();
-    for token in tokens.iter().filter(|token| token.kind == Kind::Sign) {
-        let fault = |line| Fault { file: file.to_string(), line, what: format!("`{}` stands alone", token.text) };
-        match &*token.text {
-            "(" | "[" | "{" => open.push(token),
-            ")" | "]" | "}" => {
-                let like = open.pop().map(|token| &*token.text);
-                if !matches!((like, &*token.text), (Some("("), ")") | (Some("["), "]") | (Some("{"), "}")) {
-                    return Err(fault(token.line));
-                }
+    for token in tokens {
+        if token.is_one_of(OPEN) {
+            open.push(token);
+        } else if let Some(kind) = CLOSE.iter().position(|close| token.is(close)) {
+            if open.pop().is_none_or(|token| !token.is(OPEN[kind])) {
+                let what = format!("`{}` closes nothing", token.text);
+                return Err(Fault { file: file.to_string(), line: token.line, what });
             }
-            _ => {}
         }
     }
-    match open.pop() {
-        Some(token) => {
-            Err(Fault { file: file.to_string(), line: token.line, what: "a bracket that is not closed".into() })
-        }
-        None => Ok(()),
-    }
+    let fault = |token: &Token| Fault { file: file.to_string(), line: token.line, what: "a bracket stays open".into() };
+    open.pop().map_or(Ok(()), |token| Err(fault(token)))
 }
+
+const OPEN: &[&str] = &["(", "[", "{"];
+const CLOSE: &[&str] = &[")", "]", "}"];
 
 /// Where the group ends that begins at an index: the index of its last bracket, or the index itself where none begins.
 pub fn closing(tokens: &[Token], open: usize) -> usize {
     let mut depth = 0;
     for (at, token) in tokens.iter().enumerate().skip(open) {
-        if token.kind == Kind::Sign {
-            match &*token.text {
-                "(" | "[" | "{" => depth += 1,
-                ")" | "]" | "}" => depth -= 1,
-                _ => {}
-            }
-        }
+        depth += isize::from(token.is_one_of(OPEN)) - isize::from(token.is_one_of(CLOSE));
         if depth <= 0 {
             return at;
         }

@@ -71,7 +71,8 @@ fn print(tree: &Tree, path: &str) -> Result<bool, String> {
     }
     for source in found {
         let text: String = source.printed.iter().flat_map(|token| [&*token.gap, &*token.text]).collect();
-        println!("// {}:{}\n{}", source.item.file, source.item.line, text.trim_start());
+        let visibility = if source.item.is_public { "pub " } else { "" };
+        println!("// {}:{}\n{visibility}{}", source.item.file, source.item.line, text.trim_start());
     }
     Ok(true)
 }

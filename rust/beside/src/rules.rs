@@ -35,7 +35,7 @@ const BOTH: &[Row] = &[
     row("#[must_use]", "", Then::Anything),
     row("#[track_caller]", "", Then::Anything),
     row("#[doc($how)]", "", Then::Anything),
-    row("#[expect($how)]", "", Then::Anything),
+    row("#[expect(clippy::cast_possible_truncation, $why)]", "", Then::Anything),
     row("#[tactic($how)]", "", Then::Anything),
     row("#[derive(Drop)]", "", Then::Anything),
     row(",)", ")", Then::Anything),
@@ -198,7 +198,7 @@ fn fits<'a>(pattern: &'a [Token], tokens: &'a [Token], bound: &mut Vec<(&'a str,
             return Some(len + more);
         }
         bound.truncate(count);
-        if tokens.get(len).is_none_or(|token| [";", "{", ")", "]", "}"].iter().any(|end| token.is(end))) {
+        if tokens.get(len).is_none_or(|token| token.is_one_of(&[";", "{", ")", "]", "}"])) {
             return None;
         }
         len = closing(tokens, len) + 1;
@@ -206,7 +206,7 @@ fn fits<'a>(pattern: &'a [Token], tokens: &'a [Token], bound: &mut Vec<(&'a str,
 }
 
 fn allows(then: Then, next: Option<&Token>) -> bool {
-    let is_one_of = |signs: &[&str]| next.is_some_and(|token| signs.iter().any(|sign| token.is(sign)));
+    let is_one_of = |signs: &[&str]| next.is_some_and(|token| token.is_one_of(signs));
     match then {
         Then::Anything => true,
         Then::End => is_one_of(&[",", ")"]),
@@ -219,10 +219,12 @@ fn allows(then: Then, next: Option<&Token>) -> bool {
 fn has_no_effect((name, value): &(&str, &[Token])) -> bool {
     let compares = ["==", "!=", "<=", ">=", "..="];
     let assigns = |token: &Token| token.text.ends_with('=') && !compares.contains(&&*token.text);
-    let changes = |token: &Token| ["mut", "{", "?", "return", "break", "continue"].iter().any(|word| token.is(word));
+    let changes = |token: &Token| token.is_one_of(&["mut", "{", "?", "return", "break", "continue"]);
+    let calls = value.windows(2).any(|pair| (pair[0].kind == Kind::Word || pair[0].is("!")) && pair[1].is("("));
     match *name {
-        "$fact" => !value.iter().any(|token| assigns(token) || changes(token) || token.is("(")),
-        "$test" => !value.iter().any(|token| assigns(token) || changes(token)),
+        "$fact" | "$test" => {
+            !value.iter().any(|token| assigns(token) || changes(token)) && (*name == "$test" || !calls)
+        }
         _ => true,
     }
 }
@@ -230,10 +232,8 @@ fn has_no_effect((name, value): &(&str, &[Token])) -> bool {
 /// What an `$of` or a `$value` stands for, between two tokens: in brackets, if it is no chain of names and calls, and one of the two
 /// may bind a part of it.
 fn operand(name: &str, value: Vec<Token>, before: Option<&Token>, next: Option<&Token>) -> Vec<Token> {
-    let is_one_of =
-        |token: Option<&Token>, signs: &[&str]| token.is_none_or(|token| signs.iter().any(|sign| token.is(sign)));
-    let is_apart = is_one_of(before, &["(", "[", "{", "}", ",", ";", "=", "=>", "return"])
-        && is_one_of(next, &[")", "]", "}", ",", ";"]);
+    let is_apart = before.is_none_or(|token| token.is_one_of(&["(", "[", "{", "}", ",", ";", "=", "=>", "return"]))
+        && next.is_none_or(|token| token.is_one_of(&[")", "]", "}", ",", ";"]));
     if !["$of", "$value"].contains(&name) || is_apart || is_chain(&value) {
         return value;
     }
@@ -263,7 +263,7 @@ fn is_chain(value: &[Token]) -> bool {
 /// `impl`, a `fn(..)` or a formatter.
 pub fn runs_code(tokens: &[Token], around: &[Token]) -> bool {
     let head = &tokens[..tokens.iter().position(|token| token.is("{")).unwrap_or(tokens.len())];
-    let is_word = |token: &Token| ["dyn", "impl", "Formatter"].iter().any(|word| token.is(word));
+    let is_word = |token: &Token| token.is_one_of(&["dyn", "impl", "Formatter"]);
     let is_pointer = |pair: &[Token]| pair[0].is("fn") && pair[1].is("(");
     let has_type = |tokens: &[Token], pattern: &str| {
         let (pattern, mut bound) = (scan("a rule", pattern).unwrap_or_default(), Vec::new());

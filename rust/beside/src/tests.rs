@@ -45,20 +45,28 @@ fn tells(tree: &Tree, words: &str) {
 #[test]
 fn ghost_parts_go() {
     same(&[
-        ("fn f() requires a { b < \"c\" } ensures { d } { g() }", "unsafe fn f() { g() }"),
+        ("fn f() requires a { b < c } ensures { d } { g() }", "unsafe fn f() { g() }"),
         ("ghost use a.b; ghost c = { λ d. d };\nfn f() {}", "fn f() {}"),
         ("impl Model for A { ghost a = { b }; }\nfn f() {}", "fn f() {}"),
         ("impl B for A { ghost a = { b }; fn f() {} }", "impl B for A { fn f() {} }"),
         ("fn f<F: Fn() + Drop>(a: F) {}", "fn f<F: Fn()>(a: F) {}"),
-        ("fn f() { prove!(a < b); g() }", "fn f() { g() }"),
+        ("fn f() { prove!((a + 1) * 2 <= b); g() }", "fn f() { g() }"),
         ("fn f() { text_fits(self); only_reading(units); g() }", "fn f() { g() }"),
         ("#[tactic(auto, using(a))] #[derive(Drop)] struct A;", "struct A;"),
     ]);
+    for clause in ["a -- b", "a'}'", "a' b", "\"}\"", "'a"] {
+        tells(
+            &tree(&format!("fn f()\n    ensures {{ {clause}\n}} {{}}"), "", ""),
+            "a.rt:2: a clause with a comment or a quote",
+        );
+    }
     differ(&[
         ("fn f() { prove!(a == { b }); }", "fn f() {}"),
         ("fn f() { prove!(a = b); }", "fn f() {}"),
         ("fn f() { prove!(g(&mut a)); }", "fn f() {}"),
         ("fn f() { prove!(self.pop()); }", "fn f() {}"),
+        ("fn f() { prove!(g!(a)); }", "fn f() {}"),
+        ("fn f() { prove!(a < b?); }", "fn f() {}"),
         ("fn f() { other(self); }", "fn f() {}"),
     ]);
 }
@@ -87,9 +95,9 @@ fn the_counter_goes() {
 fn what_changes_no_result_goes() {
     same(&[
         ("#[inline] fn f() {}", "#[must_use] #[inline(always)] #[track_caller] #[doc(alias = \"g\")] fn f() {}"),
-        ("#[cold] fn f() {}", "#[expect(clippy::a, reason = \"b\")] fn f() {}"),
+        ("#[cold] fn f() {}", "#[expect(clippy::cast_possible_truncation, reason = \"b\")] fn f() {}"),
         ("fn f(\n    a: u8,\n) { [1, 2,]; A { b, } }", "fn f(a: u8) { [1, 2]; A { b } }"),
-        ("use a::b; pub fn f() {}", "use c::d; pub(crate) fn f() {}"),
+        ("use a::{b, c as d}; extern crate g; pub fn f() {}", "use e::c as d; use g as _; pub(crate) fn f() {}"),
         ("fn f() {}", "// a\n/* /* b */ */ fn f() { /* c */ }"),
         ("struct A {\n    /// b\n    c: u8,\n}", "struct A { c: u8 }"),
         ("mod a;\nfn f() {}", "mod b { fn f() {} }\n#[cfg(test)] mod tests { fn g() {} }"),
@@ -98,6 +106,10 @@ fn what_changes_no_result_goes() {
         ("fn f() {}", "#[cfg(a)] fn f() {}"),
         ("fn f() {}", "#[cfg(a)] mod b { fn f() {} }"),
         ("struct A;", "#[repr(C)] struct A;"),
+        ("fn f() {}", "#[expect(clippy::undocumented_unsafe_blocks, reason = \"b\")] fn f() {}"),
+        ("use a::b; fn f() { b() }", "use a::c as b; fn f() { b() }"),
+        ("fn f() { b() }", "extern crate a as b; fn f() { b() }"),
+        ("use a::d as b; fn f() { b() }", "use a::c as b; fn f() { b() }"),
         ("struct A { a: u8 }", "struct A { pub a: u8 }"),
         ("fn f() { 1 }", "fn f() { 1u8 }"),
         ("fn f() { a < b }", "fn f() { a <= b }"),
@@ -194,7 +206,7 @@ fn an_item_is_held_beside_that_of_its_path() {
     tells(&tree("struct A;", "enum A {}", ""), "`A` differs");
     tells(
         &tree("\nfn f() {\n    g(1)\n}", "\n\nfn f() {\n    g(2)\n}", ""),
-        "a.rs:4: `f` differs, here at line 5, and at crates/arraystring_base/src/a.rt:3",
+        "a.rs:5: `f` differs from crates/arraystring_base/src/a.rt:3",
     );
     tells(&tree("", "static A: u8 = 1;", ""), "`A` is only in Rust");
     tells(&tree("const A: u8 = 1;", "", ""), "a.rt:1: `A` is only in the source");
@@ -216,6 +228,8 @@ fn a_file_says_where_its_sources_are() {
     assert_eq!(faults(&files), "");
     files.insert(format!("{RUST}c.rs"), "// By hand: no proof stands behind this file.\nfn h() {}".to_string());
     assert_eq!(faults(&files), "");
+    files.insert(format!("{RUST}c.rs"), "// By hand: no proof stands behind this file.\nfn g() {}".to_string());
+    tells(&files, "c.rs:2: `g` is by hand, and a source has this name");
 }
 
 #[test]
@@ -351,9 +365,9 @@ fn each_token_is_what_it_is() {
         ("/* /* */", "does not end"),
         ("r#\"a\"", "does not end"),
         ("a\rb", "may end a line"),
-        ("(]", "`]` stands alone"),
-        (")", "`)` stands alone"),
-        ("fn f() {", "not closed"),
+        ("(]", "`]` closes nothing"),
+        (")", "`)` closes nothing"),
+        ("fn f() {", "stays open"),
         ("what", "no item is known"),
     ] {
         tells(&tree("", text, ""), words);
@@ -446,50 +460,59 @@ fn read_items(name: &str, text: &str, rules: &Rules) -> BTreeMap<String, (Vec<St
         .collect()
 }
 
-/// A changed token is seen, but for what is in no item (a `use`, a `mod`, a visibility, a contract of a private function, a ghost item),
-/// for what a rule leaves out, and for what an entry says is on one side alone.
-#[test]
-fn a_changed_token_is_seen() {
-    let (mut tree, rules, mut random) = (repository(), Rules::new(), Random(0x9E37_79B9_7F4A_7C15));
-    let compared = |name: &&String, text: &str| text.starts_with("// Proved sources: ") || name.ends_with(".rt");
+/// Changes 200 tokens of one side, one by one, and counts what is seen, and what is not: because it is in no item (a `use`, a `mod`, a
+/// visibility, a contract of a private function, a ghost item), because a rule leaves it out, or because an entry has the item on one
+/// side alone. Anything else has to be seen.
+fn change_tokens(is_side: fn(&str, &str) -> bool, seed: u64) -> [usize; 4] {
+    let (mut tree, rules, mut random) = (repository(), Rules::new(), Random(seed));
     let names: Vec<String> =
-        tree.iter().filter(|(name, text)| compared(name, text)).map(|(name, _)| name.clone()).collect();
+        tree.iter().filter(|(name, text)| is_side(name, text)).map(|(name, _)| name.clone()).collect();
     let alone = tree[differences::NAME].clone();
-    let (mut seen, mut outside, mut ruled, mut on_one_side) = (0, 0, 0, 0);
-    for turn in 0..400 {
-        let side: Vec<&String> = names.iter().filter(|name| name.starts_with(RUST) == (turn % 2 == 0)).collect();
-        let name = side[random.below(side.len())].clone();
+    let left_out =
+        ["steps", "Steps", "#[", "prove!", "required", "look", "_counted", "Drop", "as_ref", "unchecked", "unsafe"];
+    let mut counts = [0; 4];
+    for _ in 0..200 {
+        let name = names[random.below(names.len())].clone();
         let (text, what) = changed(&tree[&name], &mut random);
         let old = tree.insert(name.clone(), text.clone()).expect("a file");
-        if !compare(&tree).faults.is_empty() {
-            seen += 1;
-        } else {
+        let kind = if compare(&tree).faults.is_empty() {
             let (before, after) = (read_items(&name, &old, &rules), read_items(&name, &text, &rules));
-            let is_left_out = ["steps", "Steps", "#[", "prove!", "required", "look", "_counted", "Drop", "W"]
-                .iter()
-                .any(|word| what.contains(word))
-                || what.starts_with("`,`");
-            let other: Vec<&String> = before.keys().filter(|path| before.get(*path) != after.get(*path)).collect();
-            let is_alone =
-                |path: &&String| alone.contains(path.split(' ').next_back().unwrap_or("?")) || alone.contains(&name);
-            if other.is_empty() {
-                outside += 1;
-            } else if before.iter().all(|(path, (_, ruled))| after.get(path).is_some_and(|(_, now)| now == ruled))
-                && is_left_out
-            {
-                ruled += 1;
-            } else if other.iter().all(is_alone) {
-                on_one_side += 1;
-            } else {
-                panic!("{name}: {what} is not seen");
+            let others: Vec<&String> = before.keys().filter(|path| before.get(*path) != after.get(*path)).collect();
+            let is_same = others.iter().all(|path| after.get(*path).is_some_and(|(_, now)| *now == before[*path].1));
+            let is_ruled = what.starts_with("`,`") || left_out.iter().any(|word| what.contains(word));
+            let is_alone = |path: &&String| {
+                alone.contains(path.split_once(' ').map_or("", |(_, path)| path)) || alone.contains(&name)
+            };
+            match () {
+                () if others.is_empty() && before.len() == after.len() => 1,
+                () if is_same && is_ruled => 2,
+                () if others.iter().all(is_alone) => 3,
+                () => panic!("{name}: {what} is not seen"),
             }
+        } else {
+            0
+        };
+        if kind > 0 {
+            println!("{kind} {name}: {what}");
         }
+        counts[kind] += 1;
         tree.insert(name, old);
     }
-    println!(
-        "{seen} of 400 are seen; {outside} are in no item, {ruled} are left out by a rule, {on_one_side} are on one side alone"
-    );
-    assert!(seen > 150);
+    println!("{counts:?} are seen, in no item, left out by a rule, on one side alone");
+    counts
+}
+
+#[test]
+fn a_changed_token_of_a_source_is_seen() {
+    let counts = change_tokens(|name, _| name.ends_with(".rt"), 0x9E37_79B9_7F4A_7C15);
+    assert!(counts[0] > 50);
+}
+
+#[test]
+fn a_changed_token_of_the_rust_is_seen() {
+    let counts =
+        change_tokens(|name, text| name.starts_with(RUST) && text.starts_with("// Proved"), 0x2545_F491_4F6C_DD1D);
+    assert!(counts[0] > 150);
 }
 
 /// No text makes the program panic.
