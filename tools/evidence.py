@@ -1,6 +1,6 @@
 """Fails where a public function or impl has no wrong body of its name, and where something else than a goal refused one.
 
-tools/run evidence           looks at the files alone
+tools/run evidence           looks at the files alone, also whether each wrong body can be put into its crate
 tools/run evidence LOG       also at what `rt ci` or `rt must-fail` said in LOG of each wrong body
 
 A wrong body is crates/CRATE/must-fail/FUNCTION.WHAT_IS_WRONG.edit. FUNCTION is the name of a function of the crate, as
@@ -21,6 +21,7 @@ import re
 from collections import Counter, namedtuple
 from pathlib import Path
 
+import controls
 from repository import closed, crates, public_types, read, sources
 
 # Only tests call test_support, and memory_tests is one: what is wrong there its own tests and theirs see, or `tools/run refused`.
@@ -130,16 +131,27 @@ class Crate:
         return None if VALUES in said or has_control else "refused over a stored proof, and has no control"
 
 
+def fault_of_text(edit):
+    """Why a wrong body or its control can't be put into its crate; None where both can."""
+    try:
+        controls.applied(edit, is_right=False)
+        controls.applied(edit, is_right=True)
+    except ValueError as error:
+        return str(error)
+    return None
+
+
 def faults_of(crate, log):
     """What is wrong with the wrong bodies of a crate, and with their refusals in a log, if there is one."""
     told = {name: said for folder, name, said in VERDICT.findall(log or "") if folder == crate.folder.name}
     for edit in crate.edits:
+        fault = fault_of_text(edit)
         if crate.folder.name not in FOR_TESTS and not crate.owner(edit):
-            yield f"{crate.folder.name} {edit.stem}: no public function has this name"
+            fault = "no public function has this name"
         elif log is not None:
             said = told.get(edit.stem)
             fault = crate.fault_of_refusal(edit, said) if said else "the log does not say that it is refused"
-            yield from [f"{crate.folder.name} {edit.stem}: {fault}"] * bool(fault)
+        yield from [f"{crate.folder.name} {edit.stem}: {fault}"] * bool(fault)
 
 
 def main(arguments, root):

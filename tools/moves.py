@@ -20,7 +20,7 @@ def main(arguments, root):
     others = {*re.findall(r"(?m)^pub fn (\w+)", read(root / MODULE)), *OF_STD} - MOVES
     for crate in ("arraystring_base", "arraystring_core", "arraystring"):
         for path in sources(root / "crates" / crate):
-            for function in evidence.functions_of(read(path)):
+            for function in evidence.functions_of(re.sub("//.*", "", read(path))):
                 body = "\n".join(function.body)
                 has_steps = re.search(r":\s*(&mut |mut )?Steps\b", function.header)
                 given += bool(has_steps)
