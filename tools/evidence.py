@@ -9,9 +9,12 @@ does not tell them apart, as `Error.Display` and `Error.From.Utf8`. What breaks 
 that names it, directly or by others.
 
 Every public function that has a body is asked for, each function of a trait's impl that has clauses or ghost members and
-whose type is public, each `==` by hand of a public type, and of a program all functions but `main`; tests, what a trait declares and
-the crates FOR_TESTS are not. Two are asked for where a function decides something, so that its contract has an equivalence or it
-returns a `bool`: one for each direction. None is asked for a function that only calls the one of its name with `_counted`.
+whose type is public, and of a program all functions but `main`; tests, what a trait declares and the crates FOR_TESTS are
+not. Two are asked for where a function decides something, so that its contract has an equivalence or it returns a `bool`: one
+for each direction. None is asked for a function that only calls the one of its name with `_counted`.
+
+So one is asked for where `==` of a public type is by hand and was derived: `rt` wants ghost members there, which say what it
+compares. If it were true of all values, a test that compares by `==` would say nothing.
 
 In the log each wrong body is refused by a goal of src/ in the function of its name or in one that this names, or over a stored
 proof of such a one. Then it has a control, or the prover shows values at which the goal is false. A goal of a clause about
@@ -70,15 +73,14 @@ def functions_of(text, is_program=False, public=frozenset()):
             trait, _, kind = re.sub(r"^<(?:[^<>]|<[^<>]*>)*>", "", item[5]).strip().rpartition(" for ")
             kind, trait = re.search(r"\w+", kind)[0], re.sub(r"'\w+ ", "", trait)
             block, of_impl = item[4], range(at, last + 1)
-            of_impl_text = "\n".join(lines[at:last])
-            is_told = "PartialEq" in trait or re.search(r"(?m)^ *(ghost (?!use )|ensures )", of_impl_text)
+            has_contract = re.search(r"(?m)^ *(ghost (?!use )|ensures )", "\n".join(lines[at:last]))
             continue
         first = next((i + 1 for i in range(at, last) if re.fullmatch(rf"{indent}(\S.* )?\{{", lines[i])), last)
         header, body = "\n".join(lines[at:first]), tuple(it for it in lines[first:last] if not it.strip().startswith("//"))
         while lines[at - 1].startswith(f"{indent}#["):
             at -= 1
         if indent and trait:
-            is_seen, place = kind in public and is_told, of_impl
+            is_seen, place = kind in public and has_contract, of_impl
         else:
             is_seen, place = visibility == "pub " or is_program and name != "main", range(at, last + 1)
         owner, words = (kind, trait) if indent else ("", ""), frozenset(word for it in body for word in re.findall(r"\w+", it))

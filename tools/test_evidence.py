@@ -70,9 +70,9 @@ class Evidence(TreeTest):
             ("", (OTHER, "impl Debug for Number {\n    fn fmt() {\n        1\n    }\n}\n")),
             ("", (OTHER, SHOWN.format("Debug").replace("Number", "Hidden"))),
             (MISSING("numbers fmt", 1), (OTHER, SHOWN.format("Debug"))),
-            # (`==` by hand needs one where it has no clause, too: a test by it would say nothing if it were always true)
-            (MISSING("numbers eq", 1), (OTHER, "impl PartialEq for Number {\n    fn eq() {\n        true\n    }\n}\n")),
-            ("", (OTHER, "impl PartialEq for Hidden {\n    fn eq() {\n        true\n    }\n}\n")),
+            # (`==` by hand)
+            (MISSING("numbers eq", 2), (OTHER, "impl PartialEq for Number {\n    ghost eq = { true };\n"
+                                               "    fn eq(&self) -> bool {\n        true\n    }\n}\n")),
             # (of a program all but `main`)
             (MISSING("program print", 1), (PROGRAM, END, "\nfn print() {\n    1\n}\n")),
         )
