@@ -31,12 +31,11 @@ class Item:
         form = rf"\s*(abbrev |unfoldable )?(pub )?(data |record |ruleset )?({NAME}).*"
         kind, public, other, self.name = re.fullmatch(form, line).groups()
         self.path, self.number, self.lines, self.comment, self.around, self.names = path, number, [line], comment, around, names
-        self.module, self.crate, self.part = module_of(path), path.parts[1], path.parts[2]
+        self.part = path.parts[2]
         is_claim = kind and re.search("[≡≢≤<]", line.rpartition("→" if "→" in line else " : ")[2])
-        self.is_public = bool(public)
         self.is_definition = bool(kind or other in ("data ", "record ")) and not is_claim
         self.is_data = other == "data "
-        self.is_law = self.is_public and not self.is_definition and re.search("(Laws|GhostProofs)$", path.stem)
+        self.is_law = public and not self.is_definition and re.search("(Laws|GhostProofs)$", path.stem)
 
     def __str__(self):
         return f"{self.path}:{self.number}: {self.name}"

@@ -1,4 +1,4 @@
-"""What `tools/run refused` sees: over a stand-in for `rt`, and in its own table."""
+"""What `tools/run refused` sees, over a stand-in for `rt`; and that its table has each call."""
 import io
 import os
 import re
@@ -11,7 +11,7 @@ from unittest import mock
 
 import refused
 from refused import Answer, Case
-from repository import ROOT
+from repository import ROOT, read
 
 # Answers as `rt try --cases FOLDER --fail-alloc NUMBER`: the case `taken` takes memory three times, goes on without the first,
 # and else ends with 3; `none` takes none. A mistake stands in the place of {}.
@@ -93,3 +93,9 @@ class Refused(unittest.TestCase):
 
     def test_another_crate_is_refused(self):
         self.assertEqual(refused.main(["arraystring"], ROOT), "arraystring is none of arraystring_cli, memory_tests")
+
+    def test_each_call_that_memory_can_run_out_in_is_refused(self):
+        named = re.search(r"Memory can run out in (.*?);", read(ROOT / "docs/not_proved.md"), re.S)[1]
+        cases = [it.name for it in refused.CASES["memory_tests"]]
+        self.assertEqual({it.rpartition("::")[2] for it in re.findall("`(.*?)`", named)}, {it.removesuffix("_nothing") for it in cases})
+        self.assertEqual(re.findall(r'(?m)^    "(\w+)",$', read(ROOT / "crates/memory_tests/src/main.rt")), cases)
