@@ -1,5 +1,4 @@
-// The calls that tables make as they are, each with what it is given: one line a call. The tables
-// of the Rust crate and `rust/no_panic` make them, too. So a new call is written here once.
+// The calls that tables make as they are, each with what it is given: one line a call.
 //
 // A caller hands in a macro that makes the calls. What is no plain call of a string stands in
 // `calls`.
