@@ -88,6 +88,10 @@ fn the_counter_goes() {
         ("fn f() { look(*a, c, steps) }", "fn f() { *a[c] }"),
         ("fn f(a: u8) { f_counted(b, &mut Steps::new()) } fn f_counted(a: u8) { c }", "fn f(a: u8) { c }"),
         ("fn f() { g() } fn f_counted() { h() }", "fn f() { g() }"),
+        (
+            "fn f(&self) { self.f_counted(&mut Steps::new()) } fn f_counted(&mut self) { g() }",
+            "fn f(&mut self) { g() }",
+        ),
     ]);
 }
 
