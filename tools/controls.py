@@ -1,116 +1,108 @@
 """Tries the controls: right bodies of the form of wrong ones, which prove where those must not.
 
-tools/run controls [CRATE..]             those without a fresh line; with no name, of every crate
-tools/run controls CRATE --edits NAME    the wrong bodies of the function NAME instead, with what refuses each
-tools/run controls --check               tries none, and fails where a control has no fresh line or a line no control
+tools/run controls [CRATE..]             those of these crates, or of all
+tools/run controls CRATE --edits NAME    of the function NAME alone, and its wrong bodies, with what refuses each
 
-A control stands in the edit of its wrong body, crates/CRATE/must-fail/NAME.edit, by lines `# right:`. Each edit is put into a
-copy of the repository among the temporary files, and checked there with what earlier checks kept in out/; no other `rt` may
-write there while the copy is made. Of each control that proves .ci/controls.txt gets a line: its name and a checksum of what it
-stands on. That is the edit, and the grounds of the functions that it changes, as tools/grounds.py says, with the stored proofs of
-their callers where it changes a contract: a control goes stale with these, and with no other function. Where an edit changes what
-stands beside functions, these are all of that file. The line is fresh while the checksum is the same.
+It is run when a control is written, and before a release; docs/review.md has the day of the last whole run. A wrong body is the
+file crates/CRATE/must-fail/NAME.edit: lines `file: PATH`, `old: TEXT` and `new: TEXT`, each on what the ones before made. Its control
+has the text of the line `# right: TEXT` behind a `new:` in the place of that, or the same text where there is none.
 
-It fails where a control is refused, where a wrong body proves or its crate does not, and where an edit cannot be read.
+Each is checked in a copy of the repository among the temporary files, with what earlier checks kept in out/; no other `rt` may
+write there while the copy is made. A control takes some seconds. It fails where a control is refused, where a wrong body or its crate
+is not as it has to be, and where one can't be read.
 """
 import re
+import shutil
+import subprocess
+import sys
+import tempfile
+from pathlib import Path
 
-import edits
-import kit
-import repository
-import repository_copy
-from grounds import Grounds, code_of
+from repository import crates, read
 
-RECORD = ".ci/controls.txt"
-
-
-def controls_of(root, crates):
-    """The edits of some crates that have a control, by CRATE/NAME."""
-    found = [it for crate in crates for it in sorted((root / "crates" / crate).glob("must-fail/*.edit")) if edits.has_control(it)]
-    return {f"{it.parent.parent.name}/{it.stem}": it for it in found}
+PART = re.compile(r"file: ?(.+)\n|old: ?(.*)\nnew: ?(.*)\n(?:# right: ?(.*)\n)?")
 
 
-def record(root, known):
-    """Writes these checksums of controls, but for those that have no control or no checksum."""
-    there = controls_of(root, repository.crates(root))
-    lines = [f"{it} {known[it]}\n" for it in sorted(known) if known[it] and it in there]
-    (root / RECORD).write_text("".join(lines), encoding="utf-8")
+def applied(edit, is_right):
+    """The files of its crate that a wrong body changes, or its control, each with its text after. A ValueError says why one can't
+    be read or applied."""
+    texts, path, rest = {}, "", read(edit)
+    while rest:
+        part = PART.match(rest)
+        if not part or not (part[1] or path):
+            raise ValueError(f"no line of a wrong body: {rest.splitlines()[0]}")
+        path, rest = part[1] or path, rest[part.end():]
+        if not part[1]:
+            file, old, made = edit.parent.parent / path, part[2], part[3] if part[4] is None or not is_right else part[4]
+            text = texts.get(file) or (read(file) if file.is_file() else "")
+            if text.count(old) != 1:
+                raise ValueError(f"{path} does not have this once: {old}")
+            texts[file] = text.replace(old, made)
+    return texts
 
 
-def grounds_at(file, line):
-    """What a control stands on that changes a line of a source file."""
-    changed = [it for it in file.functions if line in it.span]
-    if changed:
-        callers = {("callers", it.name) for it in changed if not file.is_in_body(it, line)}
-        return callers.union(("function", file, it) for it in changed)
-    # (what is put in the place of a comment changes no contract that is there)
-    callers = {("callers", it.name) for it in file.functions if code_of([file.lines[line]])}
-    return callers | {("function", file, it) for it in file.functions} | {("unit", file, it) for it in file.units}
+def checked(folder):
+    """Whether `rt check` proves the crate in a folder, and its first message about a goal of src/, or else the first that names a
+    place and is no advice on the proof there, or the last line."""
+    run = subprocess.run(["rt", "check"], cwd=folder, stdin=subprocess.DEVNULL, stdout=subprocess.PIPE, stderr=subprocess.STDOUT,
+                         encoding="utf-8", errors="replace")
+    lines = run.stdout.strip().splitlines() or ["nothing was said"]
+    forms = (r"(note: )?(\./)?src/\S+:\d+:\d+: ", r"(note: )?\S+:\d+:\d+:(?! note:)")
+    told = [line for form in forms for line in lines if re.match(form, line)]
+    return run.returncode == 0, (told or lines[-1:])[0][:200]
 
 
-def grounds_of(edit, files):
-    """What a control stands on, among the source files of the repository; None where it cannot be applied."""
+def is_as_due(edit, is_right):
+    """Checks a crate of a copy with a wrong body, or with its control: whether it is as it has to be, which is told. The crate is set
+    back then, also what it keeps in out/, so that each begins with the same."""
+    folder, before = edit.parent.parent, edit.parent.parent.with_name("before")
     try:
-        texts, places = edits.applied(edit, is_right=True)
-    except ValueError:
-        return None
-    found, code = set(), re.sub(r"(?m)^(file:.*|old:|new:|# right:)", "", repository.read(edit))
-    for path in texts:
-        # (a file that is no source is one of proofs)
-        found.add(("edit", files[path], code) if path in files else ("proof", path))
-    for path, line in places:
-        found |= grounds_at(files[path], line) if path in files else set()
-    return found
+        texts = applied(edit, is_right)
+    except ValueError as error:
+        print(f"{edit.stem}: {error}", flush=True)
+        return False
+    shutil.copytree(folder, before, symlinks=True)
+    for file, text in texts.items():
+        file.write_text(text, encoding="utf-8")
+    is_proved, message = checked(folder)
+    shutil.rmtree(folder)
+    before.rename(folder)
+    kind = "control" if is_right else "wrong body"
+    print(f"{folder.name} {edit.stem}: the {kind} {'proves' if is_proved else f'is refused: {message}'}", flush=True)
+    return is_proved == is_right
 
 
-def checksum_of(edit, grounds):
-    """The checksum of what a control stands on; None where it cannot be applied."""
-    found = grounds_of(edit, grounds.files)
-    return found and grounds.checksum(edit.parent.parent.name, found, more=code_of(repository.read(edit).split("\n")))
-
-
-def try_controls(root, controls, sums, known):
-    """Tries controls, and writes a line of each that proves beside those known; whether one does not."""
-    record(root, known)
-    failed = 0
-    with repository_copy.copied(root) as copy:
-        for name, edit in controls.items():
-            is_right, told = edits.tried(copy / edit.relative_to(root), is_right=True)
-            known[name] = sums[name] if is_right else None
-            record(root, known)
-            failed += not is_right
-            print(f"controls {name}: {told}", flush=True)
-    print(f"{len(controls) - failed} prove, {failed} do not")
-    return failed > 0
-
-
-def try_wrong_bodies(root, crate, function):
-    """Tries the wrong bodies of a function; what is wrong, or whether one proves."""
-    outcomes = []
-    with repository_copy.copied(root) as copy:
-        is_proved, message = kit.check(copy / "crates" / crate)
+def outcomes(copy, named, function):
+    """Whether each control of some crates is as it has to be, and each wrong body of a function, if one is named."""
+    for crate in named:
+        is_proved, message = checked(copy / "crates" / crate)
         if not is_proved:
-            return f"{crate} is not proved: {message}"
-        for edit in sorted((copy / "crates" / crate).glob(f"must-fail/{function}.*.edit")):
-            is_right, told = edits.tried(edit, is_right=False)
-            outcomes.append(is_right)
-            print(f"{edit.stem}: {told}", flush=True)
-    return not all(outcomes) if outcomes else f"{crate} has no wrong body of {function}"
+            print(f"{crate} is not proved: {message}")
+            yield False
+            continue
+        for edit in sorted((copy / "crates" / crate).glob(f"must-fail/{f'{function}.' if function else ''}*.edit")):
+            if function:
+                yield is_as_due(edit, False)
+            if re.search("(?m)^# right:", read(edit)):
+                yield is_as_due(edit, True)
 
 
 def main(arguments, root):
-    is_checking, is_of_edits = arguments == ["--check"], len(arguments) == 3 and arguments[1] == "--edits"
-    names = [] if is_checking else arguments[:1] if is_of_edits else arguments
-    unknown = repository.unknown_crate(root, names)
-    if unknown or is_of_edits:
-        return unknown or try_wrong_bodies(root, arguments[0], arguments[2])
-    known = dict(line.split(" ") for line in repository.read(root / RECORD).splitlines())
-    grounds, controls = Grounds(root, kit.logic()), controls_of(root, names or repository.crates(root))
-    sums = {name: checksum_of(edit, grounds) for name, edit in controls.items()}
-    stale = {name: edit for name, edit in controls.items() if sums[name] is None or known.get(name) != sums[name]}
-    if is_checking:
-        faults = [f"{it}: {'not as it was when it proved' if it in known else 'not tried'}" for it in stale]
-        faults += [f"{it}: there is no such control" for it in sorted(known.keys() - sums)]
-        print("\n".join(faults) or f"{len(sums)} controls are as they were when they proved")
-        return bool(faults)
-    return try_controls(root, stale, sums, known)
+    function = arguments[2] if arguments[1:2] == ["--edits"] and len(arguments) == 3 else ""
+    named = arguments[:1] if function else arguments or crates(root)
+    unknown = [it for it in named if it not in crates(root)]
+    if unknown:
+        return f"no crate is named {unknown[0]}"
+    if root in Path(tempfile.gettempdir()).resolve().parents:
+        sys.exit("the folder for temporary files is inside the repository, so a copy would copy itself")
+
+    def left_out(folder, names):
+        """What a copy does not need: of other crates what their own checks kept is much."""
+        is_of_another = folder.endswith("/out") and Path(folder).parent.name not in named
+        return {".git", "target", *["incremental"] * is_of_another}.intersection(names)
+
+    with tempfile.TemporaryDirectory(prefix="arraystring-") as room:
+        copy = Path(shutil.copytree(root, Path(room, "copy"), ignore=left_out, symlinks=True))
+        told = list(outcomes(copy, named, function))
+    print(f"{sum(told)} are as they have to be, {len(told) - sum(told)} are not")
+    return not all(told) or not told

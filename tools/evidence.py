@@ -1,49 +1,100 @@
-"""Fails where a public function or impl has no wrong body of its name, and where a wrong body has another name than it should.
+"""Fails where a public function or impl has no wrong body of its name, and where something else than a goal refused one.
 
-tools/run evidence                  looks at the files alone
-tools/run evidence --refused LOG    also at what `rt must-fail` said in LOG of each wrong body
-tools/run evidence --kinds          prints how many there are of each kind, by crate: those that change the function of their
-                                    name, those that change one that this names, and those with a control
+tools/run evidence           looks at the files alone, also whether each wrong body can be put into its crate
+tools/run evidence LOG       also at what `rt ci` or `rt must-fail` said in LOG of each wrong body
 
 A wrong body is crates/CRATE/must-fail/FUNCTION.WHAT_IS_WRONG.edit. FUNCTION is the name of a function of the crate, as
 `pop`. It has the type in front if two have that name, as `Drain.next_back`, and the trait in the function's place if that
-does not tell them apart, as `Error.Display` and `Error.From.Utf8`. The wrong body touches that function, which is the one in
-which its old text stands, or a function that it names, directly or by others: what breaks in a private function is named for
-the public one.
+does not tell them apart, as `Error.Display` and `Error.From.Utf8`. What breaks in a private function is named for a public one
+that names it, directly or by others.
 
 Every public function that has a body is asked for, each function of a trait's impl that has clauses or ghost members and
 whose type is public, and of a program all functions but `main`; tests, what a trait declares and the crates FOR_TESTS are
 not. Two are asked for where a function decides something, so that its contract has an equivalence or it returns a `bool`: one
 for each direction. None is asked for a function that only calls the one of its name with `_counted`.
 
+So one is asked for where `==` of a public type is by hand and was derived: `rt` wants ghost members there, which say what it
+compares. If it were true of all values, a test that compares by `==` would say nothing.
+
 In the log each wrong body is refused by a goal of src/ in the function of its name or in one that this names, or over a stored
 proof of such a one. Then it has a control, or the prover shows values at which the goal is false. A goal of a clause about
 counts refuses only what is named for a function that counts.
 """
 import re
-from collections import Counter
+from collections import Counter, namedtuple
 from pathlib import Path
 
-import edits
-import repository
-import sources
-from closure import closed
+import controls
+from repository import closed, crates, public_types, read, sources
 
 # Only tests call test_support, and memory_tests is one: what is wrong there its own tests and theirs see, or `tools/run refused`.
 FOR_TESTS = {"test_support", "memory_tests"}
-
 # They borrow what they speak of, so that the prover has the fact. Without the borrow they are as true.
 LAWS_THAT_BORROW = {"text_fits", "text_spelled", "left_fits"}
 # What the prover says before the values at which a goal is false; the log cuts it off somewhere behind.
 VALUES = "the goal does not follow from what it read. All of"
+# (what is refused only because a name is gone is told in other words, and is no evidence)
 VERDICT = re.compile(r"must-fail (\w+)/(\S+)\.edit: refused, as it must be: (.*)")
+ITEM = re.compile(r"( *)(pub |pub\(\w+\) )?(?:const |unsafe )*(?:fn (\w+)|(impl|trait)\b(.*) \{$)")
+
+
+class Function(namedtuple("Function", "name kind trait is_asked place header body words")):
+    """A function of a source file: its type and trait, whether a wrong body is asked for, the lines of it or of the impl of a
+    trait that it is in, what stands before its body, the lines of that and their words."""
+
+    def decides(self):
+        """Whether the clauses have an equivalence, or it returns a `bool`."""
+        return "↔" in self.header or bool(re.search(r"(?m)\) -> bool( \{)?$", self.header))
+
+    def hands_on_to(self, name):
+        """Whether all that it does is one call of another function."""
+        return bool(re.fullmatch(rf" *(self\.)?{name}\([^{{}}\n]*\)", "\n".join(self.body)))
+
+    def names(self):
+        """By what the function can be called, the shortest first: `next`, `Drain.next`, `Drain.Iterator`, `Error.From.Utf8`."""
+        trait = re.findall(r"\w+", re.sub(r"^(\w+::)+", "", self.trait))
+        yield self.name
+        yield from [f"{self.kind}.{self.name}"] * bool(self.kind)
+        yield from [f"{self.kind}.{it}" for it in (*trait[:1], ".".join(trait)) if it]
+
+
+def functions_of(text, is_program=False, public=frozenset()):
+    """The functions of a source file, which is laid out as `rt fmt` does; those of a trait's impl are asked about if its type is
+    among the public ones."""
+    found, lines, kind, trait, block = [], text.split("\n"), "", "", ""
+    for at, line in enumerate(lines):
+        item = ITEM.match(line)
+        if not item or item[1] and block == "trait":
+            continue
+        indent, visibility, name = item[1], item[2], item[3]
+        ends = (line if line.endswith("}") else "", f"{indent}}}", f"{indent}{{}}")
+        last = next(i for i in range(at, len(lines)) if lines[i] and lines[i] in ends)
+        if not name:
+            trait, _, kind = re.sub(r"^<(?:[^<>]|<[^<>]*>)*>", "", item[5]).strip().rpartition(" for ")
+            kind, trait = re.search(r"\w+", kind)[0], re.sub(r"'\w+ ", "", trait)
+            block, of_impl = item[4], range(at, last + 1)
+            has_contract = re.search(r"(?m)^ *(ghost (?!use )|ensures )", "\n".join(lines[at:last]))
+            continue
+        first = next((i + 1 for i in range(at, last) if re.fullmatch(rf"{indent}(\S.* )?\{{", lines[i])), last)
+        header, body = "\n".join(lines[at:first]), tuple(it for it in lines[first:last] if not it.strip().startswith("//"))
+        while lines[at - 1].startswith(f"{indent}#["):
+            at -= 1
+        if indent and trait:
+            is_seen, place = kind in public and has_contract, of_impl
+        else:
+            is_seen, place = visibility == "pub " or is_program and name != "main", range(at, last + 1)
+        owner, words = (kind, trait) if indent else ("", ""), frozenset(word for it in body for word in re.findall(r"\w+", it))
+        found.append(Function(name, *owner, bool(body and is_seen), place, header, body, words))
+    return found
 
 
 class Crate:
-    """A crate: its edits, its functions by their files and together, and those by name for which a wrong body is asked."""
+    """A crate: its wrong bodies, its functions by their files and together, and those by name for which one is asked."""
 
     def __init__(self, folder):
-        self.folder, self.edits, self.functions = folder, sorted(folder.glob("must-fail/*.edit")), sources.functions(folder)
+        self.folder, self.edits, files = folder, sorted(folder.glob("must-fail/*.edit")), sources(folder)
+        public = frozenset(public_types(files))
+        self.functions = {it: functions_of(read(it), it.name == "main.rt", public) for it in files}
         self.everything = [it for of_file in self.functions.values() for it in of_file]
         asked = [it for it in self.everything if it.is_asked]
         counts = Counter(name for it in asked for name in set(it.names()))
@@ -51,23 +102,8 @@ class Crate:
         self.asked = {next(name for name in it.names() if counts[name] == 1): it for it in asked}
 
     def owner(self, edit):
-        """The name of the function for which an edit is named; None where there is none."""
+        """The name of the function for which a wrong body is named; None where there is none."""
         return next((it for it in self.asked if edit.name.startswith(f"{it}.")), None)
-
-    def rests_on(self, name):
-        """The function of a name and what it names, directly or by others."""
-        return closed([self.asked[name]], lambda one: [it for it in self.everything if it.name in one.words])
-
-    def fault_of_name(self, edit):
-        """What is wrong with the name or the text of an edit; None where nothing is."""
-        name = self.owner(edit)
-        if not name:
-            return "no public function has this name"
-        try:
-            touched = sources.standing_at(edits.applied(edit)[1], self.functions)
-        except ValueError as error:
-            return str(error)
-        return None if self.rests_on(name).intersection(touched) else f"it does not touch {name}, nor what that names"
 
     def lacking(self):
         """How many wrong bodies of a function are missing, by its name, for each for which they are asked."""
@@ -80,59 +116,52 @@ class Crate:
     def fault_of_refusal(self, edit, said):
         """What is wrong with the refusal of a wrong body; None where nothing is."""
         name = self.owner(edit)
-        rests_on = self.rests_on(name) if name else set()
+        rests_on = closed([self.asked[name]] if name else [], lambda one: [it for it in self.everything if it.name in one.words])
         place = re.search(r"\b(src/\S+?):(\d+):\d+: .*?(?:\(`(?:\S+-)?clause-(\w+)`\)|$)", said)
         if place:
-            at = rests_on.intersection(sources.standing_at([(self.folder / place[1], int(place[2]) - 1)], self.functions))
+            of_file = self.functions.get(self.folder / place[1], [])
+            at = [it for it in of_file if int(place[2]) - 1 in it.place and it in rests_on]
             if not at:
                 return f"refused at {place[1]}:{place[2]}, where nothing is that it is named for"
             counts = rf"(?s)\bensures {place[3]} \{{(?:(?!\n *(?:ensures|requires|where|ghost)\b).)*steps\."
-            is_by_counts = re.search(counts, at.pop().header) and "steps: &mut Steps" not in self.asked[name].header
+            is_by_counts = re.search(counts, at[0].header) and "steps: &mut Steps" not in self.asked[name].header
             return f"refused by counts, of which {name} is not" if is_by_counts else None
         stored = re.search(r"\bproofs/(?:\w+/)*(\w+)/\w+\.antt", said)
         if not stored or not any(it.name == stored[1] for it in rests_on):
             return f"refused neither by a goal of src/ nor over a stored proof of what it is named for: {said[:100]}"
-        is_shown = VALUES in said or edits.has_control(edit)
-        return None if is_shown else "refused over a stored proof, and has no control"
+        has_control = re.search("(?m)^# right:", read(edit))
+        return None if VALUES in said or has_control else "refused over a stored proof, and has no control"
 
 
-    def kinds(self):
-        """How many wrong bodies it has, of how many functions, how many change the function of their name, and have a control."""
-        owned = [(edit, self.owner(edit)) for edit in self.edits]
-        owned = [(edit, name) for edit, name in owned if name]
-        itself = [edit for edit, name in owned
-                  if self.asked[name] in sources.standing_at(edits.applied(edit)[1], self.functions)]
-        return len(owned), len({name for _, name in owned}), len(itself), sum(edits.has_control(edit) for edit, _ in owned)
-
-
-def show_kinds(crates):
-    """Prints how many wrong bodies some crates have of each kind."""
-    counts = {crate.folder.name: crate.kinds() for crate in crates if crate.edits}
-    counts["all"] = tuple(map(sum, zip(*counts.values())))
-    for name, (bodies, functions, itself, controlled) in counts.items():
-        print(f"{name}: {bodies} wrong bodies of {functions} functions: {itself} change the function, {bodies - itself} one that it "
-              f"names; {controlled} have a control")
+def fault_of_text(edit):
+    """Why a wrong body or its control can't be put into its crate; None where both can."""
+    try:
+        controls.applied(edit, is_right=False)
+        controls.applied(edit, is_right=True)
+    except ValueError as error:
+        return str(error)
+    return None
 
 
 def faults_of(crate, log):
-    """What is wrong with the edits of a crate, and with their refusals in a log, if there is one."""
+    """What is wrong with the wrong bodies of a crate, and with their refusals in a log, if there is one."""
     told = {name: said for folder, name, said in VERDICT.findall(log or "") if folder == crate.folder.name}
     for edit in crate.edits:
-        faults = [crate.fault_of_name(edit)] if crate.folder.name not in FOR_TESTS else []
-        if log is not None:
+        fault = fault_of_text(edit)
+        if crate.folder.name not in FOR_TESTS and not crate.owner(edit):
+            fault = "no public function has this name"
+        elif log is not None:
             said = told.get(edit.stem)
-            faults.append(crate.fault_of_refusal(edit, said) if said else "the log does not say that it is refused")
-        yield from (f"{crate.folder.name} {edit.stem}: {fault}" for fault in faults if fault)
+            fault = crate.fault_of_refusal(edit, said) if said else "the log does not say that it is refused"
+        yield from [f"{crate.folder.name} {edit.stem}: {fault}"] * bool(fault)
 
 
 def main(arguments, root):
-    log = repository.read(Path(arguments[1])) if arguments[:1] == ["--refused"] else None
-    crates = [Crate(root / "crates" / it) for it in repository.crates(root)]
-    asked = [it for it in crates if it.folder.name not in FOR_TESTS]
-    if arguments == ["--kinds"]:
-        return show_kinds(asked)
+    log = read(Path(arguments[0])) if arguments else None
+    known = [Crate(root / "crates" / it) for it in crates(root)]
+    asked = [it for it in known if it.folder.name not in FOR_TESTS]
     lacking = {f"{crate.folder.name} {name}": count for crate in asked for name, count in crate.lacking()}
-    faults = [fault for crate in crates for fault in faults_of(crate, log)]
+    faults = [fault for crate in known for fault in faults_of(crate, log)]
     faults += [f"wrong bodies of {name} that are missing: {count}" for name, count in lacking.items() if count]
-    print("\n".join(faults) or f"wrong bodies try {len(lacking)} functions")
+    print("\n".join(faults) or f"{len(lacking)} functions have {sum(len(it.edits) for it in asked)} wrong bodies")
     return bool(faults) or not lacking

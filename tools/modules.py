@@ -1,6 +1,5 @@
 """The modules of specs/ and proofs/, which are laid out as `rt fmt` does: their items, and what the names in them stand for."""
 import re
-from functools import cache
 
 from repository import crates, read
 
@@ -26,33 +25,28 @@ def module_of(path):
 
 
 class Item:
-    """An item of a module: the comment directly above, its lines, also as they are written, and the blocks `module _ .. where` that
-    it is in."""
+    """An item of a module: the comment directly above, its lines without comments, and the blocks `module _ .. where` around it."""
 
-    def __init__(self, path, number, line, code, comment, around, names):
+    def __init__(self, path, number, line, comment, around, names):
         form = rf"\s*(abbrev |unfoldable )?(pub )?(data |record |ruleset )?({NAME}).*"
         kind, public, other, self.name = re.fullmatch(form, line).groups()
-        self.path, self.number, self.lines, self.code, self.around, self.names = path, number, [line], [code], around, names
-        self.comment = comment
-        self.module, self.crate, self.part = module_of(path), path.parts[1], path.parts[2]
+        self.path, self.number, self.lines, self.comment, self.around, self.names = path, number, [line], comment, around, names
+        self.part = path.parts[2]
         is_claim = kind and re.search("[≡≢≤<]", line.rpartition("→" if "→" in line else " : ")[2])
-        self.is_public = bool(public)
         self.is_definition = bool(kind or other in ("data ", "record ")) and not is_claim
         self.is_data = other == "data "
-        self.is_law = self.is_public and not self.is_definition and re.search("(Laws|GhostProofs)$", path.stem)
+        self.is_law = public and not self.is_definition and re.search("(Laws|GhostProofs)$", path.stem)
 
     def __str__(self):
         return f"{self.path}:{self.number}: {self.name}"
 
 
-@cache
 def parsed(path, text):
     """The items of a module in order, and what the names in it stand for."""
     items, names, item, around, above = [], imports(text), None, [], []
     for number, line in enumerate(text.split("\n"), 1):
         comment = re.match(r"\s*-- (.*)", line)
         above, told = [*above, comment[1]] if comment else [], above
-        code = line
         # (without comments, and what strings say)
         line = re.sub(r"(^|\s)--(\s.*)?$", "", re.sub('"[^"]*"', '""', line)).rstrip()
         if not line or re.match(r"(unfoldable )?(pub )?(use|mod) ", line):
@@ -61,12 +55,11 @@ def parsed(path, text):
         around = around[: indent // 2]
         if item and (indent > 2 * len(around) or line.split()[0] in (item.name, "unfolding") or line.lstrip()[0] in ")]}"):
             item.lines.append(line)
-            item.code.append(code)
             case = re.match(rf"\s+({NAME}) :", line)
             if item.is_data and case:
                 names[case[1]] = item
             continue
-        item = Item(path, number, line, code, " ".join(told), around, names)
+        item = Item(path, number, line, " ".join(told), around, names)
         if item.name == "module":
             around = [*around, item]
         else:

@@ -1,24 +1,12 @@
-"""Trees in which tests plant mistakes, and what the commands say of them: small ones of a few files, and a copy of the
-repository."""
+"""Small trees in which tests plant mistakes, and what the commands say of them."""
 import io
 import re
 import tempfile
 import unittest
 from contextlib import contextmanager, redirect_stderr, redirect_stdout
 from pathlib import Path
-from unittest import mock
 
-from repository import ROOT, read
-from repository_copy import copied
-
-
-class Flushed(io.StringIO):
-    """What was written up to the last flush, so what a reader has seen while a command goes on."""
-
-    seen = ""
-
-    def flush(self):
-        self.seen = self.getvalue()
+from repository import read
 
 
 class TreeTest(unittest.TestCase):
@@ -32,12 +20,6 @@ class TreeTest(unittest.TestCase):
         self.root = Path(room.name).resolve()
         for path, text in self.FILES.items():
             self.write(path, text)
-
-    def put(self, where, name, stand_in):
-        """Puts something in the place of what a module has by this name."""
-        patch = mock.patch.object(where, name, stand_in)
-        patch.start()
-        self.addCleanup(patch.stop)
 
     def write(self, path, text):
         """Writes a file of the tree, or removes it where the text is None."""
@@ -76,31 +58,11 @@ class TreeTest(unittest.TestCase):
             outcome = command.main(list(words), self.root)
         return bool(outcome), said.getvalue() + (outcome if isinstance(outcome, str) else "")
 
-    def seen_at_once(self, command, *words):
-        """What a reader has seen of what a command says before it ends."""
-        with redirect_stdout(Flushed()) as said:
-            command.main(list(words), self.root)
-        return said.seen
-
     def assert_finds(self, command, *plants, words=()):
-        """Each is what the command has to say of some changes, and these. Of what is no mistake it says nothing new."""
+        """Each is what the command has to say of some changes, and these. Where nothing is due it says what it said before."""
         before = self.told(command, *words)
         for wanted, *changes in plants:
             with self.subTest(wanted, changes=changes), self.changed(*changes):
                 said = self.told(command, *words)
                 is_new = said[0] and wanted in said[1] and wanted not in before[1]
                 self.assertTrue(is_new if wanted else said == before, said[1])
-
-
-class PlantedTest(TreeTest):
-    """A test with a copy of the repository, without what programs make. It is for what depends on how the files of the repository
-    are laid out; all else is tested in a small tree."""
-
-    @classmethod
-    def setUpClass(cls):
-        copy = copied(ROOT, "out", "target")
-        cls.root = copy.__enter__()
-        cls.addClassCleanup(copy.__exit__, None, None, None)
-
-    def setUp(self):
-        pass

@@ -1,4 +1,4 @@
-"""The repository: its crates, and the files of their src/."""
+"""The repository: its crates and the files of their src/; and the parts of a page."""
 import re
 from pathlib import Path
 
@@ -14,12 +14,6 @@ def crates(root):
     return re.findall(r"(?m)^\w+", read(root / "crates.txt"))
 
 
-def unknown_crate(root, names):
-    """What is wrong with the names of crates that a call gives; None where nothing is."""
-    unknown = sorted(set(names) - set(crates(root)))
-    return f"no crate is named {unknown[0]}" if unknown else None
-
-
 def sources(folder):
     """The files of a crate's src/, without those of tests."""
     files = sorted(folder.glob("src/**/*.rt"))
@@ -29,3 +23,25 @@ def sources(folder):
 def public_types(files):
     """The names of the public types in some source files."""
     return {name for it in files for name in re.findall(r"(?m)^pub (?:struct|enum) (\w+)", read(it))}
+
+
+def closed(items, following):
+    """Some items and what follows from them, directly or by others."""
+    found, rest = set(), list(items)
+    while rest:
+        item = rest.pop()
+        if item not in found:
+            found.add(item)
+            rest += following(item)
+    return found
+
+
+def section(page, heading):
+    """The lines of a page below a heading, up to the next of its rank."""
+    found = re.search(rf"(?ms)^## {re.escape(heading)}$(.*?)(?=^## |\Z)", page)
+    return found[1] if found else ""
+
+
+def inline_code(page):
+    """What stands between backticks, without the blocks of code."""
+    return re.findall(r"`([^`]+)`", re.sub(r"(?ms)^```.*?^```$", "", page))

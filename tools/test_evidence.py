@@ -55,7 +55,7 @@ class Evidence(TreeTest):
         return (f"{FOLDER}/{name}.edit", None), (f"{FOLDER}/{other}.edit", self.FILES[f"{FOLDER}/{name}.edit"])
 
     def test_a_wrong_body_of_its_name_touches_the_function_or_what_it_names(self):
-        self.assertEqual(self.told(evidence), (False, "wrong bodies try 2 functions\n"))
+        self.assertEqual(self.told(evidence), (False, "2 functions have 2 wrong bodies\n"))
 
     def test_a_function_or_an_impl_without_one_is_named(self):
         private = "pub fn other() {{\n    {}\n}}\n".format
@@ -70,6 +70,9 @@ class Evidence(TreeTest):
             ("", (OTHER, "impl Debug for Number {\n    fn fmt() {\n        1\n    }\n}\n")),
             ("", (OTHER, SHOWN.format("Debug").replace("Number", "Hidden"))),
             (MISSING("numbers fmt", 1), (OTHER, SHOWN.format("Debug"))),
+            # (`==` by hand)
+            (MISSING("numbers eq", 2), (OTHER, "impl PartialEq for Number {\n    ghost eq = { true };\n"
+                                               "    fn eq(&self) -> bool {\n        true\n    }\n}\n")),
             # (of a program all but `main`)
             (MISSING("program print", 1), (PROGRAM, END, "\nfn print() {\n    1\n}\n")),
         )
@@ -77,15 +80,15 @@ class Evidence(TreeTest):
     def test_what_only_tests_call_needs_none_and_its_wrong_bodies_have_any_name(self):
         self.assert_finds(
             evidence,
-            ("", ("crates/test_support/must-fail/any.edit", ONCE)),
-            ("", ("crates/memory_tests/must-fail/any.edit", ONCE)),
+            ("", ("crates/test_support/must-fail/any.edit", "file: src/lib.rt\nold:     1\nnew:     0\n")),
+            ("", ("crates/memory_tests/must-fail/any.edit", "file: src/lib.rt\nold:     1\nnew:     0\n")),
             ("", ("crates/numbers/deep/must-fail/any.edit", ONCE)),
             (NO_NAME("any"), (f"{FOLDER}/any.edit", ONCE)),
         )
 
     def test_no_function_is_a_fault(self):
         with self.changed(*((it, None) for it in self.FILES if it.startswith("crates/numbers/"))):
-            self.assertEqual(self.told(evidence), (True, "wrong bodies try 0 functions\n"))
+            self.assertEqual(self.told(evidence), (True, "0 functions have 0 wrong bodies\n"))
 
     def test_one_that_only_calls_its_counted_form_needs_none(self):
         counted = "\npub fn {}_counted(value: u8) -> u8 {{\n    value\n}}\n".format
@@ -100,18 +103,16 @@ class Evidence(TreeTest):
             (MISSING("numbers thrice", 1), (OTHER, plain("twice_counted(value)") + counted("thrice")), edit),
         )
         with self.changed((OTHER, both), edit):
-            self.assertEqual(self.told(evidence), (False, "wrong bodies try 4 functions\n"))
+            self.assertEqual(self.told(evidence), (False, "4 functions have 3 wrong bodies\n"))
 
     def test_a_name_belongs_to_a_public_function_that_the_edit_touches(self):
         self.assert_finds(evidence, *((NO_NAME(it), *self.renamed("doubled.is_once", it)) for it in (
             "twice.is_once", "tripled.is_once", "is_once", "doubled_is_once")))
         self.assert_finds(
             evidence,
-            ("numbers doubled.is_one: it does not touch doubled, nor what that names\n",
-             *self.renamed("default.is_one", "doubled.is_one")),
             ("numbers doubled.is_once: src/lib.rt does not have this once: three", (f"{FOLDER}/doubled.is_once.edit",
                                                                                     "file: src/lib.rt\nold: three\nnew: 3\n")),
-            ("numbers doubled.is_once: no line of an edit: what: 1", (f"{FOLDER}/doubled.is_once.edit", END, "what: 1\n")),
+            ("numbers doubled.is_once: no line of a wrong body: what: 1", (f"{FOLDER}/doubled.is_once.edit", END, "what: 1\n")),
         )
 
     def test_the_type_and_the_trait_tell_equal_names_apart(self):
@@ -125,26 +126,10 @@ class Evidence(TreeTest):
         self.write(f"{FOLDER}/Letter.doubled.is_one.edit", "file: src/letter.rt\nold: twice(self.value)\nnew: 1\n")
         with self.changed(*self.renamed("doubled.is_once", "Number.doubled.is_once"),
                           *self.renamed("default.is_one", "Number.default.is_one")):
-            self.assertEqual(self.told(evidence), (False, "wrong bodies try 4 functions\n"))
+            self.assertEqual(self.told(evidence), (False, "4 functions have 4 wrong bodies\n"))
             with self.changed((OTHER, f"{SHOWN.format('Debug')}\n{SHOWN.format('Display')}")):
                 said = self.told(evidence)[1]
         self.assertEqual(said, MISSING("numbers Number.Debug", 1) + MISSING("numbers Number.Display", 1))
-
-    def test_the_kinds_are_counted_by_crate(self):
-        """One changes the function of its name, and one what that names; one of them has a control."""
-        def kinds(name, controlled):
-            return f"{name}: 2 wrong bodies of 2 functions: 1 change the function, 1 one that it names; {controlled} have a control\n"
-
-        # (one that is named for no function is none of them)
-        self.write(f"{FOLDER}/any.edit", ONCE)
-        for controlled in (0, 1):
-            self.assertEqual(self.told(evidence, "--kinds"), (False, kinds("numbers", controlled) + kinds("all", controlled)))
-            self.write(f"{FOLDER}/doubled.is_once.edit", f"{ONCE}# right:     value + {{ value }}\n")
-        self.write("crates/program/must-fail/print.is_one.edit", "file: src/main.rt\nold:     2\nnew:     1\n")
-        self.write(PROGRAM, "fn main() {\n    print()\n}\n\nfn print() {\n    2\n}\n")
-        self.assertEqual(self.told(evidence, "--kinds")[1].splitlines()[1:], [
-            "program: 1 wrong bodies of 1 functions: 1 change the function, 0 one that it names; 0 have a control",
-            "all: 3 wrong bodies of 3 functions: 2 change the function, 1 one that it names; 1 have a control"])
 
     def test_what_decides_has_one_for_each_direction(self):
         more = [(f"{FOLDER}/doubled.is_{it}.edit", ONCE.replace("+ 0", f"+ {it}")) for it in range(7, 11)]
@@ -154,7 +139,7 @@ class Evidence(TreeTest):
                 self.assertEqual(self.told(evidence), (True, MISSING("numbers doubled", 1)))
                 for count in range(1, len(more) + 1):
                     with self.changed(*more[:count]):
-                        self.assertEqual(self.told(evidence), (False, "wrong bodies try 2 functions\n"))
+                        self.assertEqual(self.told(evidence), (False, f"2 functions have {2 + count} wrong bodies\n"))
                 with self.changed((f"{FOLDER}/doubled.is_once.edit", None)):
                     self.assertEqual(self.told(evidence), (True, MISSING("numbers doubled", 2)))
 
@@ -213,21 +198,21 @@ class Refusals(TreeTest):
         told = {**self.TOLD, **({name: said} if name else {})}
         lines = [f"rt: must-fail moves/{it}.edit: refused, as it must be: {text}" for it, text in told.items() if text]
         self.write("log", "\n".join(["checked moves", *lines, "3 passed, 0 failed"]))
-        return self.told(evidence, "--refused", str(self.root / "log"))
+        return self.told(evidence, str(self.root / "log"))
 
     def assert_named(self, wanted, name, said):
         self.assertEqual(self.told_of(name, said), (True, f"moves {name}: {wanted}\n"))
 
     def test_each_is_refused_where_it_is_named_for(self):
         """At each line of its function, from the first attribute on, and of what that names; and at no other line."""
-        self.assertEqual(self.told_of(), (False, "wrong bodies try 3 functions\n"))
+        self.assertEqual(self.told_of(), (False, "3 functions have 3 wrong bodies\n"))
         moved = [*range(13, 19)]
         for name, clause, lines in (("counted.is_one", "returns-clause-moved", [*range(1, 6), *moved]),
                                     ("plain.is_one", "returns-clause-text", [*range(7, 12), *moved]),
                                     ("other.is_zero", "returns", [*range(20, 27)])):
             for line in range(1, 28):
                 fault = f"moves {name}: refused at src/lib.rt:{line}, where nothing is that it is named for\n"
-                told = (False, "wrong bodies try 3 functions\n") if line in lines else (True, fault)
+                told = (False, "3 functions have 3 wrong bodies\n") if line in lines else (True, fault)
                 self.assertEqual(self.told_of(name, GOAL.format(line, clause)), told, line)
 
     def test_one_that_the_log_lacks_is_named(self):
@@ -236,12 +221,11 @@ class Refusals(TreeTest):
         # (what is said of another crate, and another verdict)
         for line in ("moves_more/other.is_zero.edit: refused, as it must be: no", "moves/other.is_zero.edit: NOT REFUSED"):
             self.write("log", f"rt: must-fail {line}\n")
-            self.assertIn(f"moves other.is_zero: {lacking}", self.told(evidence, "--refused", str(self.root / "log"))[1])
+            self.assertIn(f"moves other.is_zero: {lacking}", self.told(evidence, str(self.root / "log"))[1])
 
     def test_one_that_is_named_for_no_function_is_refused_nowhere(self):
         self.write(f"{MOVES}/nothing.is_one.edit", "file: src/lib.rt\nold:     0\nnew:     1\n")
-        faults = ["no public function has this name", "refused at src/lib.rt:13, where nothing is that it is named for"]
-        told = "".join(f"moves nothing.is_one: {it}\n" for it in faults)
+        told = "moves nothing.is_one: no public function has this name\n"
         self.assertEqual(self.told_of("nothing.is_one", GOAL.format(13, "returns")), (True, told))
 
     def test_counts_refuse_nothing_of_what_does_not_count(self):

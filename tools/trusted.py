@@ -13,23 +13,20 @@ words, and so on, and those of the `Model` of each type in its signature. Proofs
 `Model`, which is proved. One reads in the order of crates.txt, of specs/Lib.antt and of the lines: what a definition is made
 of comes before it.
 
-It fails at what is no definition in specs/, at a call of a tactic and at an import of a proof there, but in modules named
-GhostProofs; at a definition that has no comment, or that no contract and no law reaches, where a law is what is `pub` in a module
-`..Laws`; and where the tables of PAGE are not of the definitions of `run` in order.
+It fails at what is no definition in specs/, but in modules named GhostProofs (`rt` stops at a call of a tactic there); at a
+definition that has no comment, or that no contract and no law reaches, where a law is what is `pub` in a module `..Laws`; and where
+the tables of PAGE are not of the definitions of `run` in order.
 """
 import re
 import sys
 from collections import namedtuple
 from itertools import zip_longest
 
-from modules import NAME, Modules, imports
-from closure import closed
-from repository import crates, public_types, read, sources
+from modules import Modules, imports
+from repository import closed, crates, public_types, read, sources
 
 LIBRARIES = ["arraystring_base", "arraystring_core", "arraystring", "arraystring_run", "bounded_records"]
 PAGE = "docs/definitions.md"
-# (`first_of` is a word of ours, too; as a tactic it tries others of these)
-TACTICS = {"rw", "simp", "search", "assumption", "ground", "cc", "omega", "grind", "hlevel"}
 FUNCTION = r"(?:pub(?:\(\w+\))? |const |unsafe )*fn "
 
 Contract = namedtuple("Contract", "name is_public signature words")
@@ -65,19 +62,12 @@ def faults_of_specs(tree, known):
     laws = [word for it in tree.items if it.is_law for word in tree.words(it)]
     told = closure(tree, [word for it in known for word in it.words] + laws)
     for item in (it for it in tree.items if it.part == "specs" and it.path.stem != "GhostProofs"):
-        calls = sorted(TACTICS.intersection(re.findall(NAME, "\n".join(item.lines))))
         if not item.is_definition:
             yield f"{item} is a proof: it belongs in proofs/, or in GhostProofs where a ghost member of src/ cites it"
-        elif calls:
-            yield f"{item} calls a tactic: {', '.join(calls)}"
         elif item not in told:
             yield f"{item} is reached by no contract and no law"
         if not item.comment:
             yield f"{item} has no comment"
-    for path, names in tree.modules.items():
-        proofs = sorted({it[0] for it in names.values() if isinstance(it, tuple) and ".proofs." in it[0]})
-        if ".specs." in path and proofs and not path.endswith(".GhostProofs"):
-            yield f"{path} imports from proofs: {', '.join(proofs)}"
 
 
 def faults_of_page(page, headline):

@@ -1,9 +1,10 @@
 //! What no contract says, on values worked out by hand. A module is named as the module that it tests, or
 //! else for what varies in it: `texts` and `start_offset` go through all calls. `calls` makes the calls of a
-//! table, whose columns `table` reads; `listed` has most of them. `equality` compares by `==`.
+//! table, whose columns `table` reads; `call_list` has most of them. `equality` compares by `==`.
 
 mod array_string;
 mod cache_string;
+mod call_list;
 mod calls;
 mod construct;
 mod drain;
@@ -13,7 +14,6 @@ mod examples;
 mod find;
 mod insert;
 mod json;
-mod listed;
 mod printing;
 mod public_api;
 mod range;

@@ -17,7 +17,7 @@
 //! `exhausted` is an inclusive range that was iterated to its end. `slice` has no row with `..=`.
 ghost use Rattle.std.specs.Prelude.{◌≤◌};
 
-use super::listed::{counted_calls, index_calls, range_calls, whole_calls};
+use super::call_list::{index_calls, range_calls, whole_calls};
 use super::table::{agree, character, hash_of, number, returned, string};
 use arraystring::utils::{Steps, is_char_boundary};
 use arraystring::{ArrayString, MaxString};
@@ -96,25 +96,24 @@ pub(crate) fn check_row<R: Abort + AllocGlobal, const N: usize>(
 
 /// What a call of a list is given.
 macro_rules! given {
-    (ch, $rt:ident $row:ident $steps:ident $range:ident) => { character($rt, $row, 3) };
-    (text, $rt:ident $row:ident $steps:ident $range:ident) => { column($row, 3) };
-    (chars, $rt:ident $row:ident $steps:ident $range:ident) => { column($row, 3).chars() };
-    (pieces, $rt:ident $row:ident $steps:ident $range:ident) => { column($row, 3).split(',') };
-    (index, $rt:ident $row:ident $steps:ident $range:ident) => { number($rt, $row, 2) };
-    (range, $rt:ident $row:ident $steps:ident $range:ident) => { $range };
-    (steps, $rt:ident $row:ident $steps:ident $range:ident) => { &mut $steps };
+    (ch, $rt:ident $row:ident $range:ident) => { character($rt, $row, 3) };
+    (text, $rt:ident $row:ident $range:ident) => { column($row, 3) };
+    (chars, $rt:ident $row:ident $range:ident) => { column($row, 3).chars() };
+    (pieces, $rt:ident $row:ident $range:ident) => { column($row, 3).split(',') };
+    (index, $rt:ident $row:ident $range:ident) => { number($rt, $row, 2) };
+    (range, $rt:ident $row:ident $range:ident) => { $range };
 }
 
 /// Makes the call of a row that is in a list, and asserts what it returns. If there is none, the
 /// function returns `false`.
 macro_rules! make {
     (
-        ($rt:ident $row:ident $steps:ident $range:ident $string:ident.$call:ident)
+        ($rt:ident $row:ident $range:ident $string:ident.$call:ident)
         $($name:ident($($given:ident)*))*
     ) => {
         match $call {
             $(stringify!($name) => {
-                let result = $string.$name($(given!($given, $rt $row $steps $range)),*);
+                let result = $string.$name($(given!($given, $rt $row $range)),*);
                 returned($rt, $row, result);
             })*
             _ => return false,
@@ -130,7 +129,7 @@ fn whole<R: Abort + AllocGlobal, const N: usize>(
     call: &str,
     row: &str,
 ) -> bool {
-    whole_calls!(make (rt row steps range text.call));
+    whole_calls!(make (rt row range text.call));
     true
 }
 
@@ -270,7 +269,24 @@ fn counted<R: Abort + AllocGlobal, const N: usize>(
     row: &str,
 ) -> bool {
     let mut steps = Steps::new();
-    counted_calls!(make (rt row steps range text.call));
+    let given = column(row, 3);
+    match call {
+        "pop_counted" => returned(rt, row, text.pop_counted(&mut steps)),
+        "trim_counted" => returned(rt, row, text.trim_counted(&mut steps)),
+        "remove_counted" => {
+            let index = number(rt, row, 2);
+            returned(rt, row, text.remove_counted(index, &mut steps));
+        }
+        "try_insert_str_counted" => {
+            let index = number(rt, row, 2);
+            returned(
+                rt,
+                row,
+                text.try_insert_str_counted(index, given, &mut steps),
+            );
+        }
+        _ => return false,
+    }
     let count = number(rt, row, 6) as u64;
     if call == "pop_counted" {
         agree(rt, row, steps.looked(), count);
@@ -306,7 +322,7 @@ fn at_index<R: Abort + AllocGlobal, const N: usize>(
             row,
             push_or_insert_str_unchecked(text, Some(index), given),
         ),
-        _ => index_calls!(make (rt row steps range text.call)),
+        _ => index_calls!(make (rt row range text.call)),
     }
     true
 }
@@ -416,7 +432,18 @@ fn of_range<R: Abort + AllocGlobal, B: RangeBounds<u8> + Drop, const N: usize>(
     requires { N ≤ 300 }
 {
     let mut steps = Steps::new();
-    range_calls!(make (rt row steps range text.call));
+    match call {
+        "drain_counted" => returned(rt, row, text.drain_counted(range, &mut steps)),
+        "replace_range_counted" => {
+            let given = column(row, 3);
+            returned(
+                rt,
+                row,
+                text.replace_range_counted(range, given, &mut steps),
+            );
+        }
+        _ => range_calls!(make (rt row range text.call)),
+    }
     if call.ends_with("_counted") {
         agree(rt, row, steps.moved(), number(rt, row, 6) as u64);
     }

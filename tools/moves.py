@@ -1,0 +1,32 @@
+"""Fails where a move or a look might not be counted, as no contract says that each is.
+
+- A function that is given a `Steps` makes no other.
+- arraystring_core moves bytes by the calls MOVES alone.
+"""
+import re
+
+import evidence
+from repository import read, sources
+
+# What moves bytes, or writes them over others: each `pub fn` of MODULE, and what std has.
+MODULE, OF_STD = "crates/arraystring_base/src/moves.rt", {"copy_within", "rotate_left", "rotate_right", "swap", "reverse"}
+MOVES = {"shift", "write_over"}
+# (it moves by these, too, until an append is one of MOVES)
+MOVES |= {"move_bytes", "write_by_call"}
+
+
+def main(arguments, root):
+    faults, given = [], 0
+    others = {*re.findall(r"(?m)^pub fn (\w+)", read(root / MODULE)), *OF_STD} - MOVES
+    for crate in ("arraystring_base", "arraystring_core", "arraystring"):
+        for path in sources(root / "crates" / crate):
+            for function in evidence.functions_of(re.sub("//.*", "", read(path))):
+                body = "\n".join(function.body)
+                has_steps = re.search(r":\s*(&mut |mut )?Steps\b", function.header)
+                given += bool(has_steps)
+                if has_steps and re.search(r"\bSteps::|\bSteps \{", body):
+                    faults.append(f"{path.relative_to(root)}: {function.name} is given a Steps and makes another")
+                for name in sorted(others & function.words) if crate == "arraystring_core" else []:
+                    faults.append(f"{path.relative_to(root)}: {function.name} moves bytes by {name}, which nothing counts")
+    print("\n".join(faults) or f"{given} functions that are given a Steps make no other, and moves go through {', '.join(sorted(MOVES))}")
+    return bool(faults) or not given

@@ -1,0 +1,77 @@
+"""Which names on a page are no laws for callers, and which lemmas nothing names."""
+import laws
+from planted import TreeTest
+
+LEMMAS = """\
+-- halves of a number
+use Rattle.std.proofs.Common.{◌≡◌, ℕ, refl}
+use Rattle.numbers.specs.Numbers.{half}
+
+pub half-even : (n : ℕ) → half (n + n) ≡ n
+half-even n = step n
+
+step : (n : ℕ) → half (n + n) ≡ n
+step n = refl
+"""
+LAWS = """\
+-- of a row
+use Rattle.std.proofs.Common.{◌≡◌, ℕ}
+pub use Rattle.numbers.proofs.HalfLemmas.{half-even}
+
+module _ (n : ℕ) where
+  pub front-made : n ≡ n
+  front-made = refl
+
+  pub front-start : n ≡ n
+  front-start = front-made
+
+hidden-law : 1 ≤ 2
+hidden-law = front-start
+"""
+FOLDER, END = "crates/numbers", r"\Z"
+LIB, ROWS, FILE, PAGE = (f"{FOLDER}/{it}" for it in ("proofs/Lib.antt", "proofs/RowLaws.antt", "proofs/HalfLemmas.antt", "LAWS.md"))
+ODD = "\npub half-odd : (n : ℕ) → half n ≡ n\nhalf-odd n = half-odd n\n"
+NAMED, NOTHING = f"{PAGE} names {{}}, which is no law for callers\n".format, f"{FILE}: nothing names {{}}\n".format
+
+
+class Laws(TreeTest):
+    FILES = {
+        "crates.txt": "numbers:\nupper: numbers\n",
+        LIB: "mod HalfLemmas\npub mod RowLaws\n",
+        "crates/upper/proofs/Lib.antt": "pub use Rattle.numbers.proofs.RowLaws\n",
+        FILE: LEMMAS,
+        ROWS: LAWS,
+        f"{FOLDER}/proofs/halve/Answers.antt": "pub returns-all : goal.returns\nreturns-all c = hidden-law\n",
+        f"{FOLDER}/src/lib.rt": "pub fn halve(n: u8) -> u8 {\n    n / 2\n}\n",
+        PAGE: "`front-made n`, `half-even`; `front-` with\n`start t`; `..-made` and `returns-all`\n",
+        "crates/upper/CALLING.md": "`front-made` and `c.in_err-call` and `kit-13`\n",
+    }
+
+    def test_a_page_names_laws_that_its_callers_can_cite(self):
+        self.assertEqual(self.told(laws), (False, "5 lemmas and laws are named, and pages name laws that are there\n"))
+        self.assert_finds(
+            laws,
+            *((NAMED(it), (PAGE, END, f"`{it} n m`\n")) for it in ("front-end", "step-made", "hidden-law", "IsHalf-made")),
+            (NAMED("front-end"), (PAGE, "`start t`", "`start t` and `end t`")),
+            (NAMED("front-made"), (ROWS, "pub front-made", "front-made")),
+            (NAMED("half-even"), (ROWS, "^pub use Rattle.*\n", "")),
+            ("crates/upper/CALLING.md names front-made", ("crates/upper/proofs/Lib.antt", "")),
+            ("crates/upper/CALLING.md names front-end", ("crates/upper/CALLING.md", END, "`front-end n`\n")),
+            ("", (PAGE, END, "\n```antt\n`front-end`\n```\n")),
+        )
+        with self.changed((LIB, "pub mod RowLaws", "mod RowLaws")):
+            self.assertIn(NAMED("front-made"), self.told(laws)[1])
+
+    def test_a_lemma_that_nothing_names_is_told(self):
+        self.assert_finds(
+            laws,
+            (NOTHING("half-odd"), (FILE, END, ODD)),
+            (NOTHING("half-odd"), (FILE, END, f"\n-- as half-odd\n{ODD}")),
+            (NOTHING("half-odd"), (FILE, END, ODD), (f"{FOLDER}/src/lib.rt", r"\A", "// half-odd\n")),
+            (NOTHING("half-ev"), (FILE, END, ODD.replace("half-odd", "half-ev"))),
+            (NOTHING("step"), (FILE, "= step n", "= refl")),
+        )
+        for cites in ((f"{FOLDER}/src/lib.rt", r"\A", "#[tactic(auto, using(crate::proofs::HalfLemmas::half_odd))]\n"),
+                      (ROWS, "= front-start", "= half_odd"), (PAGE, END, "`half_odd`\n")):
+            with self.changed((FILE, END, ODD.replace("half-odd", "half_odd")), cites):
+                self.assertFalse(self.told(laws)[0], cites)

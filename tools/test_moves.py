@@ -1,0 +1,44 @@
+"""Which moves and looks might not be counted."""
+import moves
+from planted import TreeTest
+
+CORE, END = "crates/arraystring_core/src/array_string.rt", r"\Z"
+SOURCE = """\
+impl ArrayString {{
+    pub fn pop_counted(&mut self, steps: &mut Steps) -> u8
+        ensures {{ 0 ≡ 0 }}
+    {{
+        {}
+    }}
+
+    pub fn pop(&mut self) -> u8 {{
+        self.pop_counted(&mut Steps::new())
+    }}
+}}
+"""
+
+
+class Moves(TreeTest):
+    FILES = {
+        moves.MODULE: "".join(f"pub fn {it}() {{\n    1\n}}\n\n" for it in ("move_run", "move_bytes", "write_over", "write_by_call"))
+        + "pub fn shift(steps: &mut Steps) {\n    move_run(1)\n}\n",
+        CORE: SOURCE.format("shift(array, 1, 0, 1, steps)"),
+        "crates/arraystring/src/lib.rt": "",
+    }
+
+    def test_what_is_given_a_counter_makes_no_other_and_moves_are_counted(self):
+        self.assertEqual(self.told(moves)[0], False)
+        another, by = f"{CORE}: pop_counted is given a Steps and makes another\n", f"{CORE}: {{}} moves bytes by {{}}, which nothing counts\n"
+        given = "fn hand_on(mut steps: Steps) {{\n    {}\n}}\n".format
+        self.assert_finds(
+            moves,
+            (another, (CORE, SOURCE.format("shift(array, 1, 0, 1, &mut Steps::new())"))),
+            (another, (CORE, SOURCE.format("shift(array, 1, 0, 1, &mut Steps::default())"))),
+            (another, (CORE, SOURCE.format("shift(array, 1, 0, 1, &mut Steps { looked: 0, moved: 0 })"))),
+            (f"{CORE}: hand_on is given a Steps and makes another\n", (CORE, END, given("shift(&mut Steps::new())"))),
+            *((by.format("pop_counted", it), (CORE, SOURCE.format(f"{it}(1)"))) for it in ("move_run", "copy_within", "swap", "rotate_left")),
+            (by.format("pop_counted", "move_new"), (moves.MODULE, END, "\npub fn move_new() {\n    1\n}\n"), (CORE, SOURCE.format("move_new(1)"))),
+        )
+        for text in (SOURCE.format("shift(array, 1, 0, 1, steps); // move_run, Steps::new()"), SOURCE.format("write_over(1)")):
+            with self.changed((CORE, text)):
+                self.assertFalse(self.told(moves)[0])
