@@ -40,8 +40,8 @@ pub struct Ruled {
 }
 
 impl Ruled {
-    /// Whether a source only calls its counted form, as `pop` does: the body of that is the one that Rust has.
-    pub fn only_counts(&self) -> bool {
+    /// Whether a source only calls its counted form, as `pop` does.
+    fn only_counts(&self) -> bool {
         let name = self.item.path.rsplit("::").next().unwrap_or("");
         let body = self.printed.iter().position(|token| token.is("{")).unwrap_or(0);
         let is_named = |pair: &&[Token]| pair[1].is(":") && pair[0].text.starts_with(char::is_lowercase);
@@ -65,7 +65,31 @@ pub fn sources(tree: &Tree, rules: &Rules) -> Result<Vec<Ruled>, Fault> {
             all.push(Ruled { tokens: rules.of_both(&printed), item, printed, is_counted });
         }
     }
-    Ok(all)
+    Ok(joined(all))
+}
+
+/// A call that only counts is one with its counted form: it has the head and the documentation of the one, and the body of the other.
+fn joined(all: Vec<Ruled>) -> Vec<Ruled> {
+    let (callers, mut rest): (Vec<Ruled>, Vec<Ruled>) = all.into_iter().partition(Ruled::only_counts);
+    for caller in callers {
+        let is_called = |one: &&mut Ruled| one.is_counted && one.item.path == caller.item.path;
+        match rest.iter_mut().find(is_called) {
+            Some(called) => {
+                called.tokens = with_body(&caller.tokens, &called.tokens);
+                called.printed = with_body(&caller.printed, &called.printed);
+                called.is_counted = false;
+                let file = called.item.file.clone();
+                called.item = Item { file, ..caller.item };
+            }
+            None => rest.push(caller),
+        }
+    }
+    rest
+}
+
+fn with_body(head: &[Token], body: &[Token]) -> Vec<Token> {
+    let is_head = |token: &&Token| !token.is("{");
+    head.iter().take_while(is_head).chain(body.iter().skip_while(is_head)).cloned().collect()
 }
 
 /// The sources that a file of Rust names in its first lines, or none of a file by hand.
@@ -166,10 +190,10 @@ impl Comparison<'_> {
         let is_like = |source: &Ruled| source.item.path == *path && named.contains(&source.item.file);
         let like: Vec<usize> = (0..self.sources.len()).filter(|at| is_like(&self.sources[*at])).collect();
         self.found.extend(&like);
-        match like.iter().find(|at| !self.sources[**at].only_counts()) {
+        match like.first() {
             Some(&body) => {
                 self.tokens(rust, body);
-                self.promises(rust, &like, body);
+                self.promises(rust, &like);
             }
             None if self.block(path, |says| *says == Says::OnlyInRust).is_some() => self.report.only_in_rust += 1,
             None => self.fault(&rust.item, format!("`{path}` is only in Rust")),
@@ -177,11 +201,11 @@ impl Comparison<'_> {
     }
 
     /// Compares what an item says with what its source says, and what it requires.
-    fn promises(&mut self, rust: &Ruled, like: &[usize], body: usize) {
+    fn promises(&mut self, rust: &Ruled, like: &[usize]) {
         let path = &rust.item.path;
-        let all = || like.iter().map(|at| &self.sources[*at]);
-        let is_one = all().all(|other| other.only_counts() || other.tokens == self.sources[body].tokens);
-        let said = all().find(|source| !source.is_counted).unwrap_or(&self.sources[body]);
+        let mut all = like.iter().map(|at| &self.sources[*at]);
+        let is_one = all.clone().all(|other| other.tokens == self.sources[like[0]].tokens);
+        let said = all.find(|source| !source.is_counted).unwrap_or(&self.sources[like[0]]);
         let requires = said.item.contract.iter().any(|clause| clause.starts_with("requires"));
         let is_unsafe = rust.item.tokens.windows(2).any(|pair| pair[0].is("unsafe") && pair[1].is("fn"));
         if let Some(what) = docs::compare(&said.item, &rust.item) {
@@ -221,7 +245,7 @@ impl Comparison<'_> {
         for at in 0..self.sources.len() {
             let (file, path) = (self.sources[at].item.file.clone(), self.sources[at].item.path.clone());
             let is_alone = |says: &Says| *says == Says::OnlyInTheSource;
-            if self.found.contains(&at) || self.sources[at].only_counts() {
+            if self.found.contains(&at) {
                 continue;
             }
             if self.block(&path, is_alone).is_some() || self.block(&file, is_alone).is_some() {
@@ -250,14 +274,12 @@ fn difference(source: &Item, from: &[Token], rust: &Ruled) -> Fault {
     while stands(&from[start..from.len() - end]) != 1 && (start > 0 || end > 0) {
         (start, end) = (start.saturating_sub(1), end.saturating_sub(1));
     }
-    let place = |tokens: &[Token], line: usize| tokens.get(same).map_or(line, |token| token.line);
+    let (file, line_of) = from.get(same).map_or((&*source.file, source.line), |token| (&*token.file, token.line));
     let what = format!(
-        "`{}` differs from {}:{}\n    source: {}\n    rust: {}",
+        "`{}` differs from {file}:{line_of}\n    source: {}\n    rust: {}",
         source.path,
-        source.file,
-        place(from, source.line),
         line(&from[start..from.len() - end]),
         line(&to[start..to.len() - end]),
     );
-    Fault { file: rust.item.file.clone(), line: place(to, rust.item.line), what }
+    Fault { file: rust.item.file.clone(), line: to.get(same).map_or(rust.item.line, |token| token.line), what }
 }

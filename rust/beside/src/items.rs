@@ -164,7 +164,7 @@ impl Reader<'_> {
             let ghosts = members
                 .split(|token| token.is("ghost"))
                 .skip(1)
-                .filter(|ghost| !ghost[..1].iter().any(|token| token.is("use")));
+                .filter(|ghost| !ghost.first().is_some_and(|token| token.is("use")));
             let ghosts = ghosts.filter_map(|ghost| Some(words(&ghost[..=position(ghost, &[";"])?]))).collect();
             self.put(front, head, &path, ghosts, ("", &[]));
             self.level(members, (&format!("{}::", path.trim_start_matches("impl ")), head))?;

@@ -33,6 +33,7 @@ pub enum Kind {
 pub struct Token {
     pub kind: Kind,
     pub text: Rc<str>,
+    pub file: Rc<str>,
     pub line: usize,
     /// The blanks and comments before it.
     pub gap: Rc<str>,
@@ -71,12 +72,16 @@ pub fn tokens(file: &str, text: &str) -> Result<Vec<Token>, Fault> {
 pub fn scan(file: &str, text: &str) -> Result<Vec<Token>, Fault> {
     let mut tokens: Vec<Token> = Vec::new();
     let (mut rest, mut line, mut gap) = (text, 1, String::new());
+    let file: Rc<str> = file.into();
     while !rest.is_empty() {
         let fault = |what: &str| Fault { file: file.to_string(), line, what: what.to_string() };
         let (kind, len) = next(rest).map_err(fault)?;
         let (text, behind) = rest.split_at(len);
         match kind {
-            Some(kind) => tokens.push(Token { kind, text: text.into(), line, gap: std::mem::take(&mut gap).into() }),
+            Some(kind) => {
+                let gap = std::mem::take(&mut gap).into();
+                tokens.push(Token { kind, text: text.into(), file: file.clone(), line, gap });
+            }
             None => gap.push_str(text),
         }
         line += text.matches('\n').count();

@@ -65,7 +65,7 @@ fn tell(tree: &Tree) -> bool {
 /// Prints a source as it would stand in Rust.
 fn print(tree: &Tree, path: &str) -> Result<bool, String> {
     let sources = compare::sources(tree, &rules::Rules::new()).map_err(|fault| fault.to_string())?;
-    let mut found = sources.iter().filter(|source| source.item.path == path && !source.only_counts()).peekable();
+    let mut found = sources.iter().filter(|source| source.item.path == path).peekable();
     if found.peek().is_none() {
         return Err(format!("no source has `{path}`"));
     }

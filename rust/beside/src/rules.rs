@@ -167,7 +167,12 @@ fn apply(rule: &Rule, tokens: &[Token]) -> Vec<Token> {
                     made.extend(value);
                     made.iter_mut().skip(gap).take(1).for_each(|first| first.gap = token.gap.clone());
                 }
-                None => made.push(Token { line: tokens[at].line, ..token.clone() }),
+                None => made.push(Token {
+                    text: token.text.clone(),
+                    kind: token.kind,
+                    gap: token.gap.clone(),
+                    ..tokens[at].clone()
+                }),
             }
         }
         made.iter_mut().skip(start).take(1).for_each(|first| first.gap = tokens[at].gap.clone());
@@ -237,7 +242,7 @@ fn operand(name: &str, value: Vec<Token>, before: Option<&Token>, next: Option<&
     if !["$of", "$value"].contains(&name) || is_apart || is_chain(&value) {
         return value;
     }
-    let sign = |text: &str| Token { kind: Kind::Sign, text: text.into(), line: value[0].line, gap: "".into() };
+    let sign = |text: &str| Token { kind: Kind::Sign, text: text.into(), gap: "".into(), ..value[0].clone() };
     [vec![sign("(")], value.clone(), vec![sign(")")]].concat()
 }
 
