@@ -85,6 +85,12 @@ impl<const N: usize> DoubleEndedIterator for Drain<N> {
         self.size = self.front + kept as u8;
         Some(ch)
     }
+
+    /// Walks all that is left at once, from the back.
+    #[inline]
+    fn rfold<B, F: FnMut(B, char) -> B>(self, init: B, f: F) -> B {
+        self.as_str().chars().rfold(init, f)
+    }
 }
 
 /// Each drain is equal to itself, and so to a copy of it.
@@ -208,6 +214,18 @@ impl<const N: usize> Iterator for Drain<N> {
     fn size_hint(&self) -> (usize, Option<usize>) {
         let len = self.as_str().len();
         (len.div_ceil(4), Some(len))
+    }
+
+    /// Walks all that is left at once, as `for_each`, `sum` and `collect` do.
+    #[inline]
+    fn fold<B, F: FnMut(B, char) -> B>(self, init: B, f: F) -> B {
+        self.as_str().chars().fold(init, f)
+    }
+
+    /// Returns how many characters are left, without a decoding of them.
+    #[inline]
+    fn count(self) -> usize {
+        self.as_str().chars().count()
     }
 }
 

@@ -161,6 +161,18 @@ fn walked<const N: usize>(drain: Drain<N>, left: &str) -> usize {
     assert_eq!((drain.as_str(), format!("{drain:?}")), (left, format!("Drain({left:?})")));
     let (least, most) = drain.size_hint();
     assert!(least <= length(left) && Some(length(left)) <= most, "{least} to {most:?} of {left}");
+    assert_eq!((drain.count(), drain.collect::<String>()), (length(left), left.to_string()));
+    assert_eq!(drain.fold(String::new(), |text, ch| text + ch.encode_utf8(&mut [0; 4])), left);
+    assert!(drain.rev().eq(left.chars().rev()));
+    assert!(
+        drain
+            .rfold(left.chars(), |mut wanted, ch| {
+                assert_eq!(wanted.next_back(), Some(ch));
+                wanted
+            })
+            .as_str()
+            .is_empty()
+    );
     let (mut front, mut back) = (drain, drain);
     let (mut chars, mut backwards) = (left.chars(), left.chars());
     assert_eq!((front.next(), back.next_back()), (chars.next(), backwards.next_back()), "of {left}");
