@@ -10,9 +10,8 @@ from repository import read, sources
 
 # What moves bytes, or writes them over others: each `pub fn` of MODULE, and what std has.
 MODULE, OF_STD = "crates/arraystring_base/src/moves.rt", {"copy_within", "rotate_left", "rotate_right", "swap", "reverse"}
-MOVES = {"shift", "write_over"}
-# (it moves by these, too, until an append is one of MOVES)
-MOVES |= {"move_bytes", "write_by_call"}
+# (`write_by_call` writes the text of a new string, and moves nothing)
+MOVES = {"shift", "write_over", "write_by_call"}
 
 
 def main(arguments, root):

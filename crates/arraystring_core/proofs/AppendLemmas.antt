@@ -34,8 +34,9 @@ module _ {array_size : ℕ} {array : List ℕ} {p n : ℕ} (is : IsStored array_
       rw (wide, ← length-utf8 ch, ← char-chars ch scalar) (appended is e (char-utf8 ch scalar))
 
   -- the text was moved to offset 0 before
-  pub char-appended_at_front : {after : List ℕ} → n + width ch ≤ cap array_size
-      → after ≡ take n (drop p array) ++ (utf8 ch ++ drop (n + width ch) array)
+  pub char-appended_at_front : {moved after : List ℕ} → n + width ch ≤ cap array_size
+      → moved ≡ take 0 array ++ (take n (drop p array) ++ drop (0 + n) array)
+      → after ≡ take n moved ++ (utf8 ch ++ drop (n + width ch) moved)
       → StoredAt array_size after 0 (n + len) (v.text ++ ch ∷ [])
   char-appended_at_front =
       rw (wide, ← length-utf8 ch, ← char-chars ch scalar) (appended_at_front is e (char-utf8 ch scalar))

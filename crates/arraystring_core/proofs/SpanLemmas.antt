@@ -119,19 +119,15 @@ module _ {array_size : ℕ} {array : List ℕ} {p n : ℕ} (is : IsStored array_
           put 0 (omega (arith, spliced d u)) (rw at at moved) (rw sum (rw (at, many, wide) at tail))
           (written-from-zero _ _ _ start over)
 
--- the text was moved to offset 0, and `given` was written behind it
+-- the text was moved to offset 0, and then `given` was written behind it
 pub appended_at_front : {array_size : ℕ} {array : List ℕ} {p n : ℕ} (is : IsStored array_size array p n) {v : Stored} → stored array p n ≡ v
-    → {given after : List ℕ} → IsUtf8 given → n + length given ≤ cap array_size
-    → after ≡ take n (drop p array) ++ (given ++ drop (n + length given) array)
+    → {given moved after : List ℕ} → IsUtf8 given → n + length given ≤ cap array_size
+    → moved ≡ take 0 array ++ (take n (drop p array) ++ drop (0 + n) array)
+    → after ≡ take n moved ++ (given ++ drop (n + length given) moved)
     → StoredAt array_size after 0 (n + length given) (v.text ++ chars given)
-appended_at_front {array_size} {array} {p} {n} is e {given} {after} u room put =
-    let text = take n (drop p array) in
-    let rest = given ++ drop (n + length given) array in
-    let front : length text ≡ n = length-take-le n (drop p array) (omega (arith, length-drop p array, is.length)) in
-    let long : length after ≡ array_size =
-    omega (arith, simp length-append at (ap length put), front, length-drop (n + length given) array, is.length) in
-    let zero : 0 + n ≡ n = omega arith in
-    joined (stored-from-utf8 after 0 n (stored-utf8 is) (ap (λ w. w.text) e) long (omega arith) (ap (take n) put ∙ take_at text rest n front))
-    (stored-from-utf8 after (0 + n) (length given) u refl long (omega arith)
-    (rw zero (ap (λ l. take (length given) (drop n l)) put ∙ ap (take (length given)) (drop_at text rest n front)
-    ∙ take_at given _ (length given) refl)))
+appended_at_front {array_size} {array} {p} {n} is e {given} {moved} {after} u room front put =
+    let there = shifted array moved p 0 n (omega (arith, is.length, is.within)) (omega (arith, is.length, is.within)) front in
+    let text = stored-from-utf8 array p n (stored-utf8 is) (ap (λ w. w.text) e) is.length is.within refl in
+    let first = carried text moved 0 (there.long ∙ is.length) (omega (arith, is.within)) there.here in
+    let all = appended first.in_array refl u (omega (arith, room)) (written-from-zero moved after given n put) in
+    record { in_array = all.in_array; shown = all.shown ∙ ap (λ t. t ++ chars given) first.shown }

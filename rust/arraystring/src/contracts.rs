@@ -36,14 +36,7 @@
 //! | `s.text` | the text of a string | that of `ArrayString::<4>::from("aé")` is `"aé"` |
 //! | `chars b`, `string.now` | the characters whose UTF-8 is `b`; the bytes of a borrowed `string` | `chars string.now` is the given text |
 //! | `bytes t`, `utf8 c` | the UTF-8 of a text, and of one character | `utf8 'é'` is `[0xC3, 0xA9]` |
-//! | `size t` | how many bytes `t` takes in UTF-8: the sum of the widths of its characters | `size "aé"` is `3` |
-//! | `width c` | how many bytes `c` takes in UTF-8: 1 below U+80, 2 below U+800, 3 below U+10000, otherwise 4 | `width 'é'` is `2` |
 //! | `length t` | how many items a list has | `length "aé"` is `2` |
-//! | `cap N` | the capacity of an array of `N` bytes: the lesser of `N` and 255, since the length is one byte | `cap 300` is `255` |
-//! | `cut t n` | the longest prefix of whole characters of `t` that takes at most `n` bytes | `cut "aé" 2` is `"a"` |
-//! | `boundary t i` | whether some prefix of whole characters of `t` takes `i` bytes, as `str::is_char_boundary` | `boundary "aé" 2` is `false` |
-//! | `front t i`, `back t i` | the text before the boundary `i`, and the text from it on; if `i` is past the text, all and nothing; if `i` is inside a character, `back t i` begins with that character | `front "aé" 1` is `"a"`, `back "aé" 1` is `"é"` |
-//! | `part t i j`, `part_in t i j` | the text between two boundaries; `Some` of it, or `None` if they are not boundaries in order | `part_in "aé" 0 2` is `None` |
 //! | `IsText t` | each number in the list `t` is that of a character | false of `[0xD800]` |
 //! | `IsWellFormed b` | the bytes `b` are the UTF-8 of a text | false of `[0xFF]` |
 //! | `IsBefore t u` | `t` comes before `u` in the order of `str` | `IsBefore "a" "ab"` |
@@ -52,10 +45,7 @@
 //! | `to_ascii_uppercase c`, `to_ascii_lowercase c` | as those of `char` | `to_ascii_uppercase 'é'` is `'é'` |
 //! | `min x y` | the lesser | `min 2 3` is `2` |
 //! | `slice_index b i` | the item at `i` | `slice_index [7, 8] 1` is `8` |
-//! | `is_white_space c` | whether `c` has the property White_Space: U+9 to U+D, U+20, U+85, U+A0, U+1680, U+2000 to U+200A, U+2028, U+2029, U+202F, U+205F or U+3000 | `is_white_space '\t'` is `true` |
 //! | `is_space c` | whether `c` is the space U+0020 | `is_space '\t'` is `false` |
-//! | `without_trailing f t` | the text without the characters at its end for which `f` is true | `without_trailing is_space "a "` is `"a"` |
-//! | `steps.old.looked`, `steps.new.moved` | how many bytes were looked at before the call; how many bytes were moved before it and in it | `steps.new.moved ≡ steps.old.moved`: none moved |
 //!
 //! # Results
 //!
@@ -64,7 +54,7 @@
 //! | `Ok x`, `Err e`, `Some x`, `None`, `tt` | as in Rust; `tt` is `()` | `Ok tt` is `Ok(())` |
 //! | `Error.Utf8`, `cases.Utf16`, `error.Utf8`, `cases.OutOfBounds` | the cases of `Error` | `Err Error.Utf8` is `Err(Error::Utf8)` |
 //! | `IsOk r`, `IsTrue b` | `r` is `Ok`, `b` is `true` | `IsTrue (boundary t 0)` |
-//! | `IfOk r (λ x. A)`, `OnOk r A`, `OnErr r A` | if `r` is `Ok(x)`, then `A`; if `r` is `Ok`, then `A`; if `r` is an error, then `A` | `OnErr result (steps.new.moved ≡ 0)` |
+//! | `IfOk r (λ x. A)`, `OnOk r A`, `OnErr r A` | if `r` is `Ok(x)`, then `A`; if `r` is `Ok`, then `A`; if `r` is an error, then `A` | `OnErr result (self.new.text ≡ self.old.text)` |
 //! | `IfSome r (λ x. A)`, `IfNone r A` | if `r` is `Some(x)`, then `A`; if `r` is `None`, then `A` | `IfNone result (self.new.text ≡ [])` |
 //! | `MatchOption r A (λ x. B)` | if `r` is `None`, then `A`; if `r` is `Some(x)`, then `B` | `MatchOption None A (λ x. B)` is `A` |
 //! | `MatchOrdering o A B C` | if `o` is `Less`, then `A`; if `Equal`, then `B`; if `Greater`, then `C` | `MatchOrdering (1.cmp(2)) A B C` is `A` |
@@ -75,35 +65,12 @@
 //!
 //! # Edits
 //!
-//! A row has tests in order, a result, and the text after. `Makes row old result new` says that the call does what the row says:
+//! `Makes row old result new` says that a call does what a row of the table of edits says. `docs/definitions.md` of the repository has
+//! the table. It also explains the other words of texts: `size`, `width`, `cap`, `cut`, `boundary`, `front`, `back`, `part`,
+//! `is_white_space`, `without_trailing`. A row has tests in order, a result, and the text after:
 //!
 //! - If a test holds, the call returns the error of the first one that does, and the text is the old one.
 //! - If no test holds, the result and the text are those of the row.
-//!
-//! The tests are:
-//!
-//! - *past*: an index is past the text (`OutOfBounds`). In `removal` also an index at the end, where no character begins.
-//! - *reversed*: the range ends before it starts (`OutOfBounds`).
-//! - *room*: the size of the text after is above `n` (`OutOfBounds`). In `replacement` that is `size t - (j - i) + size u`, even
-//!   if `i` or `j` is inside a character.
-//! - *inside*: an index is inside a character (`Utf8`). In a range the start is tested before the end.
-//!
-//! | Row | Tests in order; the text after, and what is returned | Example |
-//! |---|---|---|
-//! | `Makes row old result new` | the call does what the row says | `Makes clearing t (Ok tt) []` |
-//! | `addition t u n` | room; `u` is appended | `"a"` with `"b"`: `"ab"` |
-//! | `addition_of_cut t u n` | none; as much of `u` as fits is appended, `cut u (n - size t)` | `"a"` with `"bc"` at 2: `"ab"` |
-//! | `insertion t i u n` | past, room, inside; `u` is inserted at `i` | `"ac"` at 1, `"b"`: `"abc"` |
-//! | `insertion_of_cut t i u n` | past, inside; as much of `u` as fits is inserted at `i`, `cut u (n - size t)` | `"ac"` at 1, `"bb"`, at 3: `"abc"` |
-//! | `replacement t i j u n` | reversed, past (`j`), room, inside; the text from `i` to `j` is replaced by `u` | `"abc"`, 1 to 2, `"é"`: `"aéc"` |
-//! | `draining t i j` | reversed, past (`j`), inside; the text from `i` to `j` is removed and returned | `"abc"`, 1 to 2: `"ac"`, returns `"b"` |
-//! | `removal t i` | past, inside; the character at `i` is removed and returned | `"abc"` at 1: `"ac"`, returns `'b'` |
-//! | `split t i` | past, inside; the text from `i` on is removed and returned | `"abc"` at 1: `"a"`, returns `"bc"` |
-//! | `truncation t i` | inside; the text before `i`, and all of it if `i` is past it | `"abc"` at 1: `"a"` |
-//! | `popping t` | none; the last character is removed and returned, if there is one | `"ab"`: `"a"`, returns `'b'` |
-//! | `trimming f t` | none; the characters at both ends for which `f` is true are removed: `is_white_space` in `trim`, `is_space` in `trim_spaces` | `trimming is_space " a "`: `"a"` |
-//! | `clearing` | none; the text is empty | `"ab"`: `""` |
-//! | `uppercase t`, `lowercase t` | none; a to z become A to Z, or A to Z become a to z | `"aé"`: `"Aé"` |
 //!
 //! So this contract of [`try_push`](crate::ArrayString::try_push)
 //!

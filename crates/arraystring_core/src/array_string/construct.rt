@@ -86,10 +86,9 @@ impl<const N: usize> ArrayString<N> {
         ensures whole { (all : List (List ℕ)) → Gives I.into_iter_gives I.IntoIter.next_gives piece_text pieces all
             → IsWholeOrRefused (joined all) (cap N) (from_out_of_bounds result) }
     {
-        let mut array = [0; N];
-        let (mut start, mut size) = (0, 0);
-        Self::append_strs(&mut array, &mut start, &mut size, pieces)?;
-        Ok(ArrayString { array, start, size })
+        let mut made = Self::new();
+        made.add_strs(pieces)?;
+        Ok(made)
     }
 
     /// Creates a string from all pieces, joined. If that is too long, keeps the longest prefix of
@@ -113,10 +112,9 @@ impl<const N: usize> ArrayString<N> {
         ensures whole { (all : List (List ℕ)) → Gives I.into_iter_gives I.IntoIter.next_gives piece_text pieces all
             → result.text ≡ cut (joined all) (cap N) }
     {
-        let mut array = [0; N];
-        let (mut start, mut size) = (0, 0);
-        let _ = Self::append_strs(&mut array, &mut start, &mut size, pieces);
-        ArrayString { array, start, size }
+        let mut made = Self::new();
+        let _ = made.add_strs(pieces);
+        made
     }
 
     /// Creates a string from all characters that the iterator returns.
@@ -144,10 +142,9 @@ impl<const N: usize> ArrayString<N> {
         ensures whole { (all : List ℕ) → Gives I.into_iter_gives I.IntoIter.next_gives (λ c. c) characters all
             → IsWholeOrRefused all (cap N) (from_out_of_bounds result) }
     {
-        let mut array = [0; N];
-        let (mut start, mut size) = (0, 0);
-        Self::append_chars(&mut array, &mut start, &mut size, characters)?;
-        Ok(ArrayString { array, start, size })
+        let mut made = Self::new();
+        made.add_chars(characters)?;
+        Ok(made)
     }
 
     /// Creates a string from the longest prefix of the characters that fits. It ends before the
@@ -171,10 +168,9 @@ impl<const N: usize> ArrayString<N> {
         ensures whole { (all : List ℕ) → Gives I.into_iter_gives I.IntoIter.next_gives (λ c. c) characters all
             → result.text ≡ cut all (cap N) }
     {
-        let mut array = [0; N];
-        let (mut start, mut size) = (0, 0);
-        let _ = Self::append_chars(&mut array, &mut start, &mut size, characters);
-        ArrayString { array, start, size }
+        let mut made = Self::new();
+        let _ = made.add_chars(characters);
+        made
     }
 
     /// Creates a string from the UTF-8 in `given`.

@@ -8,7 +8,7 @@ ghost use Rattle.arraystring_core.specs.Taken.{Takes, Gives, joined, joined_piec
 
 use crate::ArrayString;
 use arraystring_base::error::OutOfBounds;
-use arraystring_base::utils::truncate_str;
+use arraystring_base::utils::{encode, truncate_str, write_over};
 
 impl<const N: usize> ArrayString<N> {
     /// Appends `ch`.
@@ -30,11 +30,15 @@ impl<const N: usize> ArrayString<N> {
         ensures { Makes (addition self.old.text (ch ∷ []) (cap N)) self.old.text (from_out_of_bounds result) self.new.text }
     {
         let end = self.end();
-        match Self::append_char_behind(&mut self.array, self.start, &mut self.size, end, ch) {
-            Some(_) => Ok(()),
-            None if self.start == 0 => Err(OutOfBounds),
-            None => self.push_at_front(ch),
+        if Self::has_room(end, ch) {
+            let width = encode(ch, &mut self.array, end);
+            self.size += width as u8;
+            return Ok(());
         }
+        if self.start == 0 {
+            return Err(OutOfBounds);
+        }
+        self.push_at_front(ch)
     }
 
     /// Appends `string`.
@@ -57,11 +61,15 @@ impl<const N: usize> ArrayString<N> {
             self.old.text (from_out_of_bounds result) self.new.text }
     {
         let end = self.end();
-        match Self::append_str_behind(&mut self.array, self.start, &mut self.size, end, string) {
-            Some(_) => Ok(()),
-            None if self.start == 0 => Err(OutOfBounds),
-            None => self.push_str_at_front(string),
+        if end + string.len() <= Self::capacity() as usize {
+            self.size += string.len() as u8;
+            write_over(&mut self.array, end, string.as_bytes());
+            return Ok(());
         }
+        if self.start == 0 {
+            return Err(OutOfBounds);
+        }
+        self.push_str_at_front(string)
     }
 
     /// Appends the longest prefix of whole characters of `string` that fits.

@@ -188,9 +188,8 @@ pub(super) fn first_char(text: &str) -> (char, usize)
     ensures some { 0 < result.1 }
     ensures within { result.1 ≤ length text.now }
 {
-    let mut rest = text.chars();
-    let Some(ch) = rest.next() else {
+    let Some(ch) = text.chars().next() else {
         unreachable!();
     };
-    (ch, text.len() - rest.as_str().len())
+    (ch, ch.len_utf8())
 }

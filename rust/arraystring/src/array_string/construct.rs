@@ -144,14 +144,9 @@ impl<const N: usize> ArrayString<N> {
     /// </details>
     #[inline]
     pub fn try_from_iterator<U: AsRef<str>, I: IntoIterator<Item = U>>(pieces: I) -> Result<Self, OutOfBounds> {
-        let mut array = [0; N];
-        let (mut start, mut size) = (0, 0);
-        // SAFETY: the `size` bytes of `array` from `start` on are UTF-8 and end within the capacity: `start` and `size`
-        // are 0.
-        unsafe { Self::append_strs(&mut array, &mut start, &mut size, pieces) }?;
-        // FIELDS: `append_strs` leaves the `size` bytes from `start` on as UTF-8 that ends within the capacity, whether
-        // or not the iterator ends.
-        Ok(ArrayString { array, start, size })
+        let mut made = Self::new();
+        made.add_strs(pieces)?;
+        Ok(made)
     }
 
     /// Creates a string from all pieces, joined. If that is too long, keeps the longest prefix of
@@ -186,14 +181,9 @@ impl<const N: usize> ArrayString<N> {
     #[doc(alias = "from_iter")]
     #[inline]
     pub fn from_iterator<U: AsRef<str>, I: IntoIterator<Item = U>>(pieces: I) -> Self {
-        let mut array = [0; N];
-        let (mut start, mut size) = (0, 0);
-        // SAFETY: the `size` bytes of `array` from `start` on are UTF-8 and end within the capacity: `start` and `size`
-        // are 0.
-        let _ = unsafe { Self::append_strs(&mut array, &mut start, &mut size, pieces) };
-        // FIELDS: `append_strs` leaves the `size` bytes from `start` on as UTF-8 that ends within the capacity, whether
-        // or not the iterator ends.
-        ArrayString { array, start, size }
+        let mut made = Self::new();
+        let _ = made.add_strs(pieces);
+        made
     }
 
     /// Creates a string from all characters that the iterator returns.
@@ -229,13 +219,9 @@ impl<const N: usize> ArrayString<N> {
     /// </details>
     #[inline]
     pub fn try_from_chars<I: IntoIterator<Item = char>>(characters: I) -> Result<Self, OutOfBounds> {
-        let mut array = [0; N];
-        let (mut start, mut size) = (0, 0);
-        // SAFETY: the `size` bytes of `array` from `start` on are UTF-8 and end within the capacity: `start` and `size`
-        // are 0.
-        unsafe { Self::append_chars(&mut array, &mut start, &mut size, characters) }?;
-        // FIELDS: `append_chars` leaves the `size` bytes from `start` on as UTF-8 that ends within the capacity.
-        Ok(ArrayString { array, start, size })
+        let mut made = Self::new();
+        made.add_chars(characters)?;
+        Ok(made)
     }
 
     /// Creates a string from the longest prefix of the characters that fits. It ends before the
@@ -269,13 +255,9 @@ impl<const N: usize> ArrayString<N> {
     #[doc(alias = "from_iter")]
     #[inline]
     pub fn from_chars<I: IntoIterator<Item = char>>(characters: I) -> Self {
-        let mut array = [0; N];
-        let (mut start, mut size) = (0, 0);
-        // SAFETY: the `size` bytes of `array` from `start` on are UTF-8 and end within the capacity: `start` and `size`
-        // are 0.
-        let _ = unsafe { Self::append_chars(&mut array, &mut start, &mut size, characters) };
-        // FIELDS: `append_chars` leaves the `size` bytes from `start` on as UTF-8 that ends within the capacity.
-        ArrayString { array, start, size }
+        let mut made = Self::new();
+        let _ = made.add_chars(characters);
+        made
     }
 
     /// Creates a string from the UTF-8 in `given`.

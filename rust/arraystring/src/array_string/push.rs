@@ -3,7 +3,8 @@
 
 use crate::ArrayString;
 use crate::error::OutOfBounds;
-use crate::utf8::truncate_str;
+use crate::moves::write_over;
+use crate::utf8::{encode, truncate_str};
 
 /// Appends.
 impl<const N: usize> ArrayString<N> {
@@ -35,16 +36,23 @@ impl<const N: usize> ArrayString<N> {
     ///
     /// </details>
     #[doc(alias = "push")]
+    #[expect(clippy::cast_possible_truncation, reason = "a character takes at most four bytes")]
     #[inline(always)]
     pub fn try_push(&mut self, ch: char) -> Result<(), OutOfBounds> {
         let end = self.end();
-        // SAFETY: the `self.size` bytes of `self.array` from `self.start` on are UTF-8 and end within the capacity;
-        // `end == self.start + self.size`: as the fields of `ArrayString` say.
-        match unsafe { Self::append_char_behind(&mut self.array, self.start, &mut self.size, end, ch) } {
-            Some(_) => Ok(()),
-            None if self.start == 0 => Err(OutOfBounds),
-            None => self.push_at_front(ch),
+        // SAFETY: `end <= 255`: as the fields of `ArrayString` say, the text ends within the capacity.
+        if unsafe { Self::has_room(end, ch) } {
+            // SAFETY: `end + ch.len_utf8() <= N`: `has_room` returned true, and the capacity is at most `N`.
+            let width = unsafe { encode(ch, &mut self.array, end) };
+            // FIELDS: `has_room` returned true, so the text with `ch`, which `encode` wrote at its end, ends within the
+            // capacity.
+            self.size += width as u8;
+            return Ok(());
         }
+        if self.start == 0 {
+            return Err(OutOfBounds);
+        }
+        self.push_at_front(ch)
     }
 
     /// Appends `string`.
@@ -75,17 +83,23 @@ impl<const N: usize> ArrayString<N> {
     /// [How to read a contract](crate::contracts)
     ///
     /// </details>
+    #[expect(clippy::cast_possible_truncation, reason = "by the test above it is at most the capacity")]
     #[inline]
     pub fn try_push_str<S: AsRef<str>>(&mut self, string: S) -> Result<(), OutOfBounds> {
         let string = string.as_ref();
         let end = self.end();
-        // SAFETY: the `self.size` bytes of `self.array` from `self.start` on are UTF-8 and end within the capacity;
-        // `end == self.start + self.size`: as the fields of `ArrayString` say.
-        match unsafe { Self::append_str_behind(&mut self.array, self.start, &mut self.size, end, string) } {
-            Some(_) => Ok(()),
-            None if self.start == 0 => Err(OutOfBounds),
-            None => self.push_str_at_front(string),
+        if end + string.len() <= Self::capacity() as usize {
+            // FIELDS: the text with `string` ends within the capacity by the test above, and `write_over` writes
+            // `string` at its end.
+            self.size += string.len() as u8;
+            // SAFETY: `end + string.as_bytes().len() <= N`: by the test above, and the capacity is at most `N`.
+            unsafe { write_over(&mut self.array, end, string.as_bytes()) };
+            return Ok(());
         }
+        if self.start == 0 {
+            return Err(OutOfBounds);
+        }
+        self.push_str_at_front(string)
     }
 
     /// Appends the longest prefix of whole characters of `string` that fits.

@@ -1,5 +1,7 @@
 // Proved sources: crates/arraystring_core/src/array_string/remove.rt,
 // crates/arraystring_core/src/array_string/counted.rt
+// NOT PROVED: rust/proved.txt does not have the source of this file as it is.
+// Made from crates/arraystring_core/src/array_string/remove.rt by rust/erase. The proof is there. A change goes there.
 //! What is removed from a string: a character at the end or at an index, the text from an index on, all of
 //! it. The private calls remove a part, a front or an end of the text.
 
@@ -278,10 +280,9 @@ impl<const N: usize> ArrayString<N> {
 /// - `0 < text.len()`
 #[inline]
 pub(super) unsafe fn first_char(text: &str) -> (char, usize) {
-    let mut rest = text.chars();
-    let Some(ch) = rest.next() else {
+    let Some(ch) = text.chars().next() else {
         // SAFETY: this is not reached: by this function's `# Safety`.
         unsafe { unreachable_unchecked!() };
     };
-    (ch, text.len() - rest.as_str().len())
+    (ch, ch.len_utf8())
 }

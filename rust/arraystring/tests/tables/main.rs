@@ -4,6 +4,7 @@
 //! told by its shape: blocks under lines such as `# 8 | ..`, steps over a drain, units in hexadecimal, constructors, or calls.
 
 mod calls;
+mod contract;
 mod named;
 mod rows;
 mod shapes;

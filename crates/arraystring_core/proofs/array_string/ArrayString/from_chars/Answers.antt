@@ -1,5 +1,4 @@
 use Rattle.std.proofs.Common.{◌∙◌}
-use Rattle.std.proofs.lemmas.Str.{chars-nil}
 use Rattle.arraystring_base.specs.Text.{cap}
 use Rattle.arraystring_core.proofs.TakenLaws.{chars-cut}
 use Rattle.arraystring_core.proofs.ConstructLaws.{fresh-room, fresh-cut}
@@ -7,8 +6,8 @@ use Rattle.arraystring_core.proofs.array_string.ArrayString.from_chars.Goals as 
 
 pub returns-clause-taken : goal.returns-clause-taken
 returns-clause-taken g c =
-    let ensured = c.append_chars.ensures.taken in
-    (ensured.0, rw (fresh-room _ (cap g.row.N) chars-nil) at ensured.1, fresh-cut _ ensured.0 (cap g.row.N) chars-nil _ ensured.3)
+    let ensured = c.add_chars.ensures in
+    (ensured.0, rw (fresh-room _ (cap g.row.N) c.new-made.ensures) at ensured.1, fresh-cut _ ensured.0 (cap g.row.N) c.new-made.ensures _ ensured.3)
 
 pub returns-clause-whole : goal.returns-clause-whole
 returns-clause-whole g c = λ all gives.

@@ -1,5 +1,4 @@
 use Rattle.std.proofs.Common.{◌∙◌}
-use Rattle.std.proofs.lemmas.Str.{chars-nil}
 use Rattle.arraystring_base.specs.Text.{cap}
 use Rattle.arraystring_core.specs.Taken.{joined_pieces}
 use Rattle.arraystring_core.proofs.TakenLaws.{pieces-cut}
@@ -8,14 +7,14 @@ use Rattle.arraystring_core.proofs.array_string.ArrayString.from_iterator.Goals 
 
 pub returns-clause-taken : goal.returns-clause-taken
 returns-clause-taken g c =
-    let ensured = c.append_strs.ensures.taken in
+    let ensured = c.add_strs.ensures in
     let n = cap g.row.N in
-    (ensured.0, rw (fresh-room _ n chars-nil) at ensured.1, fresh-cut _ (joined_pieces ensured.0) n chars-nil _ ensured.3)
+    (ensured.0, rw (fresh-room _ n c.new-made.ensures) at ensured.1, fresh-cut _ (joined_pieces ensured.0) n c.new-made.ensures _ ensured.3)
 
 pub returns-clause-whole : goal.returns-clause-whole
 returns-clause-whole g c = λ all gives.
-    let ensured = c.append_strs.ensures.taken in
+    let ensured = c.add_strs.ensures in
     let n = cap g.row.N in
-    fresh-cut _ (joined_pieces ensured.0) n chars-nil _ ensured.3
+    fresh-cut _ (joined_pieces ensured.0) n c.new-made.ensures _ ensured.3
     ∙ pieces-cut g.I.IntoIterator.into_iter_gives g.I.IntoIter.Iterator.next_gives c.args.pieces all gives ensured.0 n
-    (rw (fresh-room _ n chars-nil) at ensured.1)
+    (rw (fresh-room _ n c.new-made.ensures) at ensured.1)

@@ -1,17 +1,15 @@
 use Rattle.std.proofs.Common.{arith, Ok}
-use Rattle.std.proofs.lemmas.Str.{chars-nil}
 use Rattle.arraystring_base.specs.Text.{cap}
 use Rattle.arraystring_core.specs.Edits.{from_out_of_bounds}
-use Rattle.arraystring_core.specs.Layout.{stored}
 use Rattle.arraystring_core.proofs.TakenLaws.{chars-made}
 use Rattle.arraystring_core.proofs.ConstructLaws.{refused-made, fresh-room, fresh-whole}
 use Rattle.arraystring_core.proofs.array_string.ArrayString.try_from_chars.Goals as goal
 
-pub returns-in_err-append_chars : goal.returns-in_err-append_chars
-returns-in_err-append_chars g c =
-    let ensured = c.in_err-append_chars.ensures.taken in
+pub returns-in_err-add_chars : goal.returns-in_err-add_chars
+returns-in_err-add_chars g c =
+    let ensured = c.in_err-add_chars.ensures in
     let n = cap g.row.N in
-    let room = fresh-room _ n chars-nil in
+    let room = fresh-room _ n c.new-made.ensures in
     let takes = rw room at ensured.1 in
     let made = refused-made c.from_residual.result ensured.0 n c.from_residual.ensures.0 (omega (arith, ensured.2)) in
     record {
@@ -22,12 +20,12 @@ returns-in_err-append_chars g c =
 
 pub returns : goal.returns
 returns g c =
-    let ensured = c.in_ok-append_chars.ensures.taken in
+    let ensured = c.in_ok-add_chars.ensures in
     let n = cap g.row.N in
-    let takes = rw (fresh-room _ n chars-nil) at ensured.1 in
-    let made = fresh-whole _ ensured.0 n chars-nil _ ensured.2 ensured.3 in
+    let takes = rw (fresh-room _ n c.new-made.ensures) at ensured.1 in
+    let made = fresh-whole _ ensured.0 n c.new-made.ensures _ ensured.2 ensured.3 in
     record {
       taken = (ensured.0, takes, made);
       whole = λ all gives.
-          chars-made g.I.IntoIterator.into_iter_gives g.I.IntoIter.Iterator.next_gives c.args.characters all gives ensured.0 n takes (Ok (stored c.append_chars.new.array c.append_chars.new.start c.append_chars.new.len)) made;
+          chars-made g.I.IntoIterator.into_iter_gives g.I.IntoIter.Iterator.next_gives c.args.characters all gives ensured.0 n takes (Ok c.add_chars.new.self) made;
     }
