@@ -5,7 +5,7 @@ use std::collections::{BTreeMap, BTreeSet};
 use crate::differences::{self, Block, Says, apply};
 use crate::docs;
 use crate::items::{Item, items};
-use crate::lexer::{Fault, Token, line};
+use crate::lexer::{Fault, Kind, Token, line};
 use crate::rules::{Rules, runs_code};
 
 /// Each file that is read, by its path in the repository.
@@ -72,7 +72,8 @@ pub fn sources(tree: &Tree, rules: &Rules) -> Result<Vec<Ruled>, Fault> {
 fn joined(all: Vec<Ruled>) -> Vec<Ruled> {
     let (callers, mut rest): (Vec<Ruled>, Vec<Ruled>) = all.into_iter().partition(Ruled::only_counts);
     for caller in callers {
-        let is_called = |one: &&mut Ruled| one.is_counted && one.item.path == caller.item.path;
+        let is_like = |one: &Ruled| one.item.path == caller.item.path && head(&one.tokens) == head(&caller.tokens);
+        let is_called = |one: &&mut Ruled| one.is_counted && is_like(one);
         match rest.iter_mut().find(is_called) {
             Some(called) => {
                 called.tokens = with_body(&caller.tokens, &called.tokens);
@@ -85,6 +86,12 @@ fn joined(all: Vec<Ruled>) -> Vec<Ruled> {
         }
     }
     rest
+}
+
+/// What stands before the body of a function, without lifetimes, which the counted form may have to name.
+fn head(tokens: &[Token]) -> String {
+    let head = tokens.iter().take_while(|token| !token.is("{")).filter(|token| token.kind != Kind::Lifetime);
+    head.map(|token| &*token.text).collect::<String>().replace("<>", "").replace("<,", "<")
 }
 
 fn with_body(head: &[Token], body: &[Token]) -> Vec<Token> {
