@@ -10,8 +10,7 @@ from repository import read, sources
 
 # What moves bytes, or writes them over others: each `pub fn` of MODULE, and what std has.
 MODULE, OF_STD = "crates/arraystring_base/src/moves.rt", {"copy_within", "rotate_left", "rotate_right", "swap", "reverse"}
-# (`write_by_call` writes the text of a new string, and moves nothing)
-MOVES = {"shift", "write_over", "write_by_call"}
+MOVES = {"shift", "write_over"}
 
 
 def main(arguments, root):

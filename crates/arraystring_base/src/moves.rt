@@ -1,9 +1,11 @@
-//! How a run of bytes is moved inside an array or a slice: as its first `K` and its last `K` bytes, which
-//! may overlap, and both are read before the first is written. `memmove` moves short runs in this way
-//! too. A byte that both have is written twice, to one offset, and counts as one move. They are read
-//! as vectors, since those stay in registers; arrays of bytes would be put on the stack.
+//! The two moves of bytes: `shift`, inside an array, and `write_over`, of a given run into it. All that makes them
+//! fast is in this file.
 //!
-//! `move_bytes` and `write_long_run` take a slice, and so each stands once in a program.
+//! Fewer than 16 bytes move as their first `K` and their last `K`, which may overlap, and both are read before the
+//! first is written. `memmove` moves short runs in this way too. A byte that both have is written twice, to one
+//! offset, and counts as one move. They are read as vectors, since those stay in registers; arrays of bytes would be
+//! put on the stack. A longer run is one call, of `move_bytes` or `write_long_run`: these take a slice, and so each
+//! stands once in a program.
 ghost use Rattle.std.specs.Prelude.{◌≡◌, ◌+◌, ◌-◌, ◌^◌, ◌==◌, if◌then◌else◌, ◌≤◌, ◌<◌, ◌++◌, length, take, drop};
 
 use crate::steps::Steps;
@@ -37,15 +39,9 @@ pub fn shift<const N: usize>(
     }
 }
 
-/// Moves `len` bytes of the array from the offset `from` to the offset `to`; the two runs may overlap.
-/// No byte outside the target changes, and nothing is counted. Up to 64 bytes are moved without a
-/// call. No test is made for more bytes than an array of `N` bytes can have.
-///
-/// # Precondition
-///
-/// Both runs must lie in the array.
+/// Moves as `shift` does, and counts nothing. No test is made for more bytes than an array of `N` bytes can have.
 #[inline(always)]
-pub fn move_run<const N: usize>(array: &mut [u8; N], from: usize, to: usize, len: usize)
+fn move_run<const N: usize>(array: &mut [u8; N], from: usize, to: usize, len: usize)
     requires source { from + len ≤ N }
     requires target { to + len ≤ N }
     ensures { array.new ≡ take to array.old ++ (take len (drop from array.old) ++ drop (to + len) array.old) }
@@ -53,35 +49,25 @@ pub fn move_run<const N: usize>(array: &mut [u8; N], from: usize, to: usize, len
     let all = &mut array[..];
     if len < 16 {
         move_short_run::<N>(all, from, to, len);
-    } else if N > 64 && len > 64 {
-        move_long_run_of_array::<N>(all, from, to, len);
-    } else if N > 32 && len > 32 {
-        move_ends::<32>(all, from, to, len);
     } else {
-        move_ends::<16>(all, from, to, len);
+        move_bytes(all, from, to, len);
     }
 }
 
-/// Moves `len` bytes of a slice from the offset `from` to the offset `to`, as `move_run` does those of
-/// an array. It is not inlined: a program has one copy of it, and each use is a call.
-///
-/// # Precondition
-///
-/// Both ranges, `from..from + len` and `to..to + len`, must be within the slice.
+/// Moves 16 bytes or more. It is not inlined: a program has one copy of it, and each use is a call.
 #[inline(never)]
-pub fn move_bytes(all: &mut [u8], from: usize, to: usize, len: usize)
+fn move_bytes(all: &mut [u8], from: usize, to: usize, len: usize)
     requires source { from + len ≤ length all.old }
     requires target { to + len ≤ length all.old }
+    requires long { 16 ≤ len }
     ensures { all.new ≡ take to all.old ++ (take len (drop from all.old) ++ drop (to + len) all.old) }
 {
     if len > 64 {
         move_long_run(all, from, to, len);
     } else if len > 32 {
         move_ends::<32>(all, from, to, len);
-    } else if len >= 16 {
-        move_ends::<16>(all, from, to, len);
     } else {
-        move_short_run::<16>(all, from, to, len);
+        move_ends::<16>(all, from, to, len);
     }
 }
 
@@ -99,24 +85,6 @@ fn move_long_run(all: &mut [u8], from: usize, to: usize, len: usize)
         move_pairs::<64>(all, from, to, len);
     } else {
         all.copy_within(from..from + len, to);
-    }
-}
-
-/// Moves `len` bytes: more than 64, and at most `N`. The branches for sizes above `N` are left out.
-#[inline(always)]
-fn move_long_run_of_array<const N: usize>(all: &mut [u8], from: usize, to: usize, len: usize)
-    requires source { from + len ≤ length all.old }
-    requires target { to + len ≤ length all.old }
-    requires most { len ≤ N }
-    requires long { 64 < len }
-    ensures { all.new ≡ take to all.old ++ (take len (drop from all.old) ++ drop (to + len) all.old) }
-{
-    if len <= 128 {
-        move_ends::<64>(all, from, to, len);
-    } else if N <= 256 {
-        move_pairs::<64>(all, from, to, len);
-    } else {
-        move_bytes(all, from, to, len);
     }
 }
 
@@ -176,9 +144,7 @@ fn move_pairs<const K: usize>(all: &mut [u8], from: usize, to: usize, len: usize
     put_pair(all, to + rest, before_end, end);
 }
 
-/// Writes `given` over the bytes of the array from the offset `at` on. No other byte changes. Up to 64
-/// bytes are written without a call, and more bytes by a call of `memcpy`. No test is made for more
-/// bytes than an array of `N` bytes can have.
+/// Writes `given` over the bytes of the array from the offset `at` on. No other byte changes.
 ///
 /// # Precondition
 ///
@@ -189,41 +155,22 @@ pub fn write_over<const N: usize>(array: &mut [u8; N], at: usize, given: &[u8])
     ensures { array.new ≡ take at array.old ++ (given.now ++ drop (at + length given.now) array.old) }
 {
     let all = &mut array[..];
-    if N > 32 && given.len() > 32 {
-        if N > 64 && given.len() > 64 {
-            write_long_run(all, given, at);
-        } else {
-            copy_ends::<32>(all, at, given);
-        }
-    } else if given.len() >= 16 {
-        copy_ends::<16>(all, at, given);
-    } else {
+    if given.len() < 16 {
         write_short_run::<N>(all, at, given);
+    } else {
+        write_long_run(all, given, at);
     }
 }
 
-/// Writes `given` over the bytes of a slice from the offset `at` on, as `write_over` does, by one call
-/// whatever its length.
-///
-/// # Precondition
-///
-/// `given` must fit into the slice from there.
-#[inline(always)]
-pub fn write_by_call(all: &mut [u8], at: usize, given: &[u8])
-    requires { at + length given.now ≤ length all.old }
+/// Writes 16 bytes or more. The proved build never inlines it, so its code stands there once. The parameters are in
+/// the order of those of a call that appends, so that no register is moved for it.
+#[inline(never)]
+fn write_long_run(all: &mut [u8], given: &[u8], at: usize)
+    requires room { at + length given.now ≤ length all.old }
+    requires long { 16 ≤ length given.now }
     ensures { all.new ≡ take at all.old ++ (given.now ++ drop (at + length given.now) all.old) }
 {
     all[at..at + given.len()].copy_from_slice(given);
-}
-
-/// Does what `write_by_call` does. The proved build never inlines it, so its code stands there once. The
-/// parameters are in the order of those of a call that appends, so that no register is moved for it.
-#[inline(never)]
-fn write_long_run(all: &mut [u8], given: &[u8], at: usize)
-    requires { at + length given.now ≤ length all.old }
-    ensures { all.new ≡ take at all.old ++ (given.now ++ drop (at + length given.now) all.old) }
-{
-    write_by_call(all, at, given);
 }
 
 /// Writes `given`: fewer than 16 bytes, and at most `N`. The branches for sizes above `N` are left out.

@@ -1,10 +1,11 @@
 // Proved sources: crates/arraystring_base/src/moves.rt
-//! How a run of bytes is moved inside an array or a slice: as its first `K` and its last `K` bytes, which
-//! may overlap, and both are read before the first is written. `memmove` moves short runs in this way
-//! too. A byte that both have is written twice, to one offset. They are read as vectors, since those stay in
-//! registers; arrays of bytes would be put on the stack.
+//! The two moves of bytes: `shift`, inside an array, and `write_over`, of a given run into it. All that makes them
+//! fast is in this file.
 //!
-//! `move_bytes` and `write_long_run` take a slice, and so each stands once in a program.
+//! Fewer than 16 bytes move as their first `K` and their last `K`, which may overlap, and both are read before the
+//! first is written. `memmove` moves short runs in this way too. They are read as vectors, since those stay in
+//! registers; arrays of bytes would be put on the stack. A longer run is one call, of `move_bytes` or
+//! `write_long_run`: these take a slice, and so each stands once in a program.
 
 use crate::simd::Simd;
 
@@ -47,8 +48,7 @@ pub unsafe fn shift<const N: usize>(array: &mut [u8; N], from: usize, to: usize,
     }
 }
 
-/// Moves `len` bytes of the array from the offset `from` to the offset `to`; the two runs may overlap.
-/// No byte outside the target changes. Up to 64 bytes are moved without a call. No test is made for more bytes than an array of `N` bytes can have.
+/// Moves as `shift` does. No test is made for more bytes than an array of `N` bytes can have.
 ///
 /// # Safety
 ///
@@ -58,47 +58,26 @@ unsafe fn move_run<const N: usize>(array: &mut [u8; N], from: usize, to: usize, 
     let all = &mut array[..];
     if len < 16 {
         // SAFETY: `from + len <= all.len()`; `to + len <= all.len()`; `len <= N`; `len < 16`: by this function's
-        // `# Safety` and the tests above, since `len` is at most `N`.
+        // `# Safety` and the test above, since `len` is at most `N`.
         unsafe { move_short_run::<N>(all, from, to, len) };
-    } else if N > 64 && len > 64 {
-        // SAFETY: `from + len <= all.len()`; `to + len <= all.len()`; `len <= N`; `64 < len`: by this function's
-        // `# Safety` and the tests above, since `len` is at most `N`.
-        unsafe { move_long_run_of_array::<N>(all, from, to, len) };
-    } else if N > 32 && len > 32 {
-        // SAFETY: `from + len <= all.len()`; `to + len <= all.len()`; `32 <= len`; `len - 32 <= 32`: by this function's
-        // `# Safety` and the tests above, since `len` is at most `N`.
-        unsafe { move_ends::<32>(all, from, to, len) };
     } else {
-        // SAFETY: `from + len <= all.len()`; `to + len <= all.len()`; `16 <= len`; `len - 16 <= 16`: by this function's
-        // `# Safety` and the tests above, since `len` is at most `N`.
-        unsafe { move_ends::<16>(all, from, to, len) };
+        // SAFETY: `from + len <= all.len()`; `to + len <= all.len()`; `16 <= len`: by this function's `# Safety` and
+        // the test above.
+        unsafe { move_bytes(all, from, to, len) };
     }
 }
 
-/// Moves `len` bytes of a slice from the offset `from` to the offset `to`, as `move_run` does those of
-/// an array. It is not inlined: a program has one copy of it, and each use is a call.
+/// Moves 16 bytes or more. It is not inlined: a program has one copy of it, and each use is a call.
 ///
 /// # Safety
 ///
 /// - `from + len <= all.len()`
 /// - `to + len <= all.len()`
+/// - `16 <= len`
 #[inline(never)]
-pub(crate) unsafe fn move_bytes(all: &mut [u8], from: usize, to: usize, len: usize) {
+unsafe fn move_bytes(all: &mut [u8], from: usize, to: usize, len: usize) {
     // SAFETY: this is within: by this function's `# Safety`.
     unsafe { copy_within_unchecked!(all, from..from + len, to) };
-}
-
-/// Moves `len` bytes: more than 64, and at most `N`. The branches for sizes above `N` are left out.
-///
-/// # Safety
-///
-/// - `from + len <= all.len()`
-/// - `to + len <= all.len()`
-/// - `len <= N`
-/// - `64 < len`
-unsafe fn move_long_run_of_array<const N: usize>(all: &mut [u8], from: usize, to: usize, len: usize) {
-    // SAFETY: `from + len <= all.len()`; `to + len <= all.len()`: by this function's `# Safety`.
-    unsafe { move_bytes(all, from, to, len) };
 }
 
 /// Moves `len` bytes: fewer than 16, and at most `N`. The branches for sizes above `N` are left out.
@@ -155,56 +134,34 @@ unsafe fn move_ends<const K: usize>(all: &mut [u8], from: usize, to: usize, len:
     unsafe { put_bytes(all, to + rest, last) };
 }
 
-/// Writes `given` over the bytes of the array from the offset `at` on. No other byte changes. Up to 64
-/// bytes are written without a call, and more bytes by a call of `memcpy`. No test is made for more
-/// bytes than an array of `N` bytes can have.
+/// Writes `given` over the bytes of the array from the offset `at` on. No other byte changes.
 ///
 /// # Safety
 ///
 /// - `at + given.len() <= N`
 pub(crate) unsafe fn write_over<const N: usize>(array: &mut [u8; N], at: usize, given: &[u8]) {
     let all = &mut array[..];
-    if N > 32 && given.len() > 32 {
-        if N > 64 && given.len() > 64 {
-            // SAFETY: `at + given.len() <= all.len()`: by this function's `# Safety`.
-            unsafe { write_long_run(all, given, at) };
-        } else {
-            // SAFETY: `at + given.len() <= all.len()`; `32 <= given.len()`; `given.len() - 32 <= 32`: by this
-            // function's `# Safety` and the tests above, since `len` is at most `N`.
-            unsafe { copy_ends::<32>(all, at, given) };
-        }
-    } else if given.len() >= 16 {
-        // SAFETY: `at + given.len() <= all.len()`; `16 <= given.len()`; `given.len() - 16 <= 16`: by this function's
-        // `# Safety` and the tests above, since `len` is at most `N`.
-        unsafe { copy_ends::<16>(all, at, given) };
-    } else {
+    if given.len() < 16 {
         // SAFETY: `at + given.len() <= all.len()`; `given.len() <= N`; `given.len() < 16`: by this function's
-        // `# Safety` and the tests above, since `len` is at most `N`.
+        // `# Safety` and the test above, since `given.len()` is at most `N`.
         unsafe { write_short_run::<N>(all, at, given) };
+    } else {
+        // SAFETY: `at + given.len() <= all.len()`; `16 <= given.len()`: by this function's `# Safety` and the test
+        // above.
+        unsafe { write_long_run(all, given, at) };
     }
 }
 
-/// Writes `given` over the bytes of a slice from the offset `at` on, as `write_over` does, by one call
-/// whatever its length.
+/// Writes 16 bytes or more.
 ///
 /// # Safety
 ///
 /// - `at + given.len() <= all.len()`
-#[inline(always)]
-pub(crate) unsafe fn write_by_call(all: &mut [u8], at: usize, given: &[u8]) {
-    // SAFETY: this is within: by this function's `# Safety`.
-    unsafe { copy_from_slice_unchecked!(all, at..at + given.len(), given) };
-}
-
-/// Does what `write_by_call` does, for more than 64 bytes.
-///
-/// # Safety
-///
-/// - `at + given.len() <= all.len()`
+/// - `16 <= given.len()`
 #[inline]
 unsafe fn write_long_run(all: &mut [u8], given: &[u8], at: usize) {
-    // SAFETY: `at + given.len() <= all.len()`: by this function's `# Safety`.
-    unsafe { write_by_call(all, at, given) };
+    // SAFETY: this is within: by this function's `# Safety`.
+    unsafe { copy_from_slice_unchecked!(all, at..at + given.len(), given) };
 }
 
 /// Writes `given`: fewer than 16 bytes, and at most `N`. The branches for sizes above `N` are left out.

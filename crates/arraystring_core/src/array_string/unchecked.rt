@@ -6,7 +6,6 @@ ghost use Rattle.arraystring_base.specs.Text.{size, width, bytes, cap, front, ba
 ghost use Rattle.arraystring_core.specs.Taken.{TakesAll, Fits, Gives, joined, joined_pieces, piece_text};
 
 use crate::ArrayString;
-use crate::array_string::fill::fill;
 use arraystring_base::utils::{Steps, write_over};
 use std::str;
 
@@ -22,7 +21,7 @@ impl<const N: usize> ArrayString<N> {
         ensures { result.text ≡ chars string.now }
     {
         let mut array = [0; N];
-        fill(&mut array, string.as_bytes());
+        write_over(&mut array, 0, string.as_bytes());
         ArrayString {
             array,
             start: 0,

@@ -8,7 +8,7 @@ use arraystring::utils::{
     truncate_str_counted,
 };
 use arraystring::{ArrayString, MaxString};
-use arraystring_base::utils::{last_char, move_run, write_over};
+use arraystring_base::utils::{last_char, write_over};
 use std::process::Abort;
 use test_support::table::{column, rows};
 
@@ -204,7 +204,7 @@ fn write_and_move_each_size<const N: usize>(rt: &impl Abort)
         agree(rt, "before", all[0], b'.');
         agree(rt, "written", &all[1..1 + len], given);
         agree(rt, "after", are_dots(&all[1 + len..]), true);
-        move_run(&mut array, 1, 0, len);
+        shift(&mut array, 1, 0, len, &mut Steps::new());
         let all = &array[..];
         agree(rt, "moved", &all[..len], given);
         agree(rt, "still after", are_dots(&all[1 + len..]), true);

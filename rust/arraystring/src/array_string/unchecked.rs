@@ -3,7 +3,6 @@
 
 use crate::ArrayString;
 use crate::access::str;
-use crate::array_string::fill::fill;
 use crate::moves::write_over;
 
 /// # Unchecked
@@ -45,7 +44,7 @@ impl<const N: usize> ArrayString<N> {
         required!(string.len() <= Self::capacity() as usize);
         let mut array = [0; N];
         // SAFETY: `string.as_bytes().len() <= N`: by this function's `# Safety`, since the capacity is at most `N`.
-        unsafe { fill(&mut array, string.as_bytes()) };
+        unsafe { write_over(&mut array, 0, string.as_bytes()) };
         // FIELDS: `string` lies in front of the array, and its size is at most the capacity by this function's
         // `# Safety`.
         ArrayString { array, start: 0, size: string.len() as u8 }
