@@ -1,6 +1,5 @@
-//! The program `arraystring_cli` as a plain Rust program, over std alone. docs/scripts.md says what it does.
-//!
-//! With `--cfg by_parts` the replies that have a value are written by `write_all`, part by part, and not by `writeln!`.
+//! The program `arraystring_cli` as a plain Rust program, over std alone. docs/scripts.md says what it does. It writes a reply that
+//! has a value by `write_all`, part by part, which is the faster form.
 
 use std::borrow::Cow;
 use std::io::{self, BufWriter, Read, Write};
@@ -179,17 +178,8 @@ fn play(commands: &[Command<'_>], capacity: usize, out: &mut impl Write) -> io::
             Ok(Reply::Done) => writeln!(out, "done")?,
             Ok(Reply::NoChar) => writeln!(out, "no char")?,
             Ok(Reply::NoText) => writeln!(out, "no text")?,
-            #[cfg(not(by_parts))]
-            Ok(Reply::Char(ch)) => writeln!(out, "char {ch}")?,
-            #[cfg(not(by_parts))]
-            Ok(Reply::Text(part)) => writeln!(out, "text {part}")?,
-            #[cfg(not(by_parts))]
-            Ok(Reply::Number(number)) => writeln!(out, "number {number}")?,
-            #[cfg(by_parts)]
             Ok(Reply::Char(ch)) => write_parts(out, "char ", ch.encode_utf8(&mut [0; 4]))?,
-            #[cfg(by_parts)]
             Ok(Reply::Text(part)) => write_parts(out, "text ", &part)?,
-            #[cfg(by_parts)]
             Ok(Reply::Number(number)) => write_parts(out, "number ", &number.to_string())?,
             Err(refused) => writeln!(out, "refused {refused:?}")?,
         }
@@ -198,7 +188,6 @@ fn play(commands: &[Command<'_>], capacity: usize, out: &mut impl Write) -> io::
     out.flush()
 }
 
-#[cfg(by_parts)]
 fn write_parts(out: &mut impl Write, word: &str, value: &str) -> io::Result<()> {
     out.write_all(word.as_bytes())?;
     out.write_all(value.as_bytes())?;

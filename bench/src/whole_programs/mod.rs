@@ -1,0 +1,6 @@
+//! Small programs over 4,000 rows of three strings: the rows are read, cloned, sorted, grouped, printed and edited, over this
+//! crate, over `String` and over arrayvec. tests/whole_programs.rs compares what they give.
+
+pub mod programs;
+pub mod rows;
+pub mod side;

@@ -1,0 +1,150 @@
+//! The strings that the programs are written over.
+
+use std::borrow::Borrow;
+use std::fmt::{Debug, Display, Write};
+use std::hash::Hash;
+use std::ops::Deref;
+
+/// What the programs call of a string. All texts of theirs fit.
+pub trait Text: Clone + Ord + Hash + Debug + Display + Write + Borrow<str> + Deref<Target = str> {
+    fn empty() -> Self;
+    fn of(text: &str) -> Self;
+    fn push_text(&mut self, text: &str);
+    fn push_char(&mut self, ch: char);
+    fn pop_char(&mut self) -> Option<char>;
+    fn remove_first(&mut self) -> char;
+    fn make_empty(&mut self);
+}
+
+/// The strings of a program: of at most 30, 62, 14 and 255 bytes.
+pub trait Side {
+    type Name: Text;
+    type City: Text;
+    type Code: Text;
+    type Line: Text;
+}
+
+pub struct OfCrate;
+
+impl Side for OfCrate {
+    type Name = arraystring::ArrayString<30>;
+    type City = arraystring::ArrayString<62>;
+    type Code = arraystring::ArrayString<14>;
+    type Line = arraystring::ArrayString<255>;
+}
+
+impl<const N: usize> Text for arraystring::ArrayString<N> {
+    fn empty() -> Self {
+        Self::new()
+    }
+
+    fn of(text: &str) -> Self {
+        Self::try_from_str(text).expect("it fits")
+    }
+
+    fn push_text(&mut self, text: &str) {
+        self.try_push_str(text).expect("it fits");
+    }
+
+    fn push_char(&mut self, ch: char) {
+        self.try_push(ch).expect("it fits");
+    }
+
+    fn pop_char(&mut self) -> Option<char> {
+        self.pop()
+    }
+
+    fn remove_first(&mut self) -> char {
+        self.remove(0).expect("it is not empty")
+    }
+
+    fn make_empty(&mut self) {
+        self.clear();
+    }
+}
+
+pub struct OfString;
+
+impl Side for OfString {
+    type Name = String;
+    type City = String;
+    type Code = String;
+    type Line = String;
+}
+
+// (these are no generics, so only the hint lets a program inline them)
+impl Text for String {
+    #[inline]
+    fn empty() -> Self {
+        Self::new()
+    }
+
+    #[inline]
+    fn of(text: &str) -> Self {
+        Self::from(text)
+    }
+
+    #[inline]
+    fn push_text(&mut self, text: &str) {
+        self.push_str(text);
+    }
+
+    #[inline]
+    fn push_char(&mut self, ch: char) {
+        self.push(ch);
+    }
+
+    #[inline]
+    fn pop_char(&mut self) -> Option<char> {
+        self.pop()
+    }
+
+    #[inline]
+    fn remove_first(&mut self) -> char {
+        self.remove(0)
+    }
+
+    #[inline]
+    fn make_empty(&mut self) {
+        self.clear();
+    }
+}
+
+pub struct OfArrayvec;
+
+impl Side for OfArrayvec {
+    type Name = arrayvec::ArrayString<30>;
+    type City = arrayvec::ArrayString<62>;
+    type Code = arrayvec::ArrayString<14>;
+    type Line = arrayvec::ArrayString<255>;
+}
+
+impl<const N: usize> Text for arrayvec::ArrayString<N> {
+    fn empty() -> Self {
+        Self::new()
+    }
+
+    fn of(text: &str) -> Self {
+        Self::from(text).expect("it fits")
+    }
+
+    fn push_text(&mut self, text: &str) {
+        self.try_push_str(text).expect("it fits");
+    }
+
+    fn push_char(&mut self, ch: char) {
+        self.try_push(ch).expect("it fits");
+    }
+
+    fn pop_char(&mut self) -> Option<char> {
+        self.pop()
+    }
+
+    fn remove_first(&mut self) -> char {
+        self.remove(0)
+    }
+
+    fn make_empty(&mut self) {
+        self.clear();
+    }
+}

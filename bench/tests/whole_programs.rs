@@ -1,0 +1,119 @@
+//! Each program gives over each string what std gives over the lines themselves.
+
+use std::collections::{BTreeMap, BTreeSet};
+
+use bench::whole_programs::programs::{
+    RowOf, btree_map_measured, build_measured, clone_measured, hash_map_measured, print_measured, read_measured,
+    sort_measured,
+};
+use bench::whole_programs::rows::{CITY, CODE, NAME, ROWS, lines};
+use bench::whole_programs::side::{OfArrayvec, OfCrate, OfString, Side};
+
+/// What one side gives in each program: texts and numbers, the same type for all.
+#[derive(Debug, PartialEq)]
+struct Given {
+    read: Vec<[String; 3]>,
+    cloned: Vec<[String; 3]>,
+    sorted: Vec<[String; 3]>,
+    hashed: BTreeMap<String, Vec<usize>>,
+    ordered: Vec<(String, Vec<usize>)>,
+    printed: Vec<String>,
+    built: Vec<String>,
+}
+
+/// The city, the name and the code of each row.
+fn texts<S: Side>(rows: &[RowOf<S>]) -> Vec<[String; 3]> {
+    rows.iter().map(|row| [row.city.to_string(), row.name.to_string(), row.code.to_string()]).collect()
+}
+
+fn given<S: Side>(lines: &str) -> Given {
+    let rows = read_measured::<S>(lines);
+    let mut sorted = clone_measured::<S>(&rows);
+    let cloned = texts::<S>(&sorted);
+    sort_measured::<S>(&mut sorted);
+    let (mut printed, mut built) = (Vec::new(), Vec::new());
+    print_measured::<S>(&rows, |line| printed.push(line.to_string()));
+    build_measured::<S>(&rows, |label| built.push(label.to_string()));
+    let named = |(city, rows): (S::City, Vec<usize>)| (city.to_string(), rows);
+    Given {
+        read: texts::<S>(&rows),
+        cloned,
+        sorted: texts::<S>(&sorted),
+        hashed: hash_map_measured::<S>(&rows).into_iter().map(named).collect(),
+        ordered: btree_map_measured::<S>(&rows).into_iter().map(named).collect(),
+        printed,
+        built,
+    }
+}
+
+/// The same by std over the lines, in another way.
+fn expected(lines: &str) -> Given {
+    let read: Vec<[String; 3]> = lines
+        .lines()
+        .map(|line| match line.split(',').collect::<Vec<_>>()[..] {
+            [name, city, code] => [city, name, code].map(str::to_string),
+            _ => panic!("{line} has not three fields"),
+        })
+        .collect();
+    let mut sorted = read.clone();
+    sorted.sort_by_key(|row| row.join("\0"));
+    let cities: BTreeSet<&String> = read.iter().map(|[city, ..]| city).collect();
+    let rows_of = |city: &String| (0..read.len()).filter(|at| read[*at][0] == *city).collect();
+    let ordered: Vec<(String, Vec<usize>)> = cities.iter().map(|city| (city.to_string(), rows_of(city))).collect();
+    let printed = |(at, [city, name, code]): (usize, &[String; 3])| {
+        [&at.to_string(), ": ", name, " of ", city, ", code ", code, "\n"].concat()
+    };
+    let built = |[_, name, code]: &[String; 3]| format!("{code}/{name}").chars().skip(1).collect();
+    Given {
+        cloned: read.clone(),
+        sorted,
+        hashed: ordered.iter().cloned().collect(),
+        ordered,
+        printed: read.iter().enumerate().map(printed).collect(),
+        built: read.iter().map(built).collect(),
+        read,
+    }
+}
+
+/// Compares program by program, so that what differs is named.
+fn assert_same(side: &str, given: &Given, expected: &Given) {
+    assert_eq!(given.read, expected.read, "{side} reads other rows");
+    assert_eq!(given.cloned, expected.cloned, "{side} clones other rows");
+    assert_eq!(given.sorted, expected.sorted, "{side} sorts otherwise");
+    assert_eq!(given.hashed, expected.hashed, "{side} groups otherwise in a HashMap");
+    assert_eq!(given.ordered, expected.ordered, "{side} groups otherwise in a BTreeMap");
+    assert_eq!(given.printed, expected.printed, "{side} prints otherwise");
+    assert_eq!(given.built, expected.built, "{side} builds other labels");
+}
+
+#[test]
+fn each_program_gives_the_same_over_each_string() {
+    let lines = lines();
+    let expected = expected(&lines);
+    assert_same("the crate", &given::<OfCrate>(&lines), &expected);
+    assert_same("String", &given::<OfString>(&lines), &expected);
+    assert_same("arrayvec", &given::<OfArrayvec>(&lines), &expected);
+}
+
+#[test]
+fn rows_are_the_same_at_each_run_and_have_each_length() {
+    let lines = lines();
+    assert_eq!(lines, self::lines());
+    let read = expected(&lines).read;
+    assert_eq!(read.len(), ROWS);
+    for (field, least, most) in [(0, 4, CITY), (1, 3, NAME), (2, 2, CODE)] {
+        let sizes: BTreeSet<usize> = read.iter().map(|row| row[field].len()).collect();
+        assert!(sizes.into_iter().eq(least..=most), "the field {field} has not each length");
+    }
+    assert!(!lines.is_ascii());
+}
+
+#[test]
+fn no_program_is_of_one_row_or_of_one_city() {
+    let expected = expected(&lines());
+    assert!(expected.ordered.len() > 150);
+    assert!(expected.ordered.iter().all(|(_, rows)| rows.len() > 1));
+    assert_ne!(expected.sorted, expected.read);
+    let cities: Vec<&String> = expected.sorted.iter().map(|[city, ..]| city).collect();
+    assert!(cities.windows(2).any(|pair| pair[0] == pair[1]), "the name decides where the city does not");
+}

@@ -1,7 +1,0 @@
-//! Small programs over 4,000 rows of three strings: the rows are read, cloned, sorted, grouped, printed and edited, over this
-//! crate, over `String` and over arrayvec. rust/bench/run counts what a row takes each of them, and tests/same.rs compares what
-//! they give.
-
-pub mod programs;
-pub mod rows;
-pub mod side;
