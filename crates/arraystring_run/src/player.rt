@@ -68,28 +68,6 @@ pub fn play<const N: usize, I: Read, O: Write>(
     ensures end { OnOk result (IsAtEnd (I.remaining input.new)) }
     ensures end_of_bad { IfErr result (λ e. IfBadLine e (λ _. IsAtEnd (I.remaining input.new))) }
 {
-    play_unflushed::<N, I, O>(alloc, input, output)?;
-    if output.flush().is_err() {
-        return Err(PlayFault::Write);
-    }
-    Ok(())
-}
-
-/// Does what `play` does before it flushes the writer.
-pub(crate) fn play_unflushed<const N: usize, I: Read, O: Write>(
-    alloc: Global,
-    input: &mut I,
-    output: &mut O,
-) -> Result<(), PlayFault>
-    ensures played { OnOk result (IfSome (I.remaining input.old)
-        (λ given. IsPlayed given (cap N) (O.contents output.old) (O.contents output.new))) }
-    ensures bad_line { IfErr result (λ e. IfBadLine e (λ k. IfSome (I.remaining input.old) (λ given. IsBadAt (lines given) k))) }
-    ensures unwritten { IfErr result (λ e. e ≢ PlayFault.Write → output.new ≡ output.old) }
-    ensures part_played { IfErr result (λ e. e ≡ PlayFault.Write → IfSome (I.remaining input.old)
-        (λ given. IsPartPlayed given (cap N) (O.contents output.old) (O.contents output.new))) }
-    ensures end { OnOk result (IsAtEnd (I.remaining input.new)) }
-    ensures end_of_bad { IfErr result (λ e. IfBadLine e (λ _. IsAtEnd (I.remaining input.new))) }
-{
     let script = read_all(alloc, input)?;
     let commands = parse_script(alloc, &script)?;
     play_commands::<N, O>(alloc, &commands, output)
