@@ -39,7 +39,8 @@ const LARGEST: usize = usize::MAX / 4;
 /// - It reads the script to its end.
 /// - It reads each line as a command.
 /// - It executes the commands.
-/// - It writes a line for each reply, and one for the last text. This last step allocates nothing.
+/// - It writes a line for each reply, and one for the last text, and flushes the writer. This last step
+///   allocates nothing.
 ///
 /// A read or a write that was interrupted is tried again.
 ///
@@ -74,6 +75,7 @@ pub fn play<const N: usize, I: Read, O: Write>(
 }
 
 /// Executes the commands on the empty text, and writes the lines of the run.
+/// Then it flushes the writer.
 fn play_commands<const N: usize, O: Write>(
     alloc: Global,
     commands: &[Command<'_>],

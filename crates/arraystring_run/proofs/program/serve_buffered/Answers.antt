@@ -103,11 +103,14 @@ returns g c =
     (λ same. ap (λ (b : Buffered g.row.O.Denot). b.waiting.items) same ∙ given.empty)
     (elim c.match-play_at.branch [
       | in-Some-Ok w ↦
+          let old = c.play_at.new.output in
+          let new = c.match-play_at.buffered in
           let is_write : IfErr w.map_err.result (λ e. e ≡ Write) = search rules in
-          let sent : OnOk w.map_err.result (w.send.new.self.waiting.items ≡ []) = search rules in
-          rw (w.played-is, w.buffered-is) (
-            after-send w.map_err.result (rw (w.in-Some-Ok.is, w.in-Some-Ok.field-0-is) at c.play_at.ensures)
-                w.send.ensures.kept is_write,
+          let sent : OnOk w.map_err.result (new.waiting.items ≡ []) = rw w.buffered-is (search rules) in
+          let kept : Keeps (append_known (g.O.Write.contents old.output) old.waiting.items)
+              (append_known (g.O.Write.contents new.output) new.waiting.items) = rw w.buffered-is (search rules) in
+          rw w.played-is (
+            after-send w.map_err.result (rw (w.in-Some-Ok.is, w.in-Some-Ok.field-0-is) at c.play_at.ensures) kept is_write,
             sent,
           )
       | in-Some-Err w ↦ rw (w.played-is, w.buffered-is) (rw (w.in-Some-Err.is, w.in-Some-Err.field-0-is) at c.play_at.ensures, tt)
