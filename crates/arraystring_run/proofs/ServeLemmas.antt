@@ -1,8 +1,8 @@
 -- What is served: a script that was played, or not, at a capacity or for a word that names none.
-use Rattle.std.proofs.Common.{◌≡◌, ◌≢◌, ℕ, ◌≤◌, ◌⊎◌, List, refl, sym, ap, ◌∙◌, arith, Option, Some, None, option_map, Result, Ok, Err, IfErr, OnOk, inl, inr}
+use Rattle.std.proofs.Common.{◌≡◌, ◌≢◌, ℕ, ◌≤◌, ◌⊎◌, List, refl, sym, ◌∙◌, arith, Option, Some, None, Result, Ok, Err, IfErr, OnOk, inl, inr}
 use Rattle.std.specs.Borrow.{Bor}
 use Rattle.arraystring_run.specs.Writing.{AppendsPrefix}
-use Rattle.arraystring_run.specs.Player.{IfBadLine, IsOutcome}
+use Rattle.arraystring_run.specs.Player.{IfBadLine}
 use Rattle.arraystring_run.specs.Program.{IsServed, IsOutcomeAt, capacity_named, status_of, status_at, report_of, report_at, fault_line}
 use Rattle.arraystring_run.specs.declared.player.PlayFault.{PlayFault}
 use Rattle.arraystring_run.specs.declared.player.PlayFault.TheVariants.{BadLine, Memory, Read, Write}

@@ -1,6 +1,6 @@
 //! What the `main` of a program calls. A script is played on a string whose capacity the program's argument
 //! names. `serve` writes the output directly, and `serve_buffered` through a buffer.
-ghost use Rattle.std.specs.Prelude.{◌≡◌, ◌≢◌, is_some, option_map, ℕ, List, [], None, OnOk, vec_capacity};
+ghost use Rattle.std.specs.Prelude.{◌≡◌, ◌≢◌, is_some, option_map, ℕ, List, [], None, vec_capacity};
 ghost use Rattle.arraystring_run.specs.Writing.{AppendsPrefix};
 ghost use Rattle.arraystring_run.specs.Program.{IsServed, IsOutcomeAt, bytes_of, capacity_named, status_at, report_at};
 ghost use Rattle.std.specs.Io.KnownBytes.{append_known};
