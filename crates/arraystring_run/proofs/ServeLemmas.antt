@@ -1,12 +1,11 @@
 -- What is served: a script that was played, or not, at a capacity or for a word that names none.
-use Rattle.std.proofs.Common.{◌≡◌, ◌≢◌, ℕ, ◌≤◌, ◌⊎◌, List, refl, sym, ap, ◌∙◌, arith, Option, Some, None, option_map, Result, Ok, Err, IfErr, OnOk, inl, inr}
+use Rattle.std.proofs.Common.{◌≡◌, ◌≢◌, ℕ, ◌≤◌, ◌⊎◌, List, refl, sym, ◌∙◌, arith, Option, Some, None, Result, Ok, Err, IfErr, OnOk, inl, inr}
 use Rattle.std.specs.Borrow.{Bor}
 use Rattle.arraystring_run.specs.Writing.{AppendsPrefix}
-use Rattle.arraystring_run.specs.Player.{IfBadLine, IsOutcome}
-use Rattle.arraystring_run.specs.Program.{IsServed, bytes_of, capacity_named, status_of, report_of, fault_line, usage_line}
+use Rattle.arraystring_run.specs.Player.{IfBadLine}
+use Rattle.arraystring_run.specs.Program.{IsServed, IsOutcomeAt, capacity_named, status_of, status_at, report_of, report_at, fault_line}
 use Rattle.arraystring_run.specs.declared.player.PlayFault.{PlayFault}
 use Rattle.arraystring_run.specs.declared.player.PlayFault.TheVariants.{BadLine, Memory, Read, Write}
-use Rattle.arraystring_run.specs.declared.program.Capacity.{Capacity}
 
 known : (played : Result (Unit {0}) PlayFault) → (status_of played ≤ 4) × (status_of played ≢ 1)
 known (Err Write) = omega arith
@@ -42,42 +41,32 @@ unwritten (Ok _) same ne _ = absurd (ne refl)
 unwritten (Err Write) same _ ne = absurd (ne refl)
 unwritten (Err e) same _ _ = same (λ f. cc)
 
-module _ {word : Option (Bor (List ℕ))} {given old new errors_old errors_new : Option (List ℕ)}
-    {SameInput SameOutput SameErrors : Type 0} where
-  -- a script that was played, or not, at the capacity n
-  pub served : (n : ℕ) {status : ℕ} (played : Result (Unit {0}) PlayFault) → capacity_named word ≡ Some n
-      → IsOutcome n given old new SameOutput played
-      → status ≡ status_of played → AppendsPrefix errors_old errors_new (report_of played) → (status ≡ 0 → SameErrors)
-      → IsServed word given old new errors_old errors_new SameInput SameOutput SameErrors status
-  served n played named outcome is line quiet = rw is (record {
-    other_word = λ none. let clash : Some n ≡ None = sym named ∙ none in absurd (cc);
-    played = rw named (at-0 played outcome.whole);
-    bad_line = rw named (at-2 (AppendsPrefix _ _) played outcome.bad_line line);
-    no_memory = at-3 (AppendsPrefix _ _) played line;
-    failed = rw named (at-4 (AppendsPrefix _ _) played outcome.unwritten outcome.part line);
-    quiet = rw is at quiet;
-    unwritten = unwritten played outcome.unwritten;
-    known = known played;
-  })
-
-  -- no script was played
-  pub not-served : capacity_named word ≡ None → SameInput → SameOutput → AppendsPrefix errors_old errors_new usage_line
-      → IsServed word given old new errors_old errors_new SameInput SameOutput SameErrors 2
-  not-served named input output line = record {
-    other_word = λ _. (refl, input, output, line);
-    played = rw named tt;
-    bad_line = rw named tt;
-    no_memory = λ e. absurd (omega arith);
-    failed = rw named tt;
-    quiet = λ e. absurd (omega arith);
-    unwritten = λ _ _. output;
-    known = (omega arith, omega arith);
-  }
-
--- a word that names a capacity, and one that names none
-pub named-some : (found : Option Capacity) (c : Capacity) (named : Option ℕ) → option_map bytes_of found ≡ named → found ≡ Some c
-    → named ≡ Some (bytes_of c)
-named-some found c named e is = sym e ∙ ap (option_map bytes_of) is
-
-pub named-none : (found : Option Capacity) (named : Option ℕ) → option_map bytes_of found ≡ named → found ≡ None → named ≡ None
-named-none found named e is = sym e ∙ ap (option_map bytes_of) is
+-- a script that was to be played at a capacity, if the word names one
+pub served : {word : Option (Bor (List ℕ))} {given old new errors_old errors_new : Option (List ℕ)}
+    {SameInput SameOutput SameErrors : Type 0} {status : ℕ}
+    (named : Option ℕ) (played : Option (Result (Unit {0}) PlayFault)) → capacity_named word ≡ named
+    → IsOutcomeAt named given old new SameInput SameOutput played
+    → status ≡ status_at played → AppendsPrefix errors_old errors_new (report_at played) → (status ≡ 0 → SameErrors)
+    → IsServed word given old new errors_old errors_new SameInput SameOutput SameErrors status
+served None None named at is line quiet = let (_, input, output) = at.none_named refl in rw is (record {
+  other_word = λ _. (refl, input, output, line);
+  played = rw named tt;
+  bad_line = rw named tt;
+  no_memory = λ e. absurd (omega arith);
+  failed = rw named tt;
+  quiet = λ e. absurd (omega arith);
+  unwritten = λ _ _. output;
+  known = (omega arith, omega arith);
+})
+served None (Some played) named at is line quiet = let (none, _, _) = at.none_named refl in absurd (cc)
+served (Some n) None named at is line quiet = absurd at.outcome
+served (Some n) (Some played) named at is line quiet = let outcome = at.outcome in rw is (record {
+  other_word = λ none. let clash : Some n ≡ None = sym named ∙ none in absurd (cc);
+  played = rw named (at-0 played outcome.whole);
+  bad_line = rw named (at-2 (AppendsPrefix _ _) played outcome.bad_line line);
+  no_memory = at-3 (AppendsPrefix _ _) played line;
+  failed = rw named (at-4 (AppendsPrefix _ _) played outcome.unwritten outcome.part line);
+  quiet = rw is at quiet;
+  unwritten = unwritten played outcome.unwritten;
+  known = known played;
+})

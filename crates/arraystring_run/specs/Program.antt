@@ -1,8 +1,8 @@
 -- What a program does that is given a word: the capacity, the faults that it reports, and its exit status.
-use Rattle.std.specs.Prelude.{◌≡◌, ◌≢◌, ◌≤◌, ◌⊎◌, ℕ, List, [], ◌++◌, if◌then◌else◌, Option, Some, None, IfSome, Result, Ok, Err, codes, decimal, nat_eq}
+use Rattle.std.specs.Prelude.{◌≡◌, ◌≢◌, ◌≤◌, ◌⊎◌, ℕ, List, [], ◌++◌, if◌then◌else◌, Option, Some, None, IfSome, IsSomeAnd, Result, Ok, Err, codes, decimal, nat_eq}
 use Rattle.std.specs.Borrow.{Bor}
 use Rattle.std.specs.Cmp.Lexicographic.{pointwise}
-use Rattle.arraystring_run.specs.Player.{IsPlayed, IsPartPlayed}
+use Rattle.arraystring_run.specs.Player.{IsPlayed, IsPartPlayed, IsOutcome}
 use Rattle.arraystring_run.specs.ScriptLines.{with_newline, lines, IsBadAt}
 use Rattle.arraystring_run.specs.Writing.{AppendsPrefix}
 use Rattle.arraystring_run.specs.declared.player.PlayFault.{PlayFault}
@@ -47,6 +47,22 @@ fault_line Write = with_newline (codes "write failed")
 abbrev pub report_of : {A : Type 0} → Result A PlayFault → List ℕ
 report_of (Ok _) = []
 report_of (Err e) = fault_line e
+
+-- what came of a script that was to be played at a capacity, if one is named; else nothing was read or written
+pub record IsOutcomeAt (named : Option ℕ) (given old new : Option (List ℕ)) (SameInput SameOutput : Type 0)
+    (played : Option (Result (Unit {0}) PlayFault)) : Type 0 where
+  pub none_named : named ≡ None → (played ≡ None) × SameInput × SameOutput
+  pub outcome : IfSome named (λ n. IsSomeAnd played (IsOutcome n given old new SameOutput))
+
+-- the exit status of a program
+abbrev pub status_at : Option (Result (Unit {0}) PlayFault) → ℕ
+status_at None = 2
+status_at (Some played) = status_of played
+
+-- what a program says on its errors
+abbrev pub report_at : Option (Result (Unit {0}) PlayFault) → List ℕ
+report_at None = usage_line
+report_at (Some played) = report_of played
 
 -- what a program did that was given a word, by the exit status: what was written to its output and its errors, and which of
 -- input, output and errors are as before

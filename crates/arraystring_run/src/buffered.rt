@@ -20,7 +20,7 @@ pub struct Buffered<O> {
 
 impl<O: Write> Buffered<O> {
     /// Writes the bytes that wait. If a write fails, the bytes that are not written still wait.
-    fn send(&mut self) -> io::Result<()>
+    pub(crate) fn send(&mut self) -> io::Result<()>
         ensures sent { OnOk result (self.new.waiting.items ≡ []) }
         ensures kept { Keeps
             (append_known (O.contents self.old.output) self.old.waiting.items)

@@ -39,7 +39,8 @@ const LARGEST: usize = usize::MAX / 4;
 /// - It reads the script to its end.
 /// - It reads each line as a command.
 /// - It executes the commands.
-/// - It writes a line for each reply, and one for the last text. This last step allocates nothing.
+/// - It writes a line for each reply, and one for the last text, and flushes the writer. This last step
+///   allocates nothing.
 ///
 /// A read or a write that was interrupted is tried again.
 ///
@@ -68,34 +69,13 @@ pub fn play<const N: usize, I: Read, O: Write>(
     ensures end { OnOk result (IsAtEnd (I.remaining input.new)) }
     ensures end_of_bad { IfErr result (λ e. IfBadLine e (λ _. IsAtEnd (I.remaining input.new))) }
 {
-    play_unflushed::<N, I, O>(alloc, input, output)?;
-    if output.flush().is_err() {
-        return Err(PlayFault::Write);
-    }
-    Ok(())
-}
-
-/// Does what `play` does before it flushes the writer.
-pub(crate) fn play_unflushed<const N: usize, I: Read, O: Write>(
-    alloc: Global,
-    input: &mut I,
-    output: &mut O,
-) -> Result<(), PlayFault>
-    ensures played { OnOk result (IfSome (I.remaining input.old)
-        (λ given. IsPlayed given (cap N) (O.contents output.old) (O.contents output.new))) }
-    ensures bad_line { IfErr result (λ e. IfBadLine e (λ k. IfSome (I.remaining input.old) (λ given. IsBadAt (lines given) k))) }
-    ensures unwritten { IfErr result (λ e. e ≢ PlayFault.Write → output.new ≡ output.old) }
-    ensures part_played { IfErr result (λ e. e ≡ PlayFault.Write → IfSome (I.remaining input.old)
-        (λ given. IsPartPlayed given (cap N) (O.contents output.old) (O.contents output.new))) }
-    ensures end { OnOk result (IsAtEnd (I.remaining input.new)) }
-    ensures end_of_bad { IfErr result (λ e. IfBadLine e (λ _. IsAtEnd (I.remaining input.new))) }
-{
     let script = read_all(alloc, input)?;
     let commands = parse_script(alloc, &script)?;
     play_commands::<N, O>(alloc, &commands, output)
 }
 
 /// Executes the commands on the empty text, and writes the lines of the run.
+/// Then it flushes the writer.
 fn play_commands<const N: usize, O: Write>(
     alloc: Global,
     commands: &[Command<'_>],

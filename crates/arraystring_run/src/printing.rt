@@ -14,7 +14,7 @@ use std::fmt::{Display, Write as _};
 use std::io;
 use std::io::Write;
 
-/// Writes a line for each reply, and one for the last text.
+/// Writes a line for each reply, and one for the last text, and flushes the writer.
 pub(crate) fn write_all_replies<const N: usize, O: Write>(
     output: &mut O,
     replies: &[Reply<N>],
@@ -28,7 +28,8 @@ pub(crate) fn write_all_replies<const N: usize, O: Write>(
     for reply in replies {
         write_reply(output, reply)?;
     }
-    write_text_line(output, "final ", last.as_str())
+    write_text_line(output, "final ", last.as_str())?;
+    output.flush()
 }
 
 /// Writes the line of a reply.

@@ -1,14 +1,13 @@
 //! What the `main` of a program calls. A script is played on a string whose capacity the program's argument
 //! names. `serve` writes the output directly, and `serve_buffered` through a buffer.
-ghost use Rattle.std.specs.Prelude.{◌≡◌, ◌≢◌, is_some, option_map, ℕ, List, [], None, OnOk, vec_capacity};
+ghost use Rattle.std.specs.Prelude.{◌≡◌, ◌≢◌, is_some, option_map, ℕ, List, [], None, vec_capacity};
 ghost use Rattle.arraystring_run.specs.Writing.{AppendsPrefix};
-ghost use Rattle.arraystring_run.specs.Player.{IsOutcome};
-ghost use Rattle.arraystring_run.specs.Program.{IsServed, bytes_of, capacity_named, status_of, report_of, usage_line};
+ghost use Rattle.arraystring_run.specs.Program.{IsServed, IsOutcomeAt, bytes_of, capacity_named, status_at, report_at};
 ghost use Rattle.std.specs.Io.KnownBytes.{append_known};
 
 pub use crate::arguments::{Arguments, given_word};
 use crate::buffered::Buffered;
-use crate::player::{PlayFault, play_unflushed};
+use crate::player::{PlayFault, play};
 use crate::printing::write_line_of;
 use crate::writing::write_text;
 use std::alloc::Global;
@@ -62,90 +61,52 @@ pub fn serve<I: Read, O: Write, E: Write>(
         (E.contents errors.old) (E.contents errors.new)
         (input.new ≡ input.old) (output.new ≡ output.old) (errors.new ≡ errors.old) result }
 {
-    let Some(capacity) = capacity_of(word) else {
-        return report_usage(errors);
-    };
-    report(play_into(alloc, capacity, input, output), errors)
+    let played = play_at(alloc, capacity_of(word), input, output);
+    report(played, errors)
 }
 
-/// Plays a script at a capacity, and flushes the writer.
-fn play_into<I: Read, O: Write>(
-    alloc: Global,
-    capacity: Capacity,
-    input: &mut I,
-    output: &mut O,
-) -> Result<(), PlayFault>
-    ensures { IsOutcome (bytes_of capacity) (I.remaining input.old)
-        (O.contents output.old) (O.contents output.new) (output.new ≡ output.old) result }
-{
-    play_at(alloc, capacity, input, output)?;
-    output.flush().map_err(|_| PlayFault::Write)
-}
-
-/// Plays a script at a capacity into a buffer, and flushes that. If this succeeds, nothing waits.
-fn play_into_buffer<I: Read, O: Write>(
-    alloc: Global,
-    capacity: Capacity,
-    input: &mut I,
-    buffered: &mut Buffered<O>,
-) -> Result<(), PlayFault>
-    ensures played { IsOutcome (bytes_of capacity) (I.remaining input.old)
-        (append_known (O.contents buffered.old.output) buffered.old.waiting.items)
-        (append_known (O.contents buffered.new.output) buffered.new.waiting.items)
-        (buffered.new ≡ buffered.old) result }
-    ensures sent { OnOk result (buffered.new.waiting.items ≡ []) }
-{
-    play_at(alloc, capacity, input, buffered)?;
-    buffered.flush().map_err(|_| PlayFault::Write)
-}
-
-/// Plays a script at a capacity, and does not flush the writer.
+/// Plays a script at a capacity. Without one it returns `None`, and nothing is read or written.
 fn play_at<I: Read, O: Write>(
     alloc: Global,
-    capacity: Capacity,
+    capacity: Option<Capacity>,
     input: &mut I,
     output: &mut O,
-) -> Result<(), PlayFault>
-    ensures { IsOutcome (bytes_of capacity) (I.remaining input.old)
-        (O.contents output.old) (O.contents output.new) (output.new ≡ output.old) result }
+) -> Option<Result<(), PlayFault>>
+    ensures { IsOutcomeAt (option_map bytes_of capacity) (I.remaining input.old)
+        (O.contents output.old) (O.contents output.new) (input.new ≡ input.old) (output.new ≡ output.old) result }
 {
-    match capacity {
-        Capacity::Small => play_unflushed::<23, I, O>(alloc, input, output),
-        Capacity::Cache => play_unflushed::<63, I, O>(alloc, input, output),
-        Capacity::Max => play_unflushed::<255, I, O>(alloc, input, output),
-    }
+    Some(match capacity? {
+        Capacity::Small => play::<23, I, O>(alloc, input, output),
+        Capacity::Cache => play::<63, I, O>(alloc, input, output),
+        Capacity::Max => play::<255, I, O>(alloc, input, output),
+    })
 }
 
-/// Writes how a program is called, and returns the status.
-fn report_usage<E: Write>(errors: &mut E) -> u8
-    ensures status { result ≡ 2 }
-    ensures line { AppendsPrefix (E.contents errors.old) (E.contents errors.new) usage_line }
-{
-    let _ = write_text(errors, "usage: arraystring_run small or cache or max\n");
-    2
-}
-
-/// Writes the line of a fault, and returns the status.
-fn report<E: Write>(played: Result<(), PlayFault>, errors: &mut E) -> u8
-    ensures status { result ≡ status_of played }
-    ensures line { AppendsPrefix (E.contents errors.old) (E.contents errors.new) (report_of played) }
+/// Writes the line of a fault, or how a program is called if nothing was played, and returns the status.
+fn report<E: Write>(played: Option<Result<(), PlayFault>>, errors: &mut E) -> u8
+    ensures status { result ≡ status_at played }
+    ensures line { AppendsPrefix (E.contents errors.old) (E.contents errors.new) (report_at played) }
     ensures quiet { result ≡ 0 → errors.new ≡ errors.old }
 {
     match played {
-        Ok(()) => 0,
-        Err(PlayFault::BadLine(number)) => {
+        Some(Ok(())) => 0,
+        None => {
+            let _ = write_text(errors, "usage: arraystring_run small or cache or max\n");
+            2
+        }
+        Some(Err(PlayFault::BadLine(number))) => {
             let _ = write_line_of(errors, "bad line ", number);
             2
         }
-        Err(PlayFault::Memory) => {
+        Some(Err(PlayFault::Memory)) => {
             let _ = write_text(errors, "out of memory\n");
             3
         }
-        Err(PlayFault::Read) => {
+        Some(Err(PlayFault::Read)) => {
             let _ = write_text(errors, "read failed\n");
             4
         }
-        Err(PlayFault::Write) => {
+        Some(Err(PlayFault::Write)) => {
             let _ = write_text(errors, "write failed\n");
             4
         }
@@ -174,14 +135,13 @@ pub fn serve_buffered<I: Read, O: Write + Drop, E: Write>(
 {
     let (capacity, waiting) = capacity_and_buffer(alloc, word);
     let mut buffered = Buffered { output, waiting };
-    let status = match capacity {
-        Some(capacity) => {
-            let played = play_into_buffer(alloc, capacity, input, &mut buffered);
-            report(played, errors)
-        }
-        None => report_usage(errors),
+    let played = match play_at(alloc, capacity, input, &mut buffered) {
+        // after the flush of `play` nothing waits: `send` says so in its contract, and a writer's `flush` does not
+        Some(Ok(())) => Some(buffered.send().map_err(|_| PlayFault::Write)),
+        Some(Err(fault)) => Some(Err(fault)),
+        None => None,
     };
-    (status, buffered.output)
+    (report(played, errors), buffered.output)
 }
 
 /// The capacity that a word names, and the room before the output: none if the word names no capacity,

@@ -21,6 +21,26 @@ pub(super) struct FakeReader<'a> {
     pub(super) kind: ErrorKind,
 }
 
+impl<'a> FakeReader<'a> {
+    /// A reader of `step` bytes a read. After `reads` reads, one read fails with `kind`. All later reads
+    /// succeed.
+    pub(super) fn new(
+        bytes: &'a [u8],
+        step: usize,
+        reads: usize,
+        kind: ErrorKind,
+    ) -> FakeReader<'a> {
+        FakeReader {
+            bytes,
+            step,
+            reads,
+            faults: 1,
+            again: 0,
+            kind,
+        }
+    }
+}
+
 impl Read for FakeReader<'_> {
     fn read(&mut self, buf: &mut [u8]) -> io::Result<usize> {
         if self.reads == 0 && self.faults > 0 {
@@ -40,14 +60,7 @@ impl Read for FakeReader<'_> {
 #[test]
 fn a_failed_read_is_reported(rt: HostRuntime) {
     for reads in 0..8usize {
-        let mut input = FakeReader {
-            bytes: b"len\nbad\nlen\n",
-            step: 2,
-            reads,
-            faults: 1,
-            again: 0,
-            kind: ErrorKind::Other,
-        };
+        let mut input = FakeReader::new(b"len\nbad\nlen\n", 2, reads, ErrorKind::Other);
         let mut output = Vec::new(rt.alloc());
         let played = play::<23, FakeReader, Vec<u8>>(rt.alloc(), &mut input, &mut output);
         let wanted = if reads < 7 {
@@ -63,14 +76,9 @@ fn a_failed_read_is_reported(rt: HostRuntime) {
 /// Plays the script from a reader of `step` bytes a read. After `reads` reads, `faults` in a row are
 /// interrupted, and after each later read `again` in a row.
 fn reads_on(rt: &impl Abort, alloc: Global, step: usize, reads: usize, faults: u8, again: u8) {
-    let mut input = FakeReader {
-        bytes: SCRIPT.as_bytes(),
-        step,
-        reads,
-        faults,
-        again,
-        kind: ErrorKind::Interrupted,
-    };
+    let mut input = FakeReader::new(SCRIPT.as_bytes(), step, reads, ErrorKind::Interrupted);
+    input.faults = faults;
+    input.again = again;
     let mut output = Vec::new(alloc);
     let played = play::<23, FakeReader, Vec<u8>>(alloc, &mut input, &mut output);
     agree(rt, "what is returned", played, Ok(()));
@@ -179,6 +187,21 @@ fn long_interruptions_are_gone_on_with(rt: HostRuntime) {
     writes_on(&rt, rt.alloc(), 1, 0, 255, 255);
 }
 
+/// Plays a script to a writer that takes all and fails to flush.
+fn fails_to_flush(rt: &impl Abort, alloc: Global, script: &str, wanted: &str) {
+    let mut output = FakeWriter::new(alloc, usize::MAX, None);
+    output.flushes = false;
+    let outcome = Err(PlayFault::Write);
+    writes::<23>(
+        rt,
+        alloc,
+        output,
+        script.as_bytes(),
+        outcome,
+        wanted.as_bytes(),
+    );
+}
+
 /// A flush that fails is a failed write, however many replies there are.
 #[test]
 fn a_failed_flush_is_reported(rt: HostRuntime) {
@@ -186,29 +209,9 @@ fn a_failed_flush_is_reported(rt: HostRuntime) {
         let script = "len\n".repeat(rt.alloc(), count).expect(&rt, "memory");
         let replies = "number 0\n".repeat(rt.alloc(), count).expect(&rt, "memory");
         let wanted = format!(in rt.alloc(); "{replies}final \n").expect(&rt, "memory");
-        let mut output = FakeWriter::new(rt.alloc(), usize::MAX, None);
-        output.flushes = false;
-        let outcome = Err(PlayFault::Write);
-        writes::<23>(
-            &rt,
-            rt.alloc(),
-            output,
-            script.as_bytes(),
-            outcome,
-            wanted.as_bytes(),
-        );
+        fails_to_flush(&rt, rt.alloc(), &script, &wanted);
     }
-    let mut output = FakeWriter::new(rt.alloc(), usize::MAX, None);
-    output.flushes = false;
-    let outcome = Err(PlayFault::Write);
-    writes::<23>(
-        &rt,
-        rt.alloc(),
-        output,
-        SCRIPT.as_bytes(),
-        outcome,
-        OUTPUT.as_bytes(),
-    );
+    fails_to_flush(&rt, rt.alloc(), SCRIPT, OUTPUT);
 }
 
 /// More reads than two bytes count: a byte at each, with and without an interruption before it.
@@ -216,14 +219,9 @@ fn a_failed_flush_is_reported(rt: HostRuntime) {
 fn any_number_of_reads_is_gone_on_with(rt: HostRuntime) {
     let script = "len\n".repeat(rt.alloc(), 17500).expect(&rt, "memory");
     for again in 0..=1u8 {
-        let mut input = FakeReader {
-            bytes: script.as_bytes(),
-            step: 1,
-            reads: 0,
-            faults: again,
-            again,
-            kind: ErrorKind::Interrupted,
-        };
+        let mut input = FakeReader::new(script.as_bytes(), 1, 0, ErrorKind::Interrupted);
+        input.faults = again;
+        input.again = again;
         let mut output = Vec::new(rt.alloc());
         let played = play::<23, FakeReader, Vec<u8>>(rt.alloc(), &mut input, &mut output);
         agree(&rt, "what is returned", played, Ok(()));
@@ -238,14 +236,7 @@ fn any_number_of_reads_is_gone_on_with(rt: HostRuntime) {
 fn failed_reads_are_served(rt: HostRuntime) {
     for word in WORDS {
         for reads in 0..=SCRIPT.len() {
-            let mut input = FakeReader {
-                bytes: SCRIPT.as_bytes(),
-                step: 1,
-                reads,
-                faults: 1,
-                again: 0,
-                kind: ErrorKind::Other,
-            };
+            let mut input = FakeReader::new(SCRIPT.as_bytes(), 1, reads, ErrorKind::Other);
             let mut output = Vec::new(rt.alloc());
             let mut errors = Vec::new(rt.alloc());
             let status = serve(rt.alloc(), Some(word), &mut input, &mut output, &mut errors);

@@ -72,14 +72,7 @@ fn no_kind_is_left_out(rt: HostRuntime) {
 fn reads_of_each_kind(rt: HostRuntime) {
     for kind in KINDS {
         for reads in 0..=SCRIPT.len() {
-            let mut input = FakeReader {
-                bytes: SCRIPT.as_bytes(),
-                step: 1,
-                reads,
-                faults: 1,
-                again: 0,
-                kind,
-            };
+            let mut input = FakeReader::new(SCRIPT.as_bytes(), 1, reads, kind);
             let mut output = Vec::new(rt.alloc());
             let played = play::<23, FakeReader, Vec<u8>>(rt.alloc(), &mut input, &mut output);
             let left = input.bytes.len();

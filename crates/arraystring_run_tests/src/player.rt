@@ -97,14 +97,8 @@ fn long_scripts_are_played(rt: HostRuntime) {
         wanted.extend_from_slice(b"ab").expect(&rt, "memory");
     }
     wanted.extend_from_slice(b"a\n").expect(&rt, "memory");
-    let mut input = FakeReader {
-        bytes: &script,
-        step: 500,
-        reads: 0,
-        faults: 0,
-        again: 0,
-        kind: ErrorKind::Other,
-    };
+    let mut input = FakeReader::new(&script, 500, 0, ErrorKind::Other);
+    input.faults = 0;
     let mut output = Vec::new(rt.alloc());
     let played = play::<2000, FakeReader, Vec<u8>>(rt.alloc(), &mut input, &mut output);
     agree(&rt, "what is returned", played, Ok(()));

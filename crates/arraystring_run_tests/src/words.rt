@@ -14,25 +14,29 @@ const MORE: [&str; 24] = [
     "\u{200B}", "\u{FEFF}", "\u{301}", "\u{7F}", "-", "--", "+", "=", "'", "\"", "a", "é", "🤔",
 ];
 
-/// The word is none: as the only argument it is given as it is, no capacity has its name, and nothing is
-/// read or written for it.
+/// As the only argument the word is given as it is, and it is refused.
 fn is_refused(rt: &(impl Abort + AllocGlobal), word: &str) {
     let all: [&[u8]; 2] = [b"arraystring_run", word.as_bytes()];
     let given = given_word(&Arguments { all: &all });
     agree(rt, word, given.as_ref().map(MaxString::as_str), Some(word));
-    agree(rt, word, names_capacity(Some(word)), false);
+    names_none(rt, word, Some(word));
+}
+
+/// The word names no capacity, and nothing is read or written for it.
+fn names_none(rt: &(impl Abort + AllocGlobal), case: &str, word: Option<&str>) {
+    agree(rt, case, names_capacity(word), false);
     let script: &[u8] = b"len\n";
     for buffer in [false, true] {
         let mut input = script;
         let mut output = Vec::new(rt.alloc());
         let mut errors = Vec::new(rt.alloc());
         let status = if buffer {
-            serve_buffered(rt.alloc(), Some(word), &mut input, &mut output, &mut errors).0
+            serve_buffered(rt.alloc(), word, &mut input, &mut output, &mut errors).0
         } else {
-            serve(rt.alloc(), Some(word), &mut input, &mut output, &mut errors)
+            serve(rt.alloc(), word, &mut input, &mut output, &mut errors)
         };
-        agree(rt, word, (status, input.len(), output.len()), (2, 4, 0));
-        agree(rt, word, errors.as_slice(), USAGE);
+        agree(rt, case, (status, input.len(), output.len()), (2, 4, 0));
+        agree(rt, case, errors.as_slice(), USAGE);
     }
 }
 
@@ -137,16 +141,5 @@ fn words_in_other_letters_are_refused(rt: HostRuntime) {
 /// No word at all.
 #[test]
 fn no_word_is_refused(rt: HostRuntime) {
-    agree(&rt, "no word", names_capacity(None), false);
-    let mut input: &[u8] = b"len\n";
-    let mut output = Vec::new(rt.alloc());
-    let mut errors = Vec::new(rt.alloc());
-    let (status, _) = serve_buffered(rt.alloc(), None, &mut input, &mut output, &mut errors);
-    agree(
-        &rt,
-        "no word",
-        (status, input.len(), output.len()),
-        (2, 4, 0),
-    );
-    agree(&rt, "no word", errors.as_slice(), USAGE);
+    names_none(&rt, "no word", None);
 }

@@ -1,15 +1,17 @@
-//! How many writes a script takes: one for each block of the buffer's size, and one for the rest.
+//! How many writes a script takes: one for each block of the buffer's size, and one for the rest; and one
+//! flush.
 use super::program::WORDS;
 use super::table::agree;
 use arraystring_run::program::{BUFFER, serve_buffered};
 use std::io;
 use std::process::Abort;
 
-/// Takes all, and counts the writes and the bytes that they take.
+/// Takes all, and counts the writes, the bytes that they take, and the flushes.
 #[derive(Drop)]
 struct CountingWriter {
     writes: usize,
     bytes: usize,
+    flushes: usize,
 }
 
 impl io::Write for CountingWriter {
@@ -20,20 +22,23 @@ impl io::Write for CountingWriter {
     }
 
     fn flush(&mut self) -> io::Result<()> {
+        self.flushes = self.flushes.saturating_add(1);
         Ok(())
     }
 }
 
-/// Serves a script that prints `bytes` bytes, and asserts that it takes few writes.
+/// Serves a script that prints `bytes` bytes, and asserts that it takes few writes and one flush.
 fn takes_few_writes(rt: &(impl Abort + AllocGlobal), word: &str, script: &str, bytes: usize) {
     let mut input = script.as_bytes();
     let mut errors = Vec::new(rt.alloc());
     let output = CountingWriter {
         writes: 0,
         bytes: 0,
+        flushes: 0,
     };
     let (status, output) = serve_buffered(rt.alloc(), Some(word), &mut input, output, &mut errors);
     agree(rt, word, (status, output.bytes), (0, bytes));
+    agree(rt, word, output.flushes, 1);
     let (writes, most) = (output.writes, bytes / BUFFER + 1);
     assert!(rt; writes <= most, "{word}: {writes} writes of {bytes} bytes");
 }

@@ -1,12 +1,12 @@
 use Rattle.std.proofs.Common.{◌≡◌, ℕ, List, [], ◌++◌, ◌+◌, ◌<◌, ◌≤◌, length, get_or, refl, append_assoc, map, drop, Option}
 use Rattle.std.proofs.lemmas.List.{append-nil, drop_more, drop_all}
-use Rattle.std.proofs.KnownBytes.{Appends-nil, Appends-trans}
+use Rattle.std.proofs.KnownBytes.{Appends-nil, Appends-trans, Appends-kept}
 use Rattle.std.specs.Io.KnownBytes.{Appends}
 use Rattle.arraystring_run.specs.Runs.{view_of}
 use Rattle.arraystring_run.specs.ScriptLines.{with_newline}
 use Rattle.arraystring_run.specs.Printing.{printed, replies_printed}
 use Rattle.arraystring_run.specs.declared.commands.Reply.{Reply}
-use Rattle.arraystring_run.proofs.PrintLemmas.{front-more, front-then}
+use Rattle.arraystring_run.proofs.PrintLemmas.{front-all, front-more, front-then}
 use Rattle.arraystring_run.proofs.printing.write_all_replies.Invariants.{IsPartWritten}
 use Rattle.arraystring_run.proofs.printing.write_all_replies.Goals as goal
 
@@ -39,7 +39,13 @@ returns-in_err-write_reply-clause-part g c =
     (rw (one-more _ _ _ done c.loop-reply-test.true c.reply-item.is parts)
     (front-more _ _ _ _ (front-then _ _ _ _ _ appended c.in_err-write_reply.ensures.part)))
 
+pub returns-in_err-write_text_line-clause-part : goal.returns-in_err-write_text_line-clause-part
+returns-in_err-write_text_line-clause-part g c =
+    front-then _ _ _ _ _ (all-written _ _ _ _ c.loop-reply-test.false c.loop-reply.invariant)
+    (rw c.as_str.ensures.bytes at c.in_err-write_text_line.ensures.part)
+
 pub returns-clause-part : goal.returns-clause-part
 returns-clause-part g c =
-    front-then _ _ _ _ _ (all-written _ _ _ _ c.loop-reply-test.false c.loop-reply.invariant)
-    (rw c.as_str.ensures.bytes at c.write_text_line.ensures.part)
+    let lines = all-written _ _ _ _ c.loop-reply-test.false c.loop-reply.invariant in
+    let last = rw c.as_str.ensures.bytes at c.in_ok-write_text_line.ensures.whole in
+    front-all _ _ _ (Appends-kept _ _ _ _ (Appends-trans _ _ _ _ _ lines last) c.flush.ensures.bytes)

@@ -5,7 +5,7 @@ use Rattle.std.specs.Io.KnownBytes.{Appends}
 use Rattle.arraystring.specs.Text.{cap}
 use Rattle.arraystring_run.specs.ScriptLines.{lines, AreLinesOf}
 use Rattle.arraystring_run.specs.Printing.{run_printed}
-use Rattle.arraystring_run.proofs.player.play_unflushed.Goals as goal
+use Rattle.arraystring_run.proofs.player.play.Goals as goal
 
 pub returns-clause-played : goal.returns-clause-played
 returns-clause-played g c =
