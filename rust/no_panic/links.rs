@@ -1,5 +1,5 @@
 //! Each safe call of the crate in a program without `std`, which links only where the machine code of no call can panic: what it
-//! does where something panics has no definition. bench/links builds it.
+//! does where something panics has no definition. The script beside it builds it.
 //!
 //! With the setting `with_alloc` it has the calls of that feature, too, and with `index_of_all` the index `[..]`. With `one_panics` it
 //! makes a call that can panic, and must not link. With ONLY it makes the call of that name alone.
@@ -122,6 +122,7 @@ macro_rules! calls_of {
                     from_chars: S::from_chars(v.text.chars());
                     try_from_utf8: S::try_from_utf8(v.bytes);
                     from_utf8: S::from_utf8(v.bytes);
+                    from_utf8_lossy: S::from_utf8_lossy(v.bytes);
                     try_from_utf16: S::try_from_utf16(v.units);
                     from_utf16: S::from_utf16(v.units);
                     from_utf16_lossy: S::from_utf16_lossy(v.units);
@@ -141,6 +142,8 @@ macro_rules! calls_of {
                     try_write: v.s.try_write(format_args!("{}-{}", v.text, v.ch));
                     extend_chars: v.s.extend_chars(v.text.chars());
                     extend_strs: v.s.extend_strs([v.text, v.text]);
+                    try_extend_chars: v.s.try_extend_chars(v.text.chars());
+                    try_extend_strs: v.s.try_extend_strs([v.text, v.text]);
                     try_insert: v.s.try_insert(v.at, v.ch);
                     try_insert_str: v.s.try_insert_str(v.at, v.text);
                     insert_str: v.s.insert_str(v.at, v.text);
