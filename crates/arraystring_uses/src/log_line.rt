@@ -30,6 +30,7 @@ impl Level {
 
 /// Returns the level and the message. A line of more than 64 bytes is cut to the longest prefix
 /// of whole characters that fits into 61, and ends with `…`, which takes three.
+#[tactic(auto, using(arraystring::proofs::Rules::literals, arraystring::proofs::Rules::cuts))]
 pub fn log_line(level: Level, message: &str) -> ArrayString<64>
     ensures whole { size (full_line level (chars message.now)) ≤ 64 → result.text ≡ full_line level (chars message.now) }
     ensures cut { 64 < size (full_line level (chars message.now))
