@@ -42,6 +42,7 @@ pub fn log_line(level: Level, message: &str) -> ArrayString<64>
 }
 
 /// Adds `text` at the end of a line of at most 61 bytes, or what fits of it and `…`.
+#[tactic(auto, using(arraystring::proofs::Rules::cuts, arraystring::proofs::Rules::literals))]
 fn push_marked(line: &mut ArrayString<64>, text: &str)
     requires { size line.old.text ≤ 61 }
     ensures whole { size (line.old.text ++ chars text.now) ≤ 64 → line.new.text ≡ line.old.text ++ chars text.now }
