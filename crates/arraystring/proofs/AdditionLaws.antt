@@ -3,10 +3,11 @@
 -- when it is which `Err` (`-past`, `-over`, `-inside`). A law takes what its row takes after the text, and then facts.
 -- After an `Ok` no test of the row holds, and an `Err` is that of the first that does. `grind` reads each test as the comparison
 -- that it makes, one after the other; where a test asks for a boundary, the law that says whether it holds stands beside.
-use Rattle.std.proofs.Common.{◌≡◌, ℕ, ◌+◌, ◌-◌, ◌<◌, ◌≤◌, ◌⊎◌, List, [], ◌++◌, arith, true, false, refl, Result, Ok, Err}
+use Rattle.std.proofs.Common.{◌≡◌, ◌↔◌, ℕ, ◌+◌, ◌-◌, ◌<◌, ◌≤◌, ◌⊎◌, List, [], ◌++◌, arith, true, false, refl, Result, Ok, Err}
 use Rattle.std.proofs.lemmas.Bool.Decides.{nat_tests}
+use Rattle.std.specs.Prelude.{nat_lt}
 use Rattle.arraystring_base.specs.Text.{size, cut, front, back, boundary}
-use Rattle.arraystring_base.proofs.CutLaws.{cut-all, cut-past_part}
+use Rattle.arraystring_base.proofs.CutLaws.{cut-all, cut-fits, cut-past_part}
 use Rattle.arraystring_base.proofs.BoundaryLaws.{boundary-within, front-start, back-start, boundary-is}
 use Rattle.arraystring_base.specs.declared.error.Error.{Error}
 use Rattle.arraystring_base.specs.declared.error.Error.TheVariants.{Utf8, OutOfBounds}
@@ -39,6 +40,13 @@ module _ {t : List ℕ} (given : List ℕ) (n : ℕ) {new : List ℕ} {result : 
   -- the text after is the cut of both, if the text before fits
   pub addition_of_cut-cuts : size t ≤ n → Makes (addition_of_cut t given n) t result new → new ≡ cut (t ++ given) n
   addition_of_cut-cuts fits m = rw (cut-past_part t given n fits) (edit-makes refl m).1
+
+-- less than all of it is added exactly if all of it does not fit
+pub addition_of_cut-less : (t given : List ℕ) (n : ℕ) → size t ≤ n
+    → (nat_lt (size (cut given (n - size t))) (size given) ≡ true) ↔ (n < size t + size given)
+addition_of_cut-less t given n fits =
+    let whole : size given ≤ n - size t → cut given (n - size t) ≡ given = cut-all in
+    grind (arith, nat_tests, whole, cut-fits given (n - size t))
 
 -- `given` is put at `i`
 module _ {t : List ℕ} (i : ℕ) (given : List ℕ) (n : ℕ) {new : List ℕ} where

@@ -1,5 +1,5 @@
 -- Laws of boundaries, and of the parts of a text before one, from one on and between two.
-use Rattle.std.proofs.Common.{◌≡◌, ℕ, ◌≤◌, List, [], true, Some, arith, ap, refl}
+use Rattle.std.proofs.Common.{◌≡◌, ℕ, ◌+◌, ◌≤◌, List, [], ◌∷◌, ◌++◌, true, Some, arith, ap, append_assoc, refl, sym, ◌∙◌}
 use Rattle.std.proofs.lemmas.Bool.Decides.{nat_tests}
 use Rattle.arraystring_base.specs.Text.{size, front, back, boundary}
 use Rattle.arraystring_base.proofs.TextLaws.{size-append}
@@ -11,6 +11,10 @@ pub use Rattle.arraystring_core.proofs.PartLaws.{part-joined, part-size, part_in
 -- the start is a boundary
 pub boundary-start : (t : List ℕ) → boundary t 0 ≡ true
 boundary-start t = boundary-is [] t 0 refl
+
+-- and so is the end, in a form that `grind` finds at any index
+pub boundary-at_end : (t : List ℕ) (i : ℕ) → i ≡ size t → boundary t i ≡ true
+boundary-at_end t i e = rw e (boundary-end t)
 
 -- the part from the start to the end is the text
 pub part-all : (t : List ℕ) → part t 0 (size t) ≡ t
@@ -39,4 +43,32 @@ part-fits t start end =
       size-append f (back t end),
       ap size (front-back f start),
       size-append (front f start) (back f start),
+    )
+
+-- the place behind what was put at a boundary is a boundary: before it is what was before and what was put there
+pub boundary-behind : (t : List ℕ) (i : ℕ) (given : List ℕ) (j : ℕ) {new : List ℕ} → boundary t i ≡ true
+    → new ≡ front t i ++ (given ++ back t i) → j ≡ i + size given
+    → (boundary new j ≡ true) × (front new j ≡ front t i ++ given) × (back new j ≡ back t i)
+boundary-behind t i given j b is at =
+    let before = front t i ++ given in
+    let long : size before ≡ j = omega (arith, size-append (front t i) given, front-size t i b) in
+    let parts = is ∙ sym (append_assoc (front t i) given (back t i)) in
+    rw parts (boundary-is before (back t i) j long, front-is before (back t i) j long, back-is before (back t i) j long)
+
+-- the same in a form that `grind` finds: it looks for the text that the insertion leaves
+pub boundary-behind_given : (t : List ℕ) (i : ℕ) (given : List ℕ) → boundary t i ≡ true → let new = front t i ++ (given ++ back t i) in
+    (new ≡ new) × (boundary new (i + size given) ≡ true) × (front new (i + size given) ≡ front t i ++ given)
+    × (back new (i + size given) ≡ back t i)
+boundary-behind_given t i given b = let is = boundary-behind t i given (i + size given) b refl refl in (refl, is.0, is.1, is.2)
+
+-- the place before the last character of what is before an index is a boundary: behind it is this character, and what was there
+pub boundary-before : (t : List ℕ) (i : ℕ) (p : List ℕ) (c j : ℕ) → front t i ≡ p ++ c ∷ [] → j ≡ size p
+    → (boundary t j ≡ true) × (front t j ≡ p) × (back t j ≡ c ∷ back t i)
+boundary-before t i p c j is at =
+    let parts : t ≡ p ++ c ∷ back t i =
+    sym (front-back t i) ∙ ap (λ l. l ++ back t i) is ∙ append_assoc p (c ∷ []) (back t i) in
+    let long = sym at in (
+      ap (λ l. boundary l j) parts ∙ boundary-is p (c ∷ back t i) j long,
+      ap (λ l. front l j) parts ∙ front-is p (c ∷ back t i) j long,
+      ap (λ l. back l j) parts ∙ back-is p (c ∷ back t i) j long,
     )

@@ -12,3 +12,6 @@ pub mod RemovalLaws
 pub mod RangeEditLaws
 pub mod MapLaws
 pub mod LoopLaws
+pub mod CharacterLaws
+pub mod WellFormedLaws
+pub mod Rules

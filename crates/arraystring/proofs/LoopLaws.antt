@@ -1,5 +1,5 @@
 -- Laws of a loop that makes a text: it appends a piece for each item of an iterator or of a slice, or one character many times.
-use Rattle.std.proofs.Common.{◌≡◌, ℕ, ◌+◌, ◌*◌, ◌<◌, ◌≤◌, List, [], ◌∷◌, ◌++◌, ap, subst, sym, ◌∙◌, arith, map, flat_map, length, take, get_or, replicate, zero, suc, Option, Some, None}
+use Rattle.std.proofs.Common.{◌≡◌, ℕ, ◌+◌, ◌*◌, ◌<◌, ◌≤◌, List, [], ◌∷◌, ◌++◌, ap, subst, sym, refl, ◌∙◌, arith, map, flat_map, length, take, get_or, replicate, zero, suc, Option, Some, None}
 use Rattle.std.proofs.lemmas.Iterator.{YieldsList}
 use Rattle.std.proofs.lemmas.Grind.{flat_map-append}
 use Rattle.std.proofs.lemmas.List.Folds.{flat_map-map}
@@ -59,6 +59,13 @@ module _ {A : Type 0} (piece : A → List ℕ) where
       → (next : A) × (size (flat_map piece (take i xs)) + size (piece next) ≤ size (flat_map piece xs))
   taken-next [] i below = absurd (omega arith)
   taken-next (x ∷ xs) i below = (get_or (x ∷ xs) i x, taken-more (x ∷ xs) i below x)
+
+-- both in a form that `grind` finds: it looks for the pieces so far, which the first part of the conclusion shows
+pub taken-item : {A : Type 0} (piece : A → List ℕ) (xs : List A) (i : ℕ) → i < length xs
+    → (flat_map piece (take i xs) ≡ flat_map piece (take i xs))
+    × ((past : A) → size (flat_map piece (take i xs)) + size (piece (get_or xs i past)) ≤ size (flat_map piece xs))
+    × ((next : A) × (size (flat_map piece (take i xs)) + size (piece next) ≤ size (flat_map piece xs)))
+taken-item piece xs i below = (refl, taken-more piece xs i below, taken-next piece xs i below)
 
 -- a character many times takes its width as often
 pub size-replicate : (n c : ℕ) → size (replicate n c) ≡ n * width c

@@ -3,7 +3,7 @@
 -- when it is which `Err` (`-past`, `-inside`). A law takes what its row takes after the text, and then facts.
 -- After an `Ok` no test of the row holds, and an `Err` is that of the first that does. `grind` reads each test as the comparison
 -- that it makes, one after the other; where a test asks for a boundary, the law that says whether it holds stands beside.
-use Rattle.std.proofs.Common.{◌≡◌, ℕ, ◌<◌, ◌≤◌, ◌⊎◌, List, [], ◌∷◌, ◌++◌, ap, sym, ◌∙◌, arith, true, false, Bool, refl, Option, Some, None, Result, Ok, Err, map, drop}
+use Rattle.std.proofs.Common.{◌≡◌, ℕ, ◌<◌, ◌≤◌, ◌⊎◌, List, [], ◌∷◌, ◌++◌, ap, sym, ◌∙◌, arith, true, false, Bool, refl, Option, Some, None, MatchOption, Result, Ok, Err, map, drop}
 use Rattle.std.proofs.lemmas.Bool.{lt-leb, leb-false}
 use Rattle.std.proofs.lemmas.Bool.Decides.{nat_tests}
 use Rattle.std.specs.Prelude.{slice_index}
@@ -42,6 +42,12 @@ module _ {t new : List ℕ} where
   -- no result comes of the empty text alone
   pub popping-none : Makes (popping t) t (Ok None) new → (t ≡ []) × (new ≡ [])
   popping-none m = let empty = none-of t (edit-made m).1 in (empty, m.ok ∙ ap all_but_last empty)
+
+  -- both in one
+  pub popping-made : {found : Option ℕ} → Makes (popping t) t (Ok found) new
+      → MatchOption found ((t ≡ []) × (new ≡ [])) (λ c. t ≡ new ++ c ∷ [])
+  popping-made {found = None} m = popping-none m
+  popping-made {found = Some c} m = popping-some m
 
 -- the part before `i` is kept
 module _ {t : List ℕ} (i : ℕ) {new : List ℕ} where

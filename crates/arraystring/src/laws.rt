@@ -1,12 +1,47 @@
 //! Laws, which callers may rely on. Each carries its fact in its contract and changes nothing.
-//! `text_fits`, `text_spelled` and `left_fits` call `len` or `as_str`, the others do nothing when
-//! called.
+//! `text_fits`, `text_spelled`, `left_fits` and `keys_ascend` call `len` or `as_str`, the others do
+//! nothing when called.
+ghost use Rattle.std.specs.Prelude.{◌≡◌, ◌⊎◌, ◌++◌, ◌∷◌, [], MatchOption, chars, map};
+ghost use Rattle.std.specs.BTreeMap.{keys};
+ghost use Rattle.std.specs.List.{AllPairs};
+ghost use Rattle.std.specs.declared.str.Chars.{Chars};
+ghost use Rattle.std.specs.Str.Iter.{chars_rest, chars_steps_back};
+ghost use Rattle.arraystring_core.specs.Text.{IsBefore, IsWellFormed};
+ghost use Rattle.arraystring_core.specs.Parts.{all_but_last};
+
 pub use arraystring_base::laws::{
     borrowed_text, boundaries, cut_of_cut, found_first, longest_cut, one_stop, one_text,
     only_reading, order_of_bytes, order_of_texts, parts, size_is_length, split_first, text_reading,
 };
+use arraystring_core::ArrayString;
 pub use arraystring_core::laws::{
     equal_texts, json_reads_back, json_reads_whole, left_fits, left_given, pieces_make_one_text,
     popped, replaced_back, split_back, text_fits, text_spelled, trimmed, units_read_back, walks,
     what_comes_past_the_room, white_space,
 };
+use std::collections::BTreeMap;
+
+/// `text.chars().next_back()` returns the last character of `text`, or `None` if there is none.
+///
+/// # Precondition
+///
+/// `last` must be what `text.chars().next_back()` returned.
+pub fn last_given(text: &str, last: Option<char>)
+    requires { (from : Chars) × (left : Chars) × (chars_rest from ≡ text.now) × chars_steps_back from last left }
+    ensures { MatchOption last (chars text.now ≡ [])
+        (λ c. chars text.now ≡ all_but_last (chars text.now) ++ c ∷ []) }
+{}
+
+/// Bytes are well-formed UTF-8, or they are not. A constructor from bytes returns `Utf8` if they are not,
+/// so they are if it returns `OutOfBounds`.
+pub fn well_formed_or_not(given: &[u8])
+    ensures { IsWellFormed given.now ⊎ ¬ (IsWellFormed given.now) }
+{}
+
+/// The texts of the keys of a map ascend, from each key to the next.
+pub fn keys_ascend<const N: usize, V>(entries: &BTreeMap<ArrayString<N>, V>)
+    ensures { AllPairs IsBefore (map (λ key. key.text) (keys entries.now)) }
+{
+    // The order of a map is known only after a call on it.
+    let _ = entries.len();
+}

@@ -11,6 +11,7 @@ use arraystring::{ArrayString, Error};
 /// # Errors
 ///
 /// Returns `Err(Error::OutOfBounds)` if the whole does not fit.
+#[tactic(auto, using(arraystring::proofs::Rules::additions, arraystring::proofs::Rules::literals))]
 pub fn padded<const N: usize>(text: &str, count: u8) -> Result<ArrayString<N>, Error>
     ensures { IsWholeOrRefused (chars text.now ++ replicate count 0x20) (cap N) result }
 {
@@ -23,6 +24,7 @@ pub fn padded<const N: usize>(text: &str, count: u8) -> Result<ArrayString<N>, E
 }
 
 /// Returns how many bytes a column takes, or `None` if it is empty.
+#[tactic(auto, using(arraystring::proofs::Rules::sizes))]
 pub fn bytes_shown(column: &ArrayString<16>) -> Option<u8>
     ensures { MatchOption result (column.now.text ≡ []) (λ bytes. (bytes ≡ size column.now.text) × (0 < bytes)) }
 {

@@ -1,10 +1,13 @@
 //! Single characters that go in and out.
-ghost use Rattle.std.specs.Prelude.{◌≡◌, ◌<◌, ◌≤◌, ◌++◌, ◌∷◌, [], true, false, MatchOption};
+ghost use Rattle.std.specs.Prelude.{◌≡◌, ◌+◌, ◌<◌, ◌≤◌, ◌↔◌, ◌++◌, ◌∷◌, [], true, false, IsTrue, MatchOption, chars};
+ghost use Rattle.arraystring.specs.Edits.{all_but_last};
 ghost use Rattle.arraystring.specs.Text.{size};
 
 use arraystring::ArrayString;
+use arraystring::laws::last_given;
 
 /// Takes the first character out and returns it, or `None` if there is none.
+#[tactic(auto, using(arraystring::proofs::Rules::at_start))]
 pub fn take_first(text: &mut ArrayString<16>) -> Option<char>
     ensures { MatchOption result ((text.old.text ≡ []) × (text.new.text ≡ [])) (λ first. text.old.text ≡ first ∷ text.new.text) }
 {
@@ -15,6 +18,7 @@ pub fn take_first(text: &mut ArrayString<16>) -> Option<char>
 }
 
 /// Appends `ch` if any character would fit, and says whether one would.
+#[tactic(auto, using(arraystring::proofs::Rules::sizes))]
 pub fn push_if_any_fits(text: &mut ArrayString<16>, ch: char) -> bool
     ensures pushed { size text.old.text ≤ 12 → (result ≡ true) × (text.new.text ≡ text.old.text ++ ch ∷ []) }
     ensures refused { 12 < size text.old.text → (result ≡ false) × (text.new.text ≡ text.old.text) }
@@ -24,4 +28,30 @@ pub fn push_if_any_fits(text: &mut ArrayString<16>, ch: char) -> bool
     }
     text.push_unchecked(ch);
     true
+}
+
+/// Takes the last character out and returns it, or `None` if there is none.
+#[tactic(auto, using(arraystring::proofs::Rules::removals))]
+pub fn take_last(text: &mut ArrayString<16>) -> Option<char>
+    ensures { MatchOption result ((text.old.text ≡ []) × (text.new.text ≡ [])) (λ last. text.old.text ≡ text.new.text ++ last ∷ []) }
+{
+    text.pop()
+}
+
+/// Returns the last character of `text`, or `None` if there is none.
+pub fn last_letter(text: &str) -> Option<char>
+    ensures { MatchOption result (chars text.now ≡ []) (λ last. chars text.now ≡ all_but_last (chars text.now) ++ last ∷ []) }
+{
+    let last = text.chars().next_back();
+    last_given(text, last);
+    last
+}
+
+/// Appends the longest prefix of `given` that fits, and says whether that is less than all of it.
+pub fn push_is_cut(text: &mut ArrayString<16>, given: &str) -> bool
+    ensures { IsTrue result ↔ (16 < size text.old.text + size (chars given.now)) }
+{
+    let before = text.len();
+    text.push_str(given);
+    ((text.len() - before) as usize) < given.len()
 }

@@ -3,10 +3,13 @@
 
 pub mod columns;
 pub mod commas;
+pub mod cursor;
+pub mod entry;
 pub mod greeting;
 pub mod json;
 pub mod letters;
 pub mod log_line;
+pub mod packet;
 pub mod pair;
 pub mod parts;
 pub mod row;

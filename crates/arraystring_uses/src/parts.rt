@@ -23,6 +23,7 @@ pub fn part<const N: usize>(text: &ArrayString<N>, start: u8, end: u8) -> Option
 /// # Precondition
 ///
 /// `N` must be at most 300.
+#[tactic(auto, using(arraystring::proofs::Rules::splits))]
 pub fn drop_part<const N: usize>(text: &mut ArrayString<N>, start: u8, end: u8) -> Result<(), Error>
     requires { N ≤ 300 }
     ensures outcome { result ≡ ok_unless (first_cause (draining text.old.text start end).tests) tt }

@@ -5,6 +5,7 @@ ghost use Rattle.arraystring.specs.Text.{IsBefore};
 ghost use Rattle.arraystring_uses.specs.Scores.{names, points};
 
 use arraystring::ArrayString;
+use arraystring::laws::keys_ascend;
 use std::alloc::AllocError;
 use std::collections::BTreeMap;
 
@@ -27,7 +28,9 @@ pub fn record(
     ensures refused { OnErr result (points scores.new name.text ≡ points scores.old name.text) }
     ensures ordered { AllPairs IsBefore (names scores.new) }
 {
-    Ok(scores.insert(name, score)?)
+    let old = scores.insert(name, score);
+    keys_ascend(scores);
+    Ok(old?)
 }
 
 /// Returns what is under `name`, or `None` if nothing is.

@@ -1,10 +1,13 @@
 //! Each use, on values worked out by hand.
 use crate::columns::{bytes_shown, padded};
 use crate::commas::with_commas;
+use crate::cursor::{put, step_left};
+use crate::entry::add_entry;
 use crate::greeting::greet;
 use crate::json::sent_and_read;
-use crate::letters::{push_if_any_fits, take_first};
+use crate::letters::{last_letter, push_if_any_fits, push_is_cut, take_first, take_last};
 use crate::log_line::{Level, log_line};
+use crate::packet::name_in;
 use crate::pair::{pair, pair_of, split_value};
 use crate::parts::{drop_part, first_left, part};
 use crate::row::add_row;
@@ -192,6 +195,114 @@ fn letters_go_in_and_out(rt: HostRuntime) {
         agree(&rt, push_if_any_fits(&mut text, '€'), is_pushed);
         agree(&rt, text.as_str(), after);
     }
+}
+
+/// Takes the last characters of each text one by one, as long as there is one.
+#[test]
+fn last_letters_are_taken(rt: HostRuntime) {
+    for whole in ["", "a", "é", "€", "🤔", "aé€🤔", "🤔€éa", "ééé"] {
+        let mut text = ArrayString::from_str_truncate(whole);
+        for _ in 0..5 {
+            let last = last_letter(text.as_str());
+            let bytes = last.map_or(0, |ch| ch.len_utf8());
+            let left = whole.get(..(text.len() as usize).saturating_sub(bytes));
+            agree(&rt, take_last(&mut text), last);
+            agree(&rt, Some(text.as_str()), left);
+        }
+        agree(&rt, text.as_str(), "");
+    }
+    agree(&rt, last_letter("aé"), Some('é'));
+    agree(&rt, last_letter("é🤔"), Some('🤔'));
+    agree(&rt, last_letter(""), None);
+}
+
+#[test]
+fn a_cut_is_told(rt: HostRuntime) {
+    for (before, given, is_cut, after) in [
+        ("", "", false, ""),
+        ("0123456789abcdef", "", false, "0123456789abcdef"),
+        ("0123456789abcdef", "0", true, "0123456789abcdef"),
+        ("0123456789", "abcdef", false, "0123456789abcdef"),
+        ("0123456789", "abcdé", false, "0123456789abcdé"),
+        ("0123456789", "abcdeé", true, "0123456789abcde"),
+        ("0123456789", "abc🤔", true, "0123456789abc"),
+    ] {
+        let mut text = ArrayString::from_str_truncate(before);
+        agree(&rt, push_is_cut(&mut text, given), is_cut);
+        agree(&rt, text.as_str(), after);
+    }
+}
+
+/// Puts a text at each place of a line, and steps from its end to its start.
+#[test]
+fn a_cursor_stands_between_characters(rt: HostRuntime) {
+    let whole = "aé€🤔b";
+    for cursor in 0..=12u8 {
+        let mut line = ArrayString::from_str_truncate(whole);
+        match (whole.get(..cursor as usize), whole.get(cursor as usize..)) {
+            (Some(before), Some(after)) => {
+                agree(&rt, put(&mut line, cursor, "ñ"), Ok(cursor.wrapping_add(2)));
+                agree(
+                    &rt,
+                    line.as_str()
+                        .strip_prefix(before)
+                        .and_then(|rest| rest.strip_suffix(after)),
+                    Some("ñ"),
+                );
+            }
+            _ => {
+                agree(&rt, put(&mut line, cursor, "ñ").is_err(), true);
+                agree(&rt, line.as_str(), whole);
+            }
+        }
+    }
+    let line = ArrayString::from_str_truncate(whole);
+    for (cursor, place) in [
+        (11, Some(10)),
+        (10, Some(6)),
+        (6, Some(3)),
+        (3, Some(1)),
+        (1, Some(0)),
+        (0, None),
+    ] {
+        agree(&rt, step_left(&line, cursor), place);
+    }
+}
+
+#[test]
+fn an_entry_is_added_whole_or_not_at_all(rt: HostRuntime) {
+    for (key, value, is_added, after) in [
+        ("", "", true, "01="),
+        ("name", "é", true, "01name=é"),
+        ("name", "anne", true, "01name=anne"),
+        ("name", "an€", true, "01name=an€"),
+        // A byte too much: of the value, of the sign and of the key.
+        ("name", "abc€", false, "01"),
+        ("0123456789", "", false, "01"),
+        ("0123456789a", "", false, "01"),
+        ("012345678", "", true, "01012345678="),
+    ] {
+        let mut line = ArrayString::<12>::from_str_truncate("01");
+        agree(&rt, add_entry(&mut line, key, value).is_ok(), is_added);
+        agree(&rt, line.as_str(), after);
+    }
+}
+
+#[test]
+fn a_name_comes_as_bytes(rt: HostRuntime) {
+    agree(
+        &rt,
+        name_in("josé".as_bytes()).map(|name| name.len()),
+        Ok(5),
+    );
+    agree(
+        &rt,
+        name_in(b"0123456789abcdef").map(|name| name.len()),
+        Ok(16),
+    );
+    agree(&rt, name_in(b"0123456789abcdefg"), Err(Error::OutOfBounds));
+    agree(&rt, name_in(b"0123456789abcdef\xFF"), Err(Error::Utf8));
+    agree(&rt, name_in(&[0xC3]), Err(Error::Utf8));
 }
 
 #[test]

@@ -13,6 +13,7 @@ use arraystring::{ArrayString, Error};
 /// # Errors
 ///
 /// Returns `Err(Error::OutOfBounds)` if the whole does not fit.
+#[tactic(auto, using(arraystring::proofs::Rules::additions, arraystring::proofs::Rules::slices))]
 pub fn lines<const N: usize>(words: &[&str]) -> Result<ArrayString<N>, Error>
     ensures { IsWholeOrRefused (lines words.now) (cap N) result }
 {
@@ -30,6 +31,7 @@ pub fn lines<const N: usize>(words: &[&str]) -> Result<ArrayString<N>, Error>
 /// # Errors
 ///
 /// Returns `Err(Error::OutOfBounds)` if the whole does not fit.
+#[tactic(auto, using(arraystring::proofs::Rules::additions, arraystring::proofs::Rules::slices))]
 pub fn path<const N: usize>(words: &[&str]) -> Result<ArrayString<N>, Error>
     ensures { IsWholeOrRefused (path words.now) (cap N) result }
 {
@@ -50,14 +52,13 @@ pub fn path<const N: usize>(words: &[&str]) -> Result<ArrayString<N>, Error>
 /// # Errors
 ///
 /// Returns `Err(Error::OutOfBounds)` if not both fit. The text is then unchanged.
+#[tactic(auto, using(arraystring::proofs::Rules::additions))]
 pub fn add_both(line: &mut ArrayString<24>, first: &str, last: &str) -> Result<(), Error>
     ensures { Makes (addition line.old.text (chars first.now ++ chars last.now) 24) line.old.text result line.new.text }
 {
-    let before = *line;
-    line.try_push_str(first)?;
-    if let Err(error) = line.try_push_str(last) {
-        *line = before;
-        return Err(error.into());
-    }
+    let mut longer = *line;
+    longer.try_push_str(first)?;
+    longer.try_push_str(last)?;
+    *line = longer;
     Ok(())
 }

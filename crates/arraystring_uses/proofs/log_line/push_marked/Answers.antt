@@ -3,20 +3,13 @@ use Rattle.std.specs.Str.{chars}
 use Rattle.arraystring.specs.Text.{size, width, bytes, cut}
 use Rattle.arraystring.proofs.TextLaws.{size-append, chars-bytes}
 use Rattle.arraystring.proofs.CutLaws.{cut-fits, cut-past_part}
-use Rattle.arraystring.proofs.AdditionLaws.{addition-made, addition-refused}
 use Rattle.arraystring_uses.proofs.log_line.push_marked.Goals as goal
 
 mark_width : width 0x2026 ≡ 3
 unfolding width
 mark_width = refl
 
--- if the text does not fit, the line has taken nothing of it
-pub overflow_sub-len : goal.overflow_sub-len
-overflow_sub-len c =
-    let kept = c.in-Err.ensures.err in
-    omega (arith, ap size kept)
-
--- and then takes the part that fits into the bytes left
+-- the line takes the part that fits into the bytes left
 module _ (line text part_bytes : List ℕ) (room : ℕ) (within : size line ≤ 61) (left : room ≡ 61 - size line)
     (spelled : IsUtf8 part_bytes) (is : part_bytes ≡ bytes (cut text room)) where
   part_is : chars part_bytes ≡ cut text room
@@ -43,11 +36,6 @@ push_unchecked-requires c =
     omega (arith, together-fits c.args.line.now.text (chars c.args.text.now) _ _ c.requires left c.truncate_str.utf8 c.truncate_str.ensures, mark_width, ap size kept, ap size c.push_str_unchecked.ensures, size-append c.try_push_str.new.self.text (chars c.truncate_str.result.now)) in
     (search rules, room)
 
-pub returns-in-Err-clause-whole : goal.returns-in-Err-clause-whole
-returns-in-Err-clause-whole c fits =
-    let over = (addition-refused _ 64 c.in-Err.ensures).0 in
-    absurd (omega (arith, size-append c.args.line.now.text (chars c.args.text.now)))
-
 pub returns-in-Err-clause-cut : goal.returns-in-Err-clause-cut
 returns-in-Err-clause-cut c over =
     let kept = c.in-Err.ensures.err in
@@ -55,11 +43,3 @@ returns-in-Err-clause-cut c over =
     c.push_unchecked.ensures
     ∙ ap (λ l. l ++ 0x2026 ∷ []) (c.push_str_unchecked.ensures ∙ ap (λ l. l ++ chars c.truncate_str.result.now) kept
     ∙ together c.args.line.now.text (chars c.args.text.now) _ _ c.requires left c.truncate_str.utf8 c.truncate_str.ensures)
-
-pub returns-in_default-clause-whole : goal.returns-in_default-clause-whole
-returns-in_default-clause-whole c _ = c.in_default.ensures.ok
-
-pub returns-in_default-clause-cut : goal.returns-in_default-clause-cut
-returns-in_default-clause-cut c over =
-    let fits = (addition-made _ 64 c.in_default.ensures).0 in
-    absurd (omega (arith, size-append c.args.line.now.text (chars c.args.text.now)))

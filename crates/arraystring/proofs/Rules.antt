@@ -1,0 +1,39 @@
+-- Rulesets: the laws that one kind of work wants, under one word. A function cites it in its attribute, as in
+-- `#[tactic(auto, using(arraystring::proofs::Rules::additions))]`, and the check then lists these laws at each goal.
+-- A row of an edit opens by itself: what a goal lacks is what its tests ask. So each set is small, as `grind` has limits.
+use Rattle.std.proofs.Common.{append_assoc}
+use Rattle.arraystring_base.proofs.TextLaws.{size-append, size-is, size-borrowed, empty-size, width-bounds}
+use Rattle.arraystring_base.proofs.CutLaws.{cut-all, cut-fits}
+use Rattle.arraystring_base.proofs.BoundaryLaws.{front-start, back-start}
+use Rattle.arraystring.proofs.AdditionLaws.{addition-made, addition-refused, addition_of_cut-makes, addition_of_cut-cuts}
+use Rattle.arraystring.proofs.BoundaryLaws.{boundary-at_end, boundary-behind_given}
+use Rattle.arraystring.proofs.CharacterLaws.{width-one, chars-ascii, size-repeated}
+use Rattle.arraystring.proofs.LoopLaws.{taken-item}
+use Rattle.arraystring.proofs.RemovalLaws.{popping-made, removal-made}
+
+-- appends, each whole or refused, one after the other
+pub ruleset additions = (addition-made, addition-refused, size-append, append_assoc)
+
+-- appends that are cut
+pub ruleset cuts = (addition_of_cut-makes, addition_of_cut-cuts, cut-all, cut-fits, size-append, append_assoc)
+
+-- insertions at an index, and the place behind what is put there
+pub ruleset insertions = (boundary-at_end, boundary-behind_given)
+
+-- removals: of the last character, of the one at an index
+pub ruleset removals = (boundary-at_end, popping-made, removal-made)
+
+-- splits, truncations, drains and replacements, at boundaries
+pub ruleset splits = (boundary-at_end)
+
+-- insertions and removals at index 0
+pub ruleset at_start = (front-start, back-start, empty-size)
+
+-- sizes of texts and of characters
+pub ruleset sizes = (size-append, size-is, size-borrowed, empty-size, width-bounds)
+
+-- literals of ASCII, and one such character many times
+pub ruleset literals = (chars-ascii, width-one, size-repeated)
+
+-- a loop over a slice, which appends a piece for each item
+pub ruleset slices = (taken-item)
