@@ -53,7 +53,7 @@ pub fn length_of(line: &Line) -> u8
     1
 }
 """
-PAGE = "|Definition|What|\n|---|---|\n|`IsShort t`|short|\n|`limit`|three|\n|`rest_of t`|all but one|\n"
+PAGE = "## The words of `run`\n\n|Definition|What|\n|---|---|\n|`IsShort t`|short|\n|`limit`|three|\n|`rest_of t`|all but one|\n"
 LAWS = "use Rattle.base.specs.Words.{IsShort}\nuse Rattle.base.proofs.Order.{total}\n\n" \
     "pub empty-short : IsShort []\nempty-short = omega arith\n"
 LIST, FILE, END = "crates/base/specs/Lib.antt", "crates/base/specs/Words.antt", r"\Z"

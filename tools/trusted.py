@@ -23,10 +23,11 @@ from collections import namedtuple
 from itertools import zip_longest
 
 from modules import Modules, imports
-from repository import closed, crates, public_types, read, sources
+from repository import closed, crates, public_types, read, section, sources
 
 LIBRARIES = ["arraystring_base", "arraystring_core", "arraystring", "arraystring_run", "bounded_records"]
 PAGE = "docs/definitions.md"
+TABLES = "The words of `run`"
 FUNCTION = r"(?:pub(?:\(\w+\))? |const |unsafe )*fn "
 
 Contract = namedtuple("Contract", "name is_public signature words")
@@ -96,6 +97,6 @@ def main(arguments, root):
         if arguments == ["--list"]:
             print("".join(f"{it}: {it.comment}\n" for it in found if it not in listed))
         listed += found
-    faults = [*faults_of_specs(tree, known), *faults_of_page(read(root / PAGE), headline)]
+    faults = [*faults_of_specs(tree, known), *faults_of_page(section(read(root / PAGE), TABLES), headline)]
     print("".join(f"{it}\n" for it in faults), end="", file=sys.stderr)
     return bool(faults)
