@@ -1,7 +1,7 @@
 -- A text at an offset of its array, and what it is once a part of it is replaced, dropped or kept.
-use Rattle.std.proofs.Common.{◌≡◌, ℕ, ◌+◌, ◌-◌, ◌≤◌, List, ◌++◌, length, take, drop, refl, ap, ◌∙◌, arith, IsUtf8, chars, true, take-take, take_at, length-take-le, length-drop, length-append}
+use Rattle.std.proofs.Common.{◌≡◌, ℕ, ◌+◌, ◌-◌, ◌≤◌, List, ◌++◌, length, take, drop, refl, ap, ◌∙◌, arith, IsUtf8, chars, true, take-take}
 use Rattle.std.proofs.lemmas.Str.{IsUtf8-append, chars-append}
-use Rattle.std.proofs.lemmas.List.{drop-take, drop-drop, drop_at}
+use Rattle.std.proofs.lemmas.List.{drop-take, drop-drop}
 use Rattle.std.proofs.Math.Seq.{take-add}
 use Rattle.arraystring_base.specs.Text.{size, cap, front, back, boundary}
 use Rattle.arraystring_base.proofs.TextLaws.{bytes-utf8, size-borrowed}

@@ -108,7 +108,7 @@ returns g c =
           let is_write : IfErr w.map_err.result (λ e. e ≡ Write) = search rules in
           let sent : OnOk w.map_err.result (new.waiting.items ≡ []) = rw w.buffered-is (search rules) in
           let kept : Keeps (append_known (g.O.Write.contents old.output) old.waiting.items)
-              (append_known (g.O.Write.contents new.output) new.waiting.items) = rw w.buffered-is (search rules) in
+          (append_known (g.O.Write.contents new.output) new.waiting.items) = rw w.buffered-is (search rules) in
           rw w.played-is (
             after-send w.map_err.result (rw (w.in-Some-Ok.is, w.in-Some-Ok.field-0-is) at c.play_at.ensures) kept is_write,
             sent,

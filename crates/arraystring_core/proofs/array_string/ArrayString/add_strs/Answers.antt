@@ -1,4 +1,4 @@
-use Rattle.std.proofs.Common.{◌++◌, ◌∷◌, [], refl, sym, arith, inl, inr, append-nil, chars}
+use Rattle.std.proofs.Common.{◌++◌, ◌∷◌, [], sym, arith, inl, inr, append-nil, chars}
 use Rattle.std.proofs.iter.Next.{Yields-more}
 use Rattle.arraystring_base.specs.Text.{cap}
 use Rattle.arraystring_core.proofs.StoredLaws.{opened-size}

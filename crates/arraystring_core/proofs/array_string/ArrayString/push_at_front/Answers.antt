@@ -1,4 +1,4 @@
-use Rattle.std.proofs.Common.{◌≡◌, ◌+◌, ◌<◌, refl, arith, rules}
+use Rattle.std.proofs.Common.{◌+◌, ◌<◌, refl, arith, rules}
 use Rattle.arraystring_base.specs.Text.{cap, width}
 use Rattle.arraystring_core.proofs.StoredLaws.{opened-size}
 use Rattle.arraystring_core.proofs.AppendLemmas.{char-appended_at_front}
