@@ -1,7 +1,5 @@
 // Proved sources: crates/arraystring_core/src/array_string/remove.rt,
 // crates/arraystring_core/src/array_string/counted.rt
-// NOT PROVED: rust/proved.txt does not have the source of this file as it is.
-// Made from crates/arraystring_core/src/array_string/remove.rt by rust/erase. The proof is there. A change goes there.
 //! What is removed from a string: a character at the end or at an index, the text from an index on, all of
 //! it. The private calls remove a part, a front or an end of the text.
 
