@@ -43,13 +43,13 @@ impl Ruled {
     /// Whether a source only calls its counted form, as `pop` does.
     fn only_counts(&self) -> bool {
         let name = self.item.path.rsplit("::").next().unwrap_or("");
-        let body = self.printed.iter().position(|token| token.is("{")).unwrap_or(0);
+        let (head, body) = self.printed.split_at(self.printed.iter().position(|token| token.is("{")).unwrap_or(0));
         let is_named = |pair: &&[Token]| pair[1].is(":") && pair[0].text.starts_with(char::is_lowercase);
-        let names: Vec<&str> = self.printed[..body].windows(2).filter(is_named).map(|pair| &*pair[0].text).collect();
-        let called: String = self.printed[body..].iter().map(|token| &*token.text).collect();
+        let names = head.windows(2).filter(is_named).map(|pair| &*pair[0].text);
+        let called = body.iter().filter(|token| !token.is_one_of(&["self", ".", ",", ";"])).map(|token| &*token.text);
         let counted = format!("{name}_counted");
         let is_counting = self.item.tokens.iter().any(|token| *token.text == *counted);
-        is_counting && called.replace("self.", "").replace(';', "") == format!("{{{name}({})}}", names.join(","))
+        is_counting && called.eq(["{", name, "("].into_iter().chain(names).chain([")", "}"]))
     }
 }
 
@@ -88,10 +88,10 @@ fn joined(all: Vec<Ruled>) -> Vec<Ruled> {
     rest
 }
 
-/// What stands before the body of a function, without lifetimes, which the counted form may have to name.
-fn head(tokens: &[Token]) -> String {
-    let head = tokens.iter().take_while(|token| !token.is("{")).filter(|token| token.kind != Kind::Lifetime);
-    head.map(|token| &*token.text).collect::<String>().replace("<>", "").replace("<,", "<")
+/// What stands before the body of a function, without lifetimes, which the counted form may have to name, and the signs around them.
+fn head(tokens: &[Token]) -> Vec<&Token> {
+    let is_meant = |token: &&Token| token.kind != Kind::Lifetime && !token.is_one_of(&["<", ",", ">"]);
+    tokens.iter().take_while(|token| !token.is("{")).filter(is_meant).collect()
 }
 
 fn with_body(head: &[Token], body: &[Token]) -> Vec<Token> {
@@ -102,20 +102,20 @@ fn with_body(head: &[Token], body: &[Token]) -> Vec<Token> {
 /// The sources that a file of Rust names in its first lines, or none of a file by hand.
 fn named_sources(name: &str, text: &str) -> Result<Vec<String>, Fault> {
     let fault = |what: String| Fault { file: name.to_string(), line: 1, what };
-    if text.lines().next() == Some(BY_HAND) {
-        return Ok(Vec::new());
-    }
-    let Some(first) = text.strip_prefix(HEAD) else {
+    let mut lines = text.lines().peekable();
+    let first = lines.next().unwrap_or("");
+    let mut list = first.strip_prefix(HEAD).unwrap_or("").to_string();
+    if list.is_empty() && first != BY_HAND {
         return Err(fault(format!("the first line is neither `{HEAD}..` nor `{BY_HAND}`")));
-    };
-    let mut list = String::new();
-    for line in first.lines() {
-        list.push_str(line.trim_start_matches("//").trim());
-        if !list.ends_with(',') {
-            break;
-        }
     }
-    Ok(list.split(',').map(|path| path.trim().to_string()).collect())
+    while let Some(line) = lines.next_if(|_| list.ends_with(',')) {
+        list.push_str(line.trim_start_matches("//").trim());
+    }
+    let is_other = |line: &str| !line.starts_with("//!") && !line.starts_with("///");
+    if lines.take_while(|line| line.starts_with("//")).any(is_other) {
+        return Err(fault("a comment below the sources, which may be an older list".to_string()));
+    }
+    Ok(list.split(',').map(str::trim).filter(|path| !path.is_empty()).map(str::to_string).collect())
 }
 
 /// One comparison, as far as it went.
@@ -164,8 +164,8 @@ impl Comparison<'_> {
         self.report.faults.push(Fault { file: item.file.clone(), line: item.line, what });
     }
 
-    /// The block that says one thing of a path.
-    fn block(&mut self, path: &str, is_meant: fn(&Says) -> bool) -> Option<usize> {
+    /// The block that says one thing of a path, which is used by that.
+    fn take_entry(&mut self, path: &str, is_meant: fn(&Says) -> bool) -> Option<usize> {
         let at = self
             .blocks
             .iter()
@@ -174,19 +174,25 @@ impl Comparison<'_> {
         Some(at)
     }
 
-    /// What runs a caller's code has no `unsafe` block, and so no access without a test.
+    /// What runs a caller's code has no `unsafe`, and so no access without a test. A name for such code may hide it.
     fn keeps_tests(&mut self, rust: &Ruled) {
-        let is_unsafe = rust.item.tokens.windows(2).any(|pair| pair[0].is("unsafe") && pair[1].is("{"));
-        let runs = rust.item.tokens.iter().any(|token| token.is("fn")) && runs_code(&rust.tokens, &rust.item.around);
-        if is_unsafe && runs && self.block(&rust.item.path, |says| *says == Says::Unsafe).is_none() {
-            let what = format!("`{}` runs a caller's code, and has an `unsafe` block", rust.item.path);
-            self.fault(&rust.item, what);
+        let path = &rust.item.path;
+        let kinds = ["fn", "impl", "type", "struct", "enum", "union", "use"];
+        let kind = rust.tokens.iter().find(|token| token.is_one_of(&kinds));
+        let hides = kind.is_some_and(|kind| !kind.is_one_of(&["fn", "impl"])) && runs_code(&rust.tokens, &[]);
+        let is_unsafe = rust.item.tokens.iter().any(|token| token.is("unsafe"));
+        let runs = path.ends_with('!') || runs_code(&rust.tokens, &rust.item.around);
+        if (hides || is_unsafe && runs) && self.take_entry(path, |says| *says == Says::Unsafe).is_none() {
+            self.fault(&rust.item, format!("`{path}` may run a caller's code, and has an `unsafe`, or a name for it"));
         }
     }
 
-    /// No item by hand has the path of a source, so that none is called in its place.
+    /// No item by hand has the path of a source, so that none is called in its place. A macro may make a function.
     fn by_hand(&mut self, rust: &Item) {
-        if !rust.path.starts_with("impl ") && self.sources.iter().any(|source| source.item.path == rust.path) {
+        let made = rust.tokens.windows(2).filter(|pair| pair[0].is("fn") && !rust.path.contains("::"));
+        let paths: Vec<&str> = made.map(|pair| &*pair[1].text).chain([&*rust.path]).collect();
+        let is_taken = |source: &Ruled| paths.contains(&&*source.item.path);
+        if !rust.path.starts_with("impl ") && self.sources.iter().any(is_taken) {
             self.fault(rust, format!("`{}` is by hand, and a source has this name", rust.path));
         }
     }
@@ -202,7 +208,7 @@ impl Comparison<'_> {
                 self.tokens(rust, body);
                 self.promises(rust, &like);
             }
-            None if self.block(path, |says| *says == Says::OnlyInRust).is_some() => self.report.only_in_rust += 1,
+            None if self.take_entry(path, |says| *says == Says::OnlyInRust).is_some() => self.report.only_in_rust += 1,
             None => self.fault(&rust.item, format!("`{path}` is only in Rust")),
         }
     }
@@ -221,7 +227,7 @@ impl Comparison<'_> {
         if !is_one {
             self.fault(&rust.item, format!("`{path}` has two sources, which differ"));
         }
-        if requires && !is_unsafe && self.block(path, |says| *says == Says::Safe).is_none() {
+        if requires && !is_unsafe && self.take_entry(path, |says| *says == Says::Safe).is_none() {
             self.fault(&rust.item, format!("`{path}` is no `unsafe fn`, and its source requires something"));
         }
     }
@@ -229,7 +235,7 @@ impl Comparison<'_> {
     /// Compares the tokens of an item, and those of its entries.
     fn tokens(&mut self, rust: &Ruled, source: usize) {
         let path = &rust.item.path;
-        let block = self.block(path, |says| matches!(says, Says::Differs(_)));
+        let block = self.take_entry(path, |says| matches!(says, Says::Differs(_)));
         let source = &self.sources[source];
         let pairs = block.map(|at| &self.blocks[at].says);
         let made = match pairs {
@@ -255,7 +261,7 @@ impl Comparison<'_> {
             if self.found.contains(&at) {
                 continue;
             }
-            if self.block(&path, is_alone).is_some() || self.block(&file, is_alone).is_some() {
+            if self.take_entry(&path, is_alone).is_some() || self.take_entry(&file, is_alone).is_some() {
                 self.report.only_in_the_source += 1;
             } else {
                 let item = self.sources[at].item.clone();

@@ -18,8 +18,9 @@ pub fn compare(source: &Item, rust: &Item) -> Option<String> {
     }
     let (theirs, ours) = (first_sentence(&source.docs), first_sentence(&rust.docs));
     let (their_errors, our_errors) = (errors(&source.docs), errors(&rust.docs));
-    // What Rust adds to the errors names none.
-    let is_like = our_errors.strip_prefix(&their_errors).is_some_and(|more| !more.contains("Err("));
+    // What Rust adds to the errors names none, and there are some.
+    let is_more = |more: &str| more.is_empty() || !their_errors.is_empty() && !more.contains("Err(");
+    let is_like = our_errors.strip_prefix(&their_errors).is_some_and(is_more);
     match () {
         () if theirs != ours => {
             Some(format!("the documentation begins with `{ours}`, and that of the source with `{theirs}`"))
@@ -58,10 +59,15 @@ fn first_sentence(docs: &[String]) -> String {
     paragraph.split_once(". ").map_or(paragraph.clone(), |(first, _)| format!("{first}."))
 }
 
-/// What stands below `# Errors`, up to the next headline or HTML, without links.
+/// What stands below each `# Errors`, up to the next headline or HTML, without links.
 fn errors(docs: &[String]) -> String {
-    let below = docs.iter().map(|line| line.trim()).skip_while(|line| *line != "# Errors").skip(1);
-    without_links(&words(below.take_while(|line| !line.starts_with('#') && !line.starts_with('<'))))
+    let mut is_below = false;
+    let below = docs.iter().map(|line| line.trim()).filter(|line| {
+        let begins = line.starts_with(['#', '<']);
+        is_below = if begins { line.trim_start_matches('#').trim() == "Errors" } else { is_below };
+        is_below && !begins
+    });
+    without_links(&words(below))
 }
 
 fn words<'a>(lines: impl Iterator<Item = &'a str>) -> String {

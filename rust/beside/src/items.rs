@@ -20,10 +20,28 @@ pub struct Item {
     pub around: Vec<Token>,
 }
 
+/// Words that no file of Rust has: those of the sources alone, and `include!`, which reads another file.
+const REFUSED: &[&str] = &["ghost", "requires", "ensures", "Model", "include"];
+
+/// What the attributes of a whole file of Rust begin with.
+const OF_A_FILE: &[&str] = &["#![deny(", "#![doc = ", "#![no_std]", "#![cfg_attr(docsrs, feature(doc_cfg))]"];
+
 /// Reads a file. What stands in an inline module counts as if it stood around that; tests are left out.
 pub fn items(file: &str, text: &str) -> Result<Vec<Item>, Fault> {
     let mut reader = Reader { file, items: Vec::new() };
-    reader.level(&tokens(file, text)?, ("", &[]))?;
+    let (all, is_rust) = (tokens(file, text)?, file.ends_with(".rs"));
+    if let Some(at) = all.iter().position(|token| is_rust && token.is_one_of(REFUSED)) {
+        return Err(reader.fault(&all[at..], &format!("`{}` is refused in Rust", all[at].text)));
+    }
+    let mut rest = &all[..];
+    while rest.len() > 2 && rest[0].is("#") && rest[1].is("!") {
+        let (attribute, behind) = rest.split_at(closing(rest, 2) + 1);
+        if is_rust && !OF_A_FILE.iter().any(|known| words(attribute).starts_with(known)) {
+            return Err(reader.fault(rest, "an attribute of a whole file that is not known"));
+        }
+        rest = behind;
+    }
+    reader.level(rest, ("", &[]))?;
     Ok(reader.items)
 }
 
@@ -66,7 +84,8 @@ impl Reader<'_> {
             "mod" => return self.module(&front, rest, around),
             "impl" => return self.implementation(front, rest),
             "ghost" => return self.end(rest, &[";"]),
-            "use" | "extern" => return self.names(front, rest),
+            "use" => return self.names(front, rest),
+            "extern" if name(at + 1) == "crate" => return self.names(front, rest),
             "const" | "static" | "type" => (&[";"], name(at + 1).to_string()),
             "struct" | "enum" | "union" | "trait" => (&[";", "{"], name(at + 1).to_string()),
             "macro_rules" => (&[";", "{"], name(at + 2).to_string()),
@@ -130,11 +149,11 @@ impl Reader<'_> {
         Err(self.fault(rest, "a function that does not end"))
     }
 
-    /// Of a `use` the new names are items: `Error as StdError`. The rest is nothing.
+    /// A `use` with a new name is an item: `use core::error::Error as StdError;`. Any other is nothing.
     fn names(&mut self, front: Front, rest: &[Token]) -> Result<usize, Fault> {
         let end = self.end(rest, &[";"])?;
-        for renamed in rest[..end].windows(3).filter(|part| part[1].is("as") && !part[2].is("_")) {
-            self.put(front.clone(), renamed, &renamed[2].text, Vec::new(), ("", &[]));
+        for renamed in rest[..end].windows(2).filter(|pair| pair[0].is("as") && !pair[1].is("_")) {
+            self.put(front.clone(), &rest[..end], &renamed[1].text, Vec::new(), ("", &[]));
         }
         Ok(end)
     }
@@ -144,6 +163,9 @@ impl Reader<'_> {
         let end = self.end(rest, &[";", "{"])?;
         let condition = words(&front.attributes);
         let is_test = condition.starts_with("#[cfg(test)]") || condition.starts_with("#[cfg(all(test,");
+        if front.attributes.iter().any(|token| token.is("path")) {
+            return Err(self.fault(rest, "a module in a file of another name"));
+        }
         if rest[end - 1].is("}") && !is_test {
             if condition.contains("cfg") {
                 return Err(self.fault(rest, "a module under a condition, which has to stand at each of its items"));
@@ -200,7 +222,7 @@ fn words(tokens: &[Token]) -> String {
 
 /// Whether a token stands before the keyword of an item, as `const` does before `fn`.
 fn is_qualifier(token: &Token, rest: &[Token]) -> bool {
-    let is_function = rest.iter().take(4).any(|token| token.is("fn"));
+    let is_function = rest.iter().take_while(|token| !token.is_one_of(&[":", ";"])).any(|token| token.is("fn"));
     token.is("unsafe")
         || is_function && (["const", "async", "extern"].contains(&&*token.text) || token.kind == Kind::Literal)
 }
@@ -213,8 +235,6 @@ fn front(tokens: &[Token]) -> (Front, usize) {
         let start = at;
         if token.kind == Kind::Doc {
             front.docs.push(token.text[3..].to_string());
-        } else if token.is("#") && is_next(at, "!") {
-            at = closing(tokens, at + 2);
         } else if token.is("#") {
             at = closing(tokens, at + 1);
             front.attributes.extend(tokens[start..].iter().take(at + 1 - start).cloned());

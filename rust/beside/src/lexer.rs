@@ -103,6 +103,9 @@ fn next(text: &str) -> Result<(Option<Kind>, usize), &'static str> {
         let is_doc = text.starts_with("///") && !text.starts_with("////");
         return Ok((is_doc.then_some(Kind::Doc), text.find('\n').unwrap_or(text.len())));
     }
+    if text.starts_with("/**") || text.starts_with("/*!") {
+        return Err("documentation that is not in lines `///`");
+    }
     if text.starts_with("/*") {
         return Ok((None, comment(text)?));
     }

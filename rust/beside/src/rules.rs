@@ -2,6 +2,12 @@
 //!
 //! A row is two patterns. `$at` stands for any tokens between others, as far as no `;`, no block and no end of a group comes:
 //! so `get_unchecked!($of, $at)` is rewritten as `&$of[$at]`, and `get_unchecked!(all, f(1))` as `&all[f(1)]`.
+//!
+//! Four names mean more, by [`may_stand`] and [`operand`]:
+//!
+//! - a `$fact` and a `$test` go, so they have no effect; a `$fact` calls nothing, and a `$test` only what [`TESTS`] has;
+//! - a `$value` is a call or a macro, which gives the same in a block and without one;
+//! - an `$of` is set in brackets where a sign beside it would bind a part of it.
 
 use crate::lexer::{Kind, Token, closing, scan};
 
@@ -9,6 +15,8 @@ use crate::lexer::{Kind, Token, closing, scan};
 const SOURCE: &[Row] = &[
     // Ghost parts: bounds, steps of proofs, and calls of laws, whose results are facts.
     row("+ Drop", "", Then::Anything),
+    row("#[derive(Drop)]", "", Then::Anything),
+    row("#[tactic($how)]", "", Then::Anything),
     row("prove!($fact);", "", Then::Anything),
     row("text_fits($fact);", "", Then::Anything),
     row("only_reading($fact);", "", Then::Anything),
@@ -25,6 +33,7 @@ const SOURCE: &[Row] = &[
     // A formatter of a source has the type of what it writes to.
     row("fn fmt<W: fmt::Write>(", "fn fmt(", Then::Anything),
     row("Formatter<W>", "Formatter<'_>", Then::Anything),
+    row("use std::", "use core::", Then::Anything),
 ];
 
 /// What changes nothing in either, and how rustfmt breaks lines.
@@ -35,9 +44,7 @@ const BOTH: &[Row] = &[
     row("#[must_use]", "", Then::Anything),
     row("#[track_caller]", "", Then::Anything),
     row("#[doc($how)]", "", Then::Anything),
-    row("#[expect(clippy::cast_possible_truncation, $why)]", "", Then::Anything),
-    row("#[tactic($how)]", "", Then::Anything),
-    row("#[derive(Drop)]", "", Then::Anything),
+    row("#[expect(clippy::cast_possible_truncation, reason = $why)]", "", Then::Anything),
     row(",)", ")", Then::Anything),
     row(",]", "]", Then::Anything),
     row(",}", "}", Then::Anything),
@@ -47,10 +54,20 @@ const BOTH: &[Row] = &[
 
 /// How Rust spells it.
 const RUST: &[Row] = &[
+    // What the first statement asks for is what was given.
+    row(
+        "<$more $type: AsRef<$text>$rest>($before $name: $type) $result { let $name = $name.as_ref();",
+        "<$more $rest>($before $name: &$text) $result {",
+        Then::Anything,
+    ),
+    row("<,", "<", Then::Anything),
+    row(",>", ">", Then::Anything),
+    row("<>", "", Then::Anything),
+    // What an `unsafe fn` requires is tested, in its first one or two lines.
+    row("unsafe fn $head { required!($test);", "unsafe fn $head {", Then::Anything),
+    row("unsafe fn $head { required!($test);", "unsafe fn $head {", Then::Anything),
+    row("unsafe fn $head { required_of_each!($test);", "unsafe fn $head {", Then::Anything),
     row("unsafe fn", "fn", Then::Anything),
-    // What an `unsafe fn` requires is tested.
-    row("required!($test);", "", Then::Anything),
-    row("required_of_each!($test);", "", Then::Anything),
     // An access without a test.
     row("*get_unchecked!($of, $at)", "$of[$at]", Then::NoPostfix),
     row("*get_unchecked_mut!($of, $at)", "$of[$at]", Then::NoPostfix),
@@ -60,22 +77,20 @@ const RUST: &[Row] = &[
     row("get_unchecked_mut!($of, $at)", "&mut $of[$at]", Then::NoPostfix),
     row("copy_from_slice_unchecked!($of, $at, $given)", "$of[$at].copy_from_slice($given)", Then::Anything),
     row("unreachable_unchecked!()", "unreachable!()", Then::Anything),
-    // What the first statement asks for is what was given, and so is each item of an iterator.
-    row(
-        "<$more $type: AsRef<$text>$rest>($before $name: $type) $result { let $name = $name.as_ref();",
-        "<$more $rest>($before $name: &$text) $result {",
-        Then::Anything,
-    ),
-    row("<,", "<", Then::Anything),
+];
+
+/// What a loop asks of each item of an iterator is what was given. The second row is used where the first one fits.
+const EACH: &[Row] = &[
     row(
         "<$type: AsRef<$text>, $all: IntoIterator<Item = $type>>",
         "<'a, $all: IntoIterator<Item = &'a $text>>",
         Then::Anything,
     ),
     row("for $item in $all { let $item = $item.as_ref();", "for $item in $all {", Then::Anything),
-    row(",>", ">", Then::Anything),
-    row("<>", "", Then::Anything),
 ];
+
+/// What a test of `required!` may call.
+const TESTS: &[&str] = &["capacity", "from_utf8", "is_boundary", "is_ok", "len", "len_utf8"];
 
 struct Row {
     from: &'static str,
@@ -109,6 +124,7 @@ pub struct Rules {
     source: Vec<Rule>,
     both: Vec<Rule>,
     rust: Vec<Rule>,
+    each: Vec<Rule>,
 }
 
 impl Rules {
@@ -116,7 +132,7 @@ impl Rules {
         let tokens = |text| scan("a rule", text).expect("the tokens of a rule");
         let rule = |row: &Row| Rule { from: tokens(row.from), to: tokens(row.to), then: row.then };
         let rules = |rows: &[Row]| rows.iter().map(rule).collect();
-        Rules { source: rules(SOURCE), both: rules(BOTH), rust: rules(RUST) }
+        Rules { source: rules(SOURCE), both: rules(BOTH), rust: rules(RUST), each: rules(EACH) }
     }
 
     /// A source as it would stand in Rust. `pop_counted` is `pop`.
@@ -133,16 +149,18 @@ impl Rules {
 
     /// What is compared of an item of Rust.
     pub fn of_rust(&self, tokens: &[Token]) -> Vec<Token> {
-        apply_all(&self.rust, self.of_both(tokens))
+        let tokens = apply_all(&self.rust, self.of_both(tokens));
+        if is_there(&self.each[0], &tokens) { apply_all(&self.each, tokens) } else { tokens }
     }
 }
 
 fn apply_all(rules: &[Rule], tokens: Vec<Token>) -> Vec<Token> {
-    let is_there = |rule: &Rule, tokens: &[Token]| {
-        (0..tokens.len())
-            .any(|at| tokens[at] == rule.from[0] && fits(&rule.from, &tokens[at..], &mut Vec::new()).is_some())
-    };
     rules.iter().fold(tokens, |tokens, rule| if is_there(rule, &tokens) { apply(rule, &tokens) } else { tokens })
+}
+
+fn is_there(rule: &Rule, tokens: &[Token]) -> bool {
+    let is_here = |at: usize| fits(&rule.from, &tokens[at..], &mut Vec::new()).is_some();
+    (0..tokens.len()).any(|at| tokens[at] == rule.from[0] && is_here(at))
 }
 
 /// Rewrites each place that a rule fits, also inside of what its names stand for.
@@ -151,7 +169,7 @@ fn apply(rule: &Rule, tokens: &[Token]) -> Vec<Token> {
     while at < tokens.len() {
         let mut bound = Vec::new();
         let len = fits(&rule.from, &tokens[at..], &mut bound);
-        let Some(len) = len.filter(|len| allows(rule.then, tokens.get(at + len)) && bound.iter().all(has_no_effect))
+        let Some(len) = len.filter(|len| allows(rule.then, tokens.get(at + len)) && bound.iter().all(may_stand))
         else {
             made.push(tokens[at].clone());
             at += 1;
@@ -219,27 +237,35 @@ fn allows(then: Then, next: Option<&Token>) -> bool {
     }
 }
 
-/// Whether a `$fact` or a `$test`, which is left out, changes nothing: it has no assignment, no `mut`, no block and no way out. A
-/// `$fact` calls nothing.
-fn has_no_effect((name, value): &(&str, &[Token])) -> bool {
-    let compares = ["==", "!=", "<=", ">=", "..="];
-    let assigns = |token: &Token| token.text.ends_with('=') && !compares.contains(&&*token.text);
-    let changes = |token: &Token| token.is_one_of(&["mut", "{", "?", "return", "break", "continue"]);
-    let calls = value.windows(2).any(|pair| (pair[0].kind == Kind::Word || pair[0].is("!")) && pair[1].is("("));
+/// Whether a name of a row stands for what it may: see the head of this file.
+fn may_stand((name, value): &(&str, &[Token])) -> bool {
     match *name {
-        "$fact" | "$test" => {
-            !value.iter().any(|token| assigns(token) || changes(token)) && (*name == "$test" || !calls)
-        }
+        "$fact" => has_no_effect(value, &[]),
+        "$test" => has_no_effect(value, TESTS),
+        "$value" => is_chain(value) && matches!(value, [first, .., last] if !first.is("(") && last.is(")")),
         _ => true,
     }
 }
 
-/// What an `$of` or a `$value` stands for, between two tokens: in brackets, if it is no chain of names and calls, and one of the two
-/// may bind a part of it.
+/// Whether tokens only compare: no assignment, no `mut`, no block, no way out, no macro, and no call but of some names.
+fn has_no_effect(value: &[Token], names: &[&str]) -> bool {
+    let compares = ["==", "!=", "<=", ">=", "..="];
+    let assigns = |token: &Token| token.text.ends_with('=') && !compares.contains(&&*token.text);
+    let changes = |token: &Token| token.is_one_of(&["mut", "{", "?", "return", "break", "continue"]);
+    let calls = |pair: &[Token]| {
+        let is_name = pair[0].kind == Kind::Word && !pair[0].is_one_of(names);
+        let is_macro = pair[0].kind == Kind::Word && pair[1].is("!");
+        is_macro || pair[1].is("(") && (is_name || pair[0].is_one_of(&[">", ")", "]"]))
+    };
+    !value.iter().any(|token| assigns(token) || changes(token)) && !value.windows(2).any(calls)
+}
+
+/// What an `$of` stands for, between two tokens: in brackets, if it is no chain of names and calls, and one of the two may bind a
+/// part of it.
 fn operand(name: &str, value: Vec<Token>, before: Option<&Token>, next: Option<&Token>) -> Vec<Token> {
     let is_apart = before.is_none_or(|token| token.is_one_of(&["(", "[", "{", "}", ",", ";", "=", "=>", "return"]))
         && next.is_none_or(|token| token.is_one_of(&[")", "]", "}", ",", ";"]));
-    if !["$of", "$value"].contains(&name) || is_apart || is_chain(&value) {
+    if name != "$of" || is_apart || is_chain(&value) {
         return value;
     }
     let sign = |text: &str| Token { kind: Kind::Sign, text: text.into(), gap: "".into(), ..value[0].clone() };
@@ -264,24 +290,30 @@ fn is_chain(value: &[Token]) -> bool {
     true
 }
 
-/// Whether a function runs code of its caller, by its head and by that of the `impl` around it: it has a type parameter, a `dyn`, an
-/// `impl`, a `fn(..)` or a formatter.
+/// Whether an item may run code of a caller, by its tokens and by the head of the `impl` around it: a function in it has a type
+/// parameter, or it has a `dyn`, an `impl`, a `fn(..)` or a formatter, or it is a `trait` or a macro.
 pub fn runs_code(tokens: &[Token], around: &[Token]) -> bool {
-    let head = &tokens[..tokens.iter().position(|token| token.is("{")).unwrap_or(tokens.len())];
-    let is_word = |token: &Token| token.is_one_of(&["dyn", "impl", "Formatter"]);
+    let is_word = |token: &Token| token.is_one_of(&["dyn", "impl", "Formatter", "trait", "macro_rules"]);
     let is_pointer = |pair: &[Token]| pair[0].is("fn") && pair[1].is("(");
-    let has_type = |tokens: &[Token], pattern: &str| {
-        let (pattern, mut bound) = (scan("a rule", pattern).unwrap_or_default(), Vec::new());
-        let start = tokens.iter().position(|token| *token == pattern[0]).unwrap_or(tokens.len());
-        let _ = fits(&pattern, &tokens[start..], &mut bound);
-        let mut generics = bound
-            .iter()
-            .filter(|(name, _)| *name == "$generics")
-            .flat_map(|(_, value)| value.split(|token| token.is(",")));
-        generics.any(|generic| generic.first().is_some_and(|first| first.kind == Kind::Word && !first.is("const")))
+    // Behind the name of a function, or behind `impl`.
+    let has_type = |tokens: &[Token], keyword: &str, names: usize| {
+        let mut parts = (0..tokens.len()).filter(|at| tokens[*at].is(keyword));
+        parts.any(|at| generics(&tokens[(at + 1 + names).min(tokens.len())..]).any(is_type))
     };
-    head.iter().any(is_word)
-        || head.windows(2).any(is_pointer)
-        || has_type(head, "fn $name<$generics>(")
-        || has_type(around, "impl<$generics> $type")
+    tokens.iter().any(is_word)
+        || tokens.windows(2).any(is_pointer)
+        || has_type(tokens, "fn", 1)
+        || has_type(around, "impl", 0)
+}
+
+/// The first tokens of the generics that tokens begin with, up to the first `>`: no lifetime and no constant has one in it.
+fn generics(tokens: &[Token]) -> impl Iterator<Item = &Token> {
+    let has_some = tokens.first().is_some_and(|token| token.is("<"));
+    let whole = tokens.split(|token| token.is(">")).next().filter(|_| has_some).unwrap_or(&[]);
+    whole.split(|token| token.is_one_of(&["<", ","])).filter_map(|generic| generic.first())
+}
+
+/// Whether a generic that begins with a token is no lifetime and no constant. One with an attribute counts as a type.
+fn is_type(first: &Token) -> bool {
+    first.kind != Kind::Lifetime && !first.is("const")
 }
