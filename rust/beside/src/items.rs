@@ -222,7 +222,7 @@ fn words(tokens: &[Token]) -> String {
 
 /// Whether a token stands before the keyword of an item, as `const` does before `fn`.
 fn is_qualifier(token: &Token, rest: &[Token]) -> bool {
-    let is_function = rest.iter().take_while(|token| !token.is_one_of(&[":", ";"])).any(|token| token.is("fn"));
+    let is_function = rest.iter().take_while(|token| !token.is_one_of(&[":", ";", "{"])).any(|token| token.is("fn"));
     token.is("unsafe")
         || is_function && (["const", "async", "extern"].contains(&&*token.text) || token.kind == Kind::Literal)
 }

@@ -169,8 +169,7 @@ fn apply(rule: &Rule, tokens: &[Token]) -> Vec<Token> {
     while at < tokens.len() {
         let mut bound = Vec::new();
         let len = fits(&rule.from, &tokens[at..], &mut bound);
-        let Some(len) = len.filter(|len| allows(rule.then, tokens.get(at + len)) && bound.iter().all(may_stand))
-        else {
+        let Some(len) = len.filter(|len| allows(rule.then, tokens.get(at + len)) && bound.iter().all(may_stand)) else {
             made.push(tokens[at].clone());
             at += 1;
             continue;

@@ -2,8 +2,9 @@ use std::collections::BTreeMap;
 use std::path::Path;
 
 use crate::compare::{RUST, Tree, compare};
+use crate::differences::{Block, Says};
 use crate::items::{Item, items};
-use crate::lexer::scan;
+use crate::lexer::{Token, closing, scan};
 use crate::rules::Rules;
 use crate::{differences, print, read, run};
 
@@ -66,6 +67,9 @@ fn ghost_parts_go() {
         ("fn f() { prove!(g(&mut a)); }", "fn f() {}"),
         ("fn f() { prove!(self.pop()); }", "fn f() {}"),
         ("fn f() { prove!(g!(a)); }", "fn f() {}"),
+        ("fn f() { prove!(g![a]); }", "fn f() {}"),
+        ("fn f() { prove!(g::<1>(a)); }", "fn f() {}"),
+        ("fn f() { prove!((a.g)(1)); }", "fn f() {}"),
         ("fn f() { prove!(a < b?); }", "fn f() {}"),
         ("fn f() { other(self); }", "fn f() {}"),
     ]);
@@ -101,8 +105,11 @@ fn what_changes_no_result_goes() {
         ("#[inline] fn f() {}", "#[must_use] #[inline(always)] #[track_caller] #[doc(alias = \"g\")] fn f() {}"),
         ("#[cold] fn f() {}", "#[expect(clippy::cast_possible_truncation, reason = \"b\")] fn f() {}"),
         ("fn f(\n    a: u8,\n) { [1, 2,]; A { b, } }", "fn f(a: u8) { [1, 2]; A { b } }"),
-        ("use a::{b, c as d}; extern crate g; pub fn f() {}", "use e::c as d; use g as _; pub(crate) fn f() {}"),
-        ("fn f() {}", "// a\n/* /* b */ */ fn f() { /* c */ }"),
+        (
+            "use a::b; use std::c as d; extern crate g; pub fn f() {}",
+            "use core::c as d; use g as _; pub(crate) fn f() {}",
+        ),
+        ("fn f() {}", "\n// a\n/* /* b */ */ fn f() { /* c */ }"),
         ("struct A {\n    /// b\n    c: u8,\n}", "struct A { c: u8 }"),
         ("mod a;\nfn f() {}", "mod b { fn f() {} }\n#[cfg(test)] mod tests { fn g() {} }"),
     ]);
@@ -111,9 +118,14 @@ fn what_changes_no_result_goes() {
         ("fn f() {}", "#[cfg(a)] mod b { fn f() {} }"),
         ("struct A;", "#[repr(C)] struct A;"),
         ("fn f() {}", "#[expect(clippy::undocumented_unsafe_blocks, reason = \"b\")] fn f() {}"),
+        ("fn f() {}", "#[expect(clippy::cast_possible_truncation, unsafe_code, reason = \"b\")] fn f() {}"),
+        ("fn f() {}", "#[doc = \"a\"] fn f() {}"),
+        ("struct A;", "#[derive(Drop)] struct A;"),
         ("use a::b; fn f() { b() }", "use a::c as b; fn f() { b() }"),
         ("fn f() { b() }", "extern crate a as b; fn f() { b() }"),
         ("use a::d as b; fn f() { b() }", "use a::c as b; fn f() { b() }"),
+        ("use a::d::c as b; fn f() { b() }", "use a::e::c as b; fn f() { b() }"),
+        ("use a::{c as b}; fn f() { b() }", "use d::{c as b}; fn f() { b() }"),
         ("struct A { a: u8 }", "struct A { pub a: u8 }"),
         ("fn f() { 1 }", "fn f() { 1u8 }"),
         ("fn f() { a < b }", "fn f() { a <= b }"),
@@ -125,14 +137,19 @@ fn what_changes_no_result_goes() {
 fn unsafe_blocks_and_functions_go() {
     same(&[
         ("fn f() requires { a } { g() }", "unsafe fn f() { unsafe { g() } }"),
-        ("fn f() { let a = g().b + 1; h(-c) }", "fn f() { let a = unsafe { g() }.b + 1; h(unsafe { -c }) }"),
-        ("fn f() { (a + b).c() }", "fn f() { unsafe { a + b }.c() }"),
-        ("fn f() { g::<1>(a); }", "fn f() { unsafe { g::<1>(a) }; }"),
+        ("fn f() { let a = g().b + 1; h(!i) }", "fn f() { let a = unsafe { g() }.b + 1; h(!i) }"),
+        ("fn f() { (*a)[1].b(2).c() }", "fn f() { unsafe { get_unchecked!(*a, 1).b(2) }.c() }"),
+        ("fn f() { g::<1>(a); h!(b) }", "fn f() { unsafe { g::<1>(a) }; unsafe { h!(b) } }"),
         ("fn f() { unsafe { g() } }", "fn f() { unsafe { g() } }"),
     ]);
     differ(&[
-        ("fn f() { a + b.c() }", "fn f() { unsafe { a + b }.c() }"),
-        ("fn f() { a + b * c }", "fn f() { unsafe { a + b } * c }"),
+        ("fn f() { a + b(1).c() }", "fn f() { unsafe { a + b(1) }.c() }"),
+        ("fn f() { g(&mut self.a) }", "fn f() { g(&mut unsafe { self.a }) }"),
+        ("fn f() { g(&mut (self.a)) }", "fn f() { g(&mut unsafe { (self.a) }) }"),
+        ("fn f() { g(&mut (*a.b())) }", "fn f() { g(&mut unsafe { *a.b() }) }"),
+        ("fn f() { g(&mut a[1]) }", "fn f() { g(&mut unsafe { a[1] }) }"),
+        ("fn f() { a.sort() }", "fn f() { unsafe { a }.sort() }"),
+        ("fn f() { -a }", "fn f() { unsafe { -a } }"),
         ("fn f() { g(); h() }", "fn f() { unsafe { g(); h() } }"),
         ("fn f() { g() }", "fn f() { unsafe { g(); } }"),
     ]);
@@ -175,6 +192,7 @@ fn what_is_asked_once_is_what_was_given() {
             "fn f<U: AsRef<str>, I: IntoIterator<Item = U>>(all: I) { for a in all { let a = a.as_ref(); g(a) } }",
         ),
     ]);
+    differ(&[("fn f() { for a in all { g(a) } }", "fn f() { for a in all { let a = a.as_ref(); g(a) } }")]);
     differ(&[
         ("fn f(a: &str) { g(); h(a) }", "fn f<S: AsRef<str>>(a: S) { g(); let a = a.as_ref(); h(a) }"),
         ("fn f(a: &str) { h(a) }", "fn f<S: AsRef<str>>(a: S) { h(a.as_ref()) }"),
@@ -188,13 +206,47 @@ fn what_is_asked_once_is_what_was_given() {
 fn a_formatter_has_no_type_of_its_own_and_what_is_required_is_no_step() {
     same(&[
         ("fn fmt<W: fmt::Write>(f: &mut fmt::Formatter<W>) {}", "fn fmt(f: &mut fmt::Formatter<'_>) {}"),
-        ("fn f() {}", "fn f() { required!(a < b); required_of_each!(c fits d); }"),
+        ("fn f() {}", "unsafe fn f() { required!(a.len() < b); required!(str::from_utf8(c).is_ok() && (d == e)); }"),
+        ("fn f(c: u8) -> u8 { g() }", "unsafe fn f(c: u8) -> u8 { required_of_each!(c fits Self::capacity()); g() }"),
+        ("fn f(a: &str) {}", "unsafe fn f<S: AsRef<str>>(a: S) { let a = a.as_ref(); required!(a.len() < 4); }"),
     ]);
+    for test in ["{ a = b; true }", "is_ok(&mut a)", "a.pop().is_ok()", "a.pop::<1>()", "a?", "g!(a)", "(a.len)(b)(c)"]
+    {
+        differ(&[("fn f() {}", &format!("unsafe fn f() {{ required!({test}); }}"))]);
+    }
     differ(&[
-        ("fn f() {}", "fn f() { required!({ a = b; true }); }"),
-        ("fn f() {}", "fn f() { required!(g(&mut a)); }"),
-        ("fn f() {}", "fn f() { assert!(a); }"),
+        ("fn f() {}", "fn f() { required!(a); }"),
+        ("fn f() { g(); }", "unsafe fn f() { g(); required!(a); }"),
+        ("fn f() { if g { h() } }", "unsafe fn f() { if g { required!(a); h() } }"),
+        ("fn f() {}", "unsafe fn f() { assert!(a); }"),
     ]);
+}
+
+/// What only the reader of sources knows, or what would hide an item, is refused in Rust.
+#[test]
+fn what_no_file_of_rust_has_is_refused() {
+    let refused = [
+        ("unsafe extern \"C\" {} fn g() {} use a;", "no item is known that begins with `extern`"),
+        ("extern \"C\" { fn g(); }", "no item is known that begins with `extern`"),
+        ("ghost!(fn g() {});", "`ghost` is refused in Rust"),
+        ("ghost a = { b };", "`ghost` is refused in Rust"),
+        ("fn g() requires { a } {}", "`requires` is refused in Rust"),
+        ("fn g() ensures { a } {}", "`ensures` is refused in Rust"),
+        ("impl Model for A { fn g() {} }", "`Model` is refused in Rust"),
+        ("include!(\"g\");", "`include` is refused in Rust"),
+        ("#[path = \"g.rs\"] mod a;", "a module in a file of another name"),
+        ("#![cfg(windows)]", "an attribute of a whole file that is not known"),
+        ("impl A { #![cfg(windows)] fn g() {} }", "no item is known that begins with `[`"),
+        ("mod a { #![cfg(windows)] fn g() {} }", "no item is known that begins with `[`"),
+        ("fn g<T: B<{ N }>>(a: T) {}", "no item is known that begins with `>`"),
+        ("/** # Errors */ fn g() {}", "documentation that is not in lines"),
+    ];
+    for (text, words) in refused {
+        tells(&tree("", text, ""), words);
+    }
+    let known =
+        "#![doc = include_str!(\"a\")]\n//! b\n#![no_std]\n#![deny(c)]\n#![cfg_attr(docsrs, feature(doc_cfg))]\n";
+    same(&[("#![tactic(auto)]\nconst A: fn() = b; fn f() {}", &format!("{known}const A: fn() = b; fn f() {{}}"))]);
 }
 
 /// A path has the type and the trait of its impl, and no lifetime.
@@ -234,6 +286,12 @@ fn a_file_says_where_its_sources_are() {
     assert_eq!(faults(&files), "");
     files.insert(format!("{RUST}c.rs"), "// By hand: no proof stands behind this file.\nfn g() {}".to_string());
     tells(&files, "c.rs:2: `g` is by hand, and a source has this name");
+    files.insert(format!("{RUST}c.rs"), "// By hand: no proof stands behind this file.\nh! { fn g() {} }".to_string());
+    tells(&files, "c.rs:2: `h!` is by hand, and a source has this name");
+    for head in [format!("// Proved sources: {SOURCE}"), "// By hand: no proof stands behind this file.".to_string()] {
+        files.insert(format!("{RUST}c.rs"), format!("{head}\n//! a\n// Proved sources: crates/b.rt\n"));
+        tells(&files, "c.rs:1: a comment below the sources");
+    }
 }
 
 #[test]
@@ -270,11 +328,13 @@ fn each_kind_of_entry_is_used_or_fails() {
 
 /// Code of a caller may do anything, so no access stands beside it without a test.
 #[test]
-fn what_runs_a_callers_code_has_no_unsafe_block() {
+fn what_runs_a_callers_code_has_no_unsafe() {
     let body = "{ unsafe { g() } }";
     let heads = [
         "fn f<T: B>(a: T)",
         "fn f<T>(a: T)",
+        "fn f<#[a] T>(a: T)",
+        "fn f(a: [u8; { N }], b: impl B)",
         "fn f<'a, const N: usize, T: B>()",
         "fn f(a: impl B)",
         "fn f(a: &dyn B)",
@@ -283,18 +343,32 @@ fn what_runs_a_callers_code_has_no_unsafe_block() {
     ];
     for head in heads {
         let text = format!("{head} {body}");
-        tells(&tree(&text, &text, ""), "`f` runs a caller's code, and has an `unsafe` block");
+        tells(&tree(&text, &text, ""), "`f` may run a caller's code, and has an `unsafe`");
         assert_eq!(faults(&tree(&text, &text, "unsafe: f\n    why: because\n")), "");
         assert_eq!(faults(&tree(&format!("{head} {{ g() }}"), &format!("{head} {{ g() }}"), "")), "");
     }
     let around = format!("impl<T: B> A<T> {{ fn f() {body} }}");
-    tells(&tree(&around, &around, ""), "`A::f` runs a caller's code");
+    tells(&tree(&around, &around, ""), "`A::f` may run a caller's code");
+    let others = [
+        ("f", "fn f() { fn h<T>(a: T) { unsafe { g() } } }"),
+        ("f", "unsafe fn f<F: B>(a: F) { g() }"),
+        ("C", "trait C { fn h() { unsafe { g() } } }"),
+        ("_", "const _: () = { impl A { fn h<T>(a: T) { unsafe { g() } } } };"),
+        ("h!", "h! { fn i<T>(a: T) { unsafe { g() } } }"),
+        ("h", "macro_rules! h { () => { fn i<T>(a: T) { unsafe { g() } } } }"),
+        ("C", "type C = fn(u8) -> u8;"),
+        ("C", "struct C { a: Box<dyn B> }"),
+        ("C", "use core::fmt::Formatter as C;"),
+    ];
+    for (path, text) in others {
+        tells(&tree(text, text, ""), &format!("`{path}` may run a caller's code"));
+    }
     let asked = ("fn f(a: &str) { g() }", "fn f<S: AsRef<str>>(a: S) { let a = a.as_ref(); unsafe { g() } }");
     same(&[("fn f<const N: usize>(a: [u8; N]) { g() }", "fn f<const N: usize>(a: [u8; N]) { unsafe { g() } }"), asked]);
     let mut by_hand = tree("", "", "");
     let text = format!("// By hand: no proof stands behind this file.\nfn f<T: B>(a: T) {body}");
     by_hand.insert(format!("{RUST}c.rs"), text);
-    tells(&by_hand, "c.rs:2: `f` runs a caller's code");
+    tells(&by_hand, "c.rs:2: `f` may run a caller's code");
 }
 
 /// Documentation of a public call, with a contract, a first sentence and an error.
@@ -323,11 +397,19 @@ fn documentation_of_a_public_call_is_that_of_its_source() {
         (documented(contract, "Does `b`.", errors), "the documentation begins with"),
         (documented(contract, first, "Returns `Err(C)` if c."), "the errors are"),
         (documented(contract, first, &format!("{errors} Or `Err(D)`.")), "the errors are"),
+        (
+            documented(contract, first, &format!("{errors}\n///\n/// ## Errors\n///\n/// Or `Err(D)`.")),
+            "the errors are",
+        ),
         ("/// Does `a`.\npub fn f() {}".to_string(), "its documentation has no contract"),
     ];
     for (rust, words) in bad {
         tells(&tree(source, &rust, ""), words);
     }
+    tells(
+        &tree("/// A.\npub fn f() {}", "/// A.\n///\n/// # Errors\n///\n/// Fails.\npub fn f() {}", ""),
+        "the errors are",
+    );
     let short =
         "/// <summary>Contract</summary>\n/// ```text\n/// eq = { a };\n/// laws = { .. };\n/// ```\nimpl A for B {}";
     same(&[("impl A for B { ghost eq = { a }; ghost laws = { b }; }", short)]);
@@ -421,8 +503,23 @@ impl Random {
     }
 }
 
-/// A file with one token changed: left out, written twice, or written as another token of the file. Returns the line of the token, too.
-fn changed(text: &str, random: &mut Random) -> (String, String) {
+/// A file with one token changed.
+struct Changed {
+    text: String,
+    what: String,
+    /// The tokens by which a rule may know that the changed one goes.
+    near: Vec<String>,
+}
+
+/// A token, those beside it, and two before each group around it: `prove`, `!` and `(` of the `a` in `prove!(a < b)`.
+fn near(tokens: &[Token], at: usize) -> Vec<String> {
+    let around = (0..at).filter(|open| closing(tokens, *open) >= at);
+    let places = around.flat_map(|open| open.saturating_sub(2)..open).chain(at.saturating_sub(2)..=at + 1);
+    places.filter_map(|place| tokens.get(place)).map(|token| token.text.to_string()).collect()
+}
+
+/// Leaves a token out, writes it twice, or writes another one of the file.
+fn changed(text: &str, random: &mut Random) -> Changed {
     let tokens = scan("", text).expect("tokens");
     let at = loop {
         let at = random.below(tokens.len());
@@ -448,12 +545,12 @@ fn changed(text: &str, random: &mut Random) -> (String, String) {
         .iter()
         .enumerate()
         .map(|(place, token)| format!("{}{}", token.gap, if place == at { &*new } else { &*token.text }));
-    (parts.collect(), format!("`{old}` as `{new}` in `{line}`"))
+    Changed { text: parts.collect(), what: format!("`{old}` as `{new}` in `{line}`"), near: near(&tokens, at) }
 }
 
 /// What a file has by path: the tokens of its items as they are read, and as they are compared.
 fn read_items(name: &str, text: &str, rules: &Rules) -> BTreeMap<String, (Vec<String>, Vec<String>)> {
-    let text_of = |tokens: Vec<crate::lexer::Token>| tokens.into_iter().map(|token| token.text.to_string()).collect();
+    let text_of = |tokens: Vec<Token>| tokens.into_iter().map(|token| token.text.to_string()).collect();
     let ruled = |item: &Item| {
         if name.starts_with(RUST) { rules.of_rust(&item.tokens) } else { rules.of_both(&rules.as_rust(&item.tokens)) }
     };
@@ -467,29 +564,36 @@ fn read_items(name: &str, text: &str, rules: &Rules) -> BTreeMap<String, (Vec<St
 /// Changes 200 tokens of one side, one by one, and counts what is seen, and what is not: because it is in no item (a `use`, a `mod`, a
 /// visibility, a contract of a private function, a ghost item), because a rule leaves it out, or because an entry has the item on one
 /// side alone. Anything else has to be seen.
+///
+/// What a rule leaves out is asked of the same rules, and has to stand near a token that one of them names. So a rule that leaves out
+/// too much is seen by the tests of the rules above, and not here.
 fn change_tokens(is_side: fn(&str, &str) -> bool, seed: u64) -> [usize; 4] {
     let (mut tree, rules, mut random) = (repository(), Rules::new(), Random(seed));
     let names: Vec<String> =
         tree.iter().filter(|(name, text)| is_side(name, text)).map(|(name, _)| name.clone()).collect();
-    let alone = tree[differences::NAME].clone();
-    let left_out =
-        ["steps", "Steps", "#[", "prove!", "required", "look", "_counted", "Drop", "as_ref", "unchecked", "unsafe"];
+    let blocks = differences::read(&tree[differences::NAME]).expect("the file of differences");
+    let is_one_sided = |block: &&Block| [Says::OnlyInTheSource, Says::OnlyInRust].contains(&block.says);
+    let alone: Vec<&String> = blocks.iter().filter(is_one_sided).flat_map(|block| &block.paths).collect();
+    let is_named = |near: &String| {
+        let names = ["steps", "Steps", "#", "prove", "text_fits", "required", "required_of_each", "unsafe", "Drop"];
+        names.contains(&near.as_str()) || near.ends_with("_counted")
+    };
     let mut counts = [0; 4];
     for _ in 0..200 {
         let name = names[random.below(names.len())].clone();
-        let (text, what) = changed(&tree[&name], &mut random);
+        let Changed { text, what, near } = changed(&tree[&name], &mut random);
         let old = tree.insert(name.clone(), text.clone()).expect("a file");
         let kind = if compare(&tree).faults.is_empty() {
             let (before, after) = (read_items(&name, &old, &rules), read_items(&name, &text, &rules));
             let others: Vec<&String> = before.keys().filter(|path| before.get(*path) != after.get(*path)).collect();
             let is_same = others.iter().all(|path| after.get(*path).is_some_and(|(_, now)| *now == before[*path].1));
-            let is_ruled = what.starts_with("`,`") || left_out.iter().any(|word| what.contains(word));
             let is_alone = |path: &&String| {
-                alone.contains(path.split_once(' ').map_or("", |(_, path)| path)) || alone.contains(&name)
+                let path = path.split_once(' ').map_or("", |(_, path)| path).trim_end_matches("_counted");
+                alone.iter().any(|other| *other == path || **other == name)
             };
             match () {
                 () if others.is_empty() && before.len() == after.len() => 1,
-                () if is_same && is_ruled => 2,
+                () if is_same && near.iter().any(is_named) => 2,
                 () if others.iter().all(is_alone) => 3,
                 () => panic!("{name}: {what} is not seen"),
             }
@@ -529,7 +633,7 @@ fn any_text_is_read_or_refused() {
         let letters: Vec<char> = whole.chars().skip(random.below(whole.len())).take(random.below(200)).collect();
         let part: String = letters.into_iter().filter(|_| random.below(40) > 0).collect();
         let text = (0..3).fold(part, |text, _| {
-            if scan("", &text).is_ok_and(|all| all.len() > 9) { changed(&text, &mut random).0 } else { text }
+            if scan("", &text).is_ok_and(|all| all.len() > 9) { changed(&text, &mut random).text } else { text }
         });
         for item in items("a", &text).unwrap_or_default() {
             rules.of_rust(&item.tokens);
