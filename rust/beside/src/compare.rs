@@ -220,7 +220,8 @@ impl Comparison<'_> {
         let is_one = all.clone().all(|other| other.tokens == self.sources[like[0]].tokens);
         let said = all.find(|source| !source.is_counted).unwrap_or(&self.sources[like[0]]);
         let requires = said.item.contract.iter().any(|clause| clause.starts_with("requires"));
-        let is_unsafe = rust.item.tokens.windows(2).any(|pair| pair[0].is("unsafe") && pair[1].is("fn"));
+        let is_function = |part: &[Token]| part[1].is("fn") && part[2].kind == Kind::Word;
+        let is_unsafe = rust.item.tokens.windows(3).any(|part| part[0].is("unsafe") && is_function(part));
         if let Some(what) = docs::compare(&said.item, &rust.item) {
             self.fault(&rust.item, format!("`{path}`: {what}"));
         }

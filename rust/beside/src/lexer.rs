@@ -112,6 +112,9 @@ fn next(text: &str) -> Result<(Option<Kind>, usize), &'static str> {
     if let Some(len) = literal(text)? {
         return Ok((Some(Kind::Literal), len));
     }
+    if text.starts_with("r#") {
+        return Err("a raw name");
+    }
     if first == '\'' && text[1..].starts_with(is_letter) {
         return Ok((Some(Kind::Lifetime), 1 + run(&text[1..], is_inside_word)));
     }

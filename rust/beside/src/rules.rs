@@ -290,9 +290,9 @@ fn is_chain(value: &[Token]) -> bool {
 }
 
 /// Whether an item may run code of a caller, by its tokens and by the head of the `impl` around it: a function in it has a type
-/// parameter, or it has a `dyn`, an `impl`, a `fn(..)` or a formatter, or it is a `trait` or a macro.
+/// parameter, or it has a `dyn`, an `impl`, a `fn(..)`, a formatter or its arguments, or it is a `trait` or a macro.
 pub fn runs_code(tokens: &[Token], around: &[Token]) -> bool {
-    let is_word = |token: &Token| token.is_one_of(&["dyn", "impl", "Formatter", "trait", "macro_rules"]);
+    let is_word = |token: &Token| token.is_one_of(&["dyn", "impl", "Formatter", "Arguments", "trait", "macro_rules"]);
     let is_pointer = |pair: &[Token]| pair[0].is("fn") && pair[1].is("(");
     // Behind the name of a function, or behind `impl`.
     let has_type = |tokens: &[Token], keyword: &str, names: usize| {
