@@ -1,5 +1,6 @@
 //! What is made by the constructors by hand: of a text in a constant, of what a format prints, and of one character.
 
+use std::cell::Cell;
 use std::fmt;
 
 use arraystring::error::{OutOfBounds, Utf8, Utf16};
@@ -61,6 +62,32 @@ fn formats_of_each_length_are_made_whole_or_refused() {
         }
     }
     at_capacities!(at);
+}
+
+/// What a format takes is evaluated once, and printed once.
+#[test]
+fn a_format_is_printed_once() {
+    struct Counted<'a>(&'a Cell<u32>);
+    impl fmt::Display for Counted<'_> {
+        fn fmt(&self, f: &mut fmt::Formatter) -> fmt::Result {
+            self.0.set(self.0.get() + 1);
+            f.write_str("abc")
+        }
+    }
+    fn at<const N: usize>() {
+        let (printed, mut evaluated) = (Cell::new(0), 0);
+        let mut counted = || {
+            evaluated += 1;
+            Counted(&printed)
+        };
+        let made: [Result<ArrayString<N>, fmt::Error>; 2] =
+            [try_format!("{}", counted()), ArrayString::try_from_format(format_args!("{}", counted()))];
+        let cached = CacheString::try_from_format(format_args!("{}", counted()));
+        let written = ArrayString::<N>::new().try_write(format_args!("{}", counted()));
+        assert_eq!((made.map(|made| made.is_ok()), written.is_ok(), cached), ([N >= 3; 2], N >= 3, Ok("abc".into())));
+        assert_eq!((evaluated, printed.get()), (4, 4));
+    }
+    at_capacities!(at: 0 1 2 3 4 255);
 }
 
 /// Asserts what is made of a format that is a text and has no arguments: std knows such a text without printing it.

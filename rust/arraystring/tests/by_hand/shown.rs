@@ -164,9 +164,11 @@ fn parts_of_each_length() {
 fn letters_of_a_part_change_case() {
     fn at<const N: usize>() {
         for len in edges(capacity::<N>()).into_iter().filter(|len| *len <= capacity::<N>()) {
-            let text = format!("{}{}", letters(len / 2), mixed(len - len / 2, 0));
-            let string = behind::<N>((capacity::<N>() - len) / 2, &text);
-            for (start, end) in (0..=len).flat_map(|at| [(0, at), (at, len), (at / 2, at)]) {
+            let spaced = " ".repeat(len / 3) + &letters(len - len / 3 * 2) + &" ".repeat(len / 3);
+            let texts = [format!("{}{}", letters(len / 2), mixed(len - len / 2, 0)), spaced];
+            let ends = (0..=len).flat_map(|at| [(0, at), (at, len), (at / 2, at)]);
+            for (text, (start, end)) in ends.flat_map(|ends| texts.iter().map(move |text| (text, ends))) {
+                let string = behind::<N>((capacity::<N>() - len) / 2, text);
                 let (mut upper, mut lower) = (text.clone(), text.clone());
                 let Some(part) = upper.get_mut(start..end) else { continue };
                 part.make_ascii_uppercase();
