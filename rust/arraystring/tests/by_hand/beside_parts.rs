@@ -126,6 +126,8 @@ fn strings_and_drains_beside_each_other() {
         assert_eq!(signs(&behind::<8>(0, one), &behind::<8>(8, other)), wanted, "{one:?} and {other:?}");
         assert_eq!(signs(&CacheString::from(one), &CacheString::from(other)), wanted, "{one:?} and {other:?}");
         assert_eq!(signs(&drained(one), &drained(other)), wanted, "{one:?} and {other:?}");
+        is_beside!(&behind::<8>(8, one), one, other);
+        is_beside!(&CacheString::from(one), one, other);
         #[cfg(feature = "alloc")]
         {
             is_equal_to_an_owned_one!(behind::<8>(8, one), one, other);
