@@ -39,7 +39,9 @@ pub mod utils;
 
 pub use array_string::ArrayString;
 pub use cache_string::CacheString;
+#[doc(inline)]
 pub use drain::Drain;
+#[doc(inline)]
 pub use error::{Error, OutOfBounds, Utf8, Utf16};
 
 #[doc = include_str!("../TRUST.md")]

@@ -173,7 +173,6 @@ unsafe fn char_before_end(text: &str) -> (usize, char) {
 ///
 /// </details>
 #[expect(clippy::cast_possible_truncation, reason = "by the tests of `code` each is a byte of UTF-8")]
-#[inline(always)]
 pub unsafe fn encode<const N: usize>(ch: char, array: &mut [u8; N], at: usize) -> usize {
     required!(at <= N && ch.len_utf8() <= N - at);
     let code = ch as u32;

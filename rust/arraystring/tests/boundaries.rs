@@ -1,7 +1,8 @@
-//! Whether an index is a boundary, beside `str`: each index in and past a string of each size, the greatest of both too.
+//! Whether an index is a boundary, beside `str`: each index in and past a string of each size, the greatest of both too; and whether a
+//! size is within a limit, each as a number of each type.
 
-use arraystring::ArrayString;
-use arraystring::utils::is_char_boundary;
+use arraystring::utils::{is_char_boundary, is_inside_boundary};
+use arraystring::{ArrayString, OutOfBounds};
 
 /// A text of so many bytes that ends with as many of a character as fit into it.
 fn text_of(ch: char, size: usize) -> String {
@@ -36,4 +37,19 @@ fn each_index_of_each_size() {
     assert_eq!(compared, 4 * 256 * 3 * 256);
     let full = ArrayString::<255>::from(&*text_of('a', 255));
     assert_eq!((full.len(), is_char_boundary(&full, 255), is_char_boundary(&full, 254)), (255, Ok(()), Ok(())));
+}
+
+#[test]
+fn each_size_beside_each_limit() {
+    let numbers = || (0..=600).chain([65_535, 65_536, usize::MAX]);
+    for (size, limit) in numbers().flat_map(|size| numbers().map(move |limit| (size, limit))) {
+        let wanted = if size <= limit { Ok(()) } else { Err(OutOfBounds) };
+        assert_eq!(is_inside_boundary(size, limit), wanted, "{size} and {limit}");
+        if let Ok(size) = u16::try_from(size) {
+            assert_eq!(is_inside_boundary(size, limit), wanted, "{size} and {limit}");
+        }
+        if let Ok(limit) = u8::try_from(limit) {
+            assert_eq!(is_inside_boundary(size, limit), wanted, "{size} and {limit}");
+        }
+    }
 }

@@ -215,6 +215,8 @@ fn an_iterator_that_panics_leaves_what_was_taken() {
                 assert_eq!(left::<100>("é", |string| string.extend_strs(pieces())), wanted);
                 assert_eq!(left::<100>("é", |string| string.extend(chars())), wanted);
                 assert_eq!(left::<100>("é", |string| string.extend(pieces())), wanted);
+                assert_eq!(left::<100>("é", |string| _ = string.try_extend_chars(chars())), "é");
+                assert_eq!(left::<100>("é", |string| _ = string.try_extend_strs(pieces())), "é");
                 // Where nothing is left of the result, the string that was there is as it was.
                 assert_eq!(left::<100>("é", |string| *string = ArrayString::from_chars(chars())), "é");
                 assert_eq!(left::<100>("é", |string| *string = chars().collect()), "é");
@@ -433,14 +435,22 @@ fn an_iterator_panics_at_each_call_on_every_string() {
                     made += case.each(name("write!"), &left, |string| {
                         panics(|| write!(string, "{}", Written(&items[..stops])))
                     });
-                    made += case.each(name("try_write"), &(left.0, case.text.clone()), |string| {
+                    // What is appended whole or not at all leaves nothing behind, whether it panics or is refused.
+                    let none = (left.0, case.text.clone());
+                    made += case.each(name("try_write"), &none, |string| {
                         panics(|| string.try_write(format_args!("{}", Written(&items[..stops]))))
                     });
+                    made += case
+                        .each(name("try_extend_chars"), &none, |string| panics(|| string.try_extend_chars(chars())));
+                    made +=
+                        case.each(name("try_extend_strs"), &none, |string| panics(|| string.try_extend_strs(pieces())));
+                    made +=
+                        case.each(name("as_ref, whole"), &none, |string| panics(|| string.try_extend_strs(asked())));
                 }
             }
         }
         let panics: usize = texts.iter().map(|given| length(given) + 1).sum();
-        (made, 5 * total::<N>() * panics)
+        (made, 8 * total::<N>() * panics)
     }
     at_each_capacity!(added);
 }

@@ -34,7 +34,7 @@ struct Owned {
 
 /// Texts of each length to a size and some bytes more, which JSON writes as they are, and by escapes.
 fn texts(size: usize) -> Vec<String> {
-    let chars = ["", "a", "\"", "\\", "\n", "\0", "\u{7F}", "é", "€", "\u{2028}", "🤔", "🤔🤔"];
+    let chars = ["", "a", "\"", "\\", "\n", "\0", "\u{7F}", "é", "€", "\u{2028}", "\u{FEFF}", "🤔", "🤔🤔"];
     let of_length = |len| chars.iter().flat_map(move |ch| [format!("{ch}{}", "m".repeat(len)), "m".repeat(len) + ch]);
     (0..=size + 2).flat_map(of_length).collect()
 }

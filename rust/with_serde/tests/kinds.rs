@@ -1,6 +1,7 @@
 //! A format without types reads what it is asked for, and writes what it is given: here one that knows texts alone. A string asks
 //! for a `str`, takes it however it is given, and writes a `str`.
 
+use std::cell::Cell;
 use std::fmt::{Debug, Display};
 use std::str::FromStr;
 
@@ -183,6 +184,23 @@ fn a_text_is_asked_for_and_given() {
     ];
     // Each capacity has texts of so many lengths and three more, with six ends, given in six ways to two formats.
     assert_eq!(counts, [0, 1, 4, 8, 23, 63, 255, 255].map(|capacity| (capacity + 3) * 6 * 6 * 2));
+}
+
+/// A text that counts how often it was asked for.
+struct Asked(Cell<usize>);
+
+impl AsRef<str> for Asked {
+    fn as_ref(&self) -> &str {
+        self.0.set(self.0.get() + 1);
+        "aé"
+    }
+}
+
+#[test]
+fn what_is_written_is_asked_for_once() {
+    let asked = Asked(Cell::new(0));
+    let written = arraystring::cut::serialize(&asked, OnlyStr { is_human_readable: true });
+    assert_eq!((written, asked.0.get()), (Ok("aé".to_string()), 1));
 }
 
 /// What asks for anything else, or gives it, is refused by these formats: so the test above can fail.

@@ -39,8 +39,9 @@ macro_rules! makers_ask_once {
             times(&units[..], |given| _ = <$type>::try_from_utf16(given)),
             times(&units[..], |given| _ = <$type>::from_utf16(given)),
             times(&units[..], |given| _ = <$type>::from_utf16_lossy(given)),
+            times(text.as_bytes(), |given| _ = <$type>::from_utf8_lossy(given)),
         ];
-        assert_eq!(counts, [1; 9], "{text:?}");
+        assert_eq!(counts, [1; 10], "{text:?}");
         if text.len() <= $capacity {
             // SAFETY: the text fits.
             let counts = unsafe {
@@ -62,11 +63,12 @@ fn additions_ask_once<const N: usize>(before: &str, text: &str) {
         times(text, |given| { string }.push_str(given)),
         times(text, |given| _ = { string }.try_push_str(given)),
         times(text, |given| { string }.extend_strs([given])),
+        times(text, |given| _ = { string }.try_extend_strs([given])),
         times(text, |given| _ = { string }.try_insert_str(0, given)),
         times(text, |given| _ = { string }.insert_str(0, given)),
         times(text, |given| _ = { string }.replace_range(.., given)),
     ];
-    assert_eq!(counts, [1; 6], "{before:?} and {text:?}");
+    assert_eq!(counts, [1; 7], "{before:?} and {text:?}");
     if before.len() + text.len() <= N {
         // SAFETY: the text fits.
         let counts = unsafe {

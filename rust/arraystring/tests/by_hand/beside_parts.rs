@@ -1,11 +1,15 @@
 //! A string beside parts of itself, which have its address, and another length, or its end, and another start; and beside texts of
 //! each length.
 
-use arraystring::CacheString;
+#[cfg(feature = "alloc")]
+use std::borrow::Cow;
+use std::cmp::Ordering;
+
 #[cfg(feature = "alloc")]
 use arraystring::MaxString;
+use arraystring::{CacheString, Drain};
 
-use crate::inputs::{GIVEN, MOST, at_capacities, behind, capacity, is_beside, letters, mixed, some_offsets};
+use crate::inputs::{CHARS, GIVEN, MOST, at_capacities, behind, capacity, is_beside, letters, mixed, some_offsets};
 
 /// Each part of a text that has its start, its end, or its middle.
 fn parts(text: &str) -> impl Iterator<Item = (usize, usize)> {
@@ -22,6 +26,11 @@ macro_rules! beside_its_parts {
         for (start, end) in parts(text) {
             let part = &string.as_str()[start..end];
             is_beside!(string, text, part);
+            #[cfg(feature = "alloc")]
+            {
+                let cow = Cow::Borrowed(part);
+                assert_eq!([*string == cow, cow == *string], [text == part; 2], "{text:?} and {part:?}");
+            }
             count += 1;
         }
         count
@@ -82,6 +91,48 @@ fn a_string_of_each_length_beside_texts_of_each_length() {
     }
     for (len, given) in (0..=63).flat_map(|len| GIVEN.map(move |given| (len, given))) {
         is_beside!(&CacheString::from(&text[..len]), &text[..len], &text[..given]);
+    }
+}
+
+/// The answers of all signs between two values.
+fn signs<T: Ord>(one: &T, other: &T) -> ([bool; 6], Option<Ordering>, Ordering) {
+    let signs = [one == other, one != other, one < other, one <= other, one > other, one >= other];
+    (signs, one.partial_cmp(other), one.cmp(other))
+}
+
+/// What is left of a drain that takes all of a text.
+fn drained(text: &str) -> Drain<8> {
+    behind::<8>(8, text).drain(..).expect("all of it")
+}
+
+/// Asserts `==` between a string of a text and what owns or lends another one, on both sides.
+#[cfg(feature = "alloc")]
+macro_rules! is_equal_to_an_owned_one {
+    ($string:expr, $text:expr, $other:expr) => {{
+        let (string, owned, cow) = ($string, $other.to_string(), Cow::from($other));
+        let equal = [string == owned, owned == string, string == cow, cow == string];
+        let unequal = [string != owned, owned != string, string != cow, cow != string];
+        assert_eq!((equal, unequal), ([$text == $other; 4], [$text != $other; 4]), "{:?} and {owned:?}", $text);
+    }};
+}
+
+#[test]
+fn strings_and_drains_beside_each_other() {
+    let chars = || CHARS.into_iter().chain(['A']).map(String::from);
+    let pairs = chars().flat_map(|one| chars().map(move |other| one.clone() + &other));
+    let texts: Vec<String> = [String::new()].into_iter().chain(chars()).chain(pairs).collect();
+    for (one, other) in texts.iter().flat_map(|one| texts.iter().map(move |other| (&**one, &**other))) {
+        let wanted = signs(&one, &other);
+        assert_eq!(signs(&behind::<8>(0, one), &behind::<8>(8, other)), wanted, "{one:?} and {other:?}");
+        assert_eq!(signs(&CacheString::from(one), &CacheString::from(other)), wanted, "{one:?} and {other:?}");
+        assert_eq!(signs(&drained(one), &drained(other)), wanted, "{one:?} and {other:?}");
+        is_beside!(&behind::<8>(8, one), one, other);
+        is_beside!(&CacheString::from(one), one, other);
+        #[cfg(feature = "alloc")]
+        {
+            is_equal_to_an_owned_one!(behind::<8>(8, one), one, other);
+            is_equal_to_an_owned_one!(CacheString::from(one), one, other);
+        }
     }
 }
 

@@ -23,3 +23,4 @@ mod owned_texts;
 mod printing;
 mod shown;
 mod vectors;
+mod whole;

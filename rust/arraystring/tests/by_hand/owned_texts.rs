@@ -1,6 +1,8 @@
 //! What std's owned texts and paths take of a string, and a string beside a `Cow`.
 
 use std::borrow::Cow;
+use std::rc::Rc;
+use std::sync::Arc;
 #[cfg(feature = "std")]
 use std::{ffi::OsStr, path::Path};
 
@@ -19,6 +21,9 @@ macro_rules! is_copied {
             String::from_utf8(Vec::from(string)).expect("a text").into(),
         ];
         assert!(copies.iter().all(|copy| matches!(copy, Cow::Owned(copy) if copy == text)), "{text:?}");
+        let (counted, shared): (Rc<str>, Arc<str>) = (string.into(), string.into());
+        assert_eq!((&*counted, &*shared), (text, text));
+        assert_eq!((String::from(&string).as_str(), &*Vec::from(&string)), (text, text.as_bytes()));
         let lent = Cow::from(&string);
         assert!(matches!(lent, Cow::Borrowed(lent) if lent == text && lent.as_ptr() == string.as_str().as_ptr()));
         #[cfg(feature = "std")]

@@ -3,6 +3,7 @@
 use std::borrow::Borrow;
 use std::collections::{BTreeMap, HashMap};
 
+use arraystring::utf16::Units;
 use arraystring::{ArrayString, CacheString, MaxString};
 
 use crate::inputs::{at_capacities, behind, capacity, cut, edges, hash_of, letters, mixed, some_offsets, texts_of};
@@ -58,6 +59,20 @@ fn a_text_is_lent_at_each_offset() {
         }
     }
     at_capacities!(at);
+}
+
+#[test]
+fn the_capacity_is_a_constant() {
+    fn at<const N: usize>() {
+        assert_eq!(
+            (ArrayString::<N>::CAPACITY, ArrayString::<N>::capacity() as usize),
+            (capacity::<N>(), capacity::<N>())
+        );
+    }
+    at_capacities!(at);
+    assert_eq!((CacheString::CAPACITY, CacheString::capacity()), (63, 63));
+    // It is the length of an array.
+    assert_eq!(([0u8; MaxString::CAPACITY].len(), [0u8; CacheString::CAPACITY].len()), (255, 63));
 }
 
 #[test]
@@ -149,17 +164,22 @@ fn parts_of_each_length() {
 fn letters_of_a_part_change_case() {
     fn at<const N: usize>() {
         for len in edges(capacity::<N>()).into_iter().filter(|len| *len <= capacity::<N>()) {
-            let text = format!("{}{}", letters(len / 2), mixed(len - len / 2, 0));
-            let string = behind::<N>((capacity::<N>() - len) / 2, &text);
-            for (start, end) in (0..=len).flat_map(|at| [(0, at), (at, len), (at / 2, at)]) {
+            let spaced = " ".repeat(len / 3) + &letters(len - len / 3 * 2) + &" ".repeat(len / 3);
+            let texts = [format!("{}{}", letters(len / 2), mixed(len - len / 2, 0)), spaced];
+            let ends = (0..=len).flat_map(|at| [(0, at), (at, len), (at / 2, at)]);
+            for (text, (start, end)) in ends.flat_map(|ends| texts.iter().map(move |text| (text, ends))) {
+                let string = behind::<N>((capacity::<N>() - len) / 2, text);
                 let (mut upper, mut lower) = (text.clone(), text.clone());
                 let Some(part) = upper.get_mut(start..end) else { continue };
                 part.make_ascii_uppercase();
                 lower[start..end].make_ascii_lowercase();
                 let (mut one, mut other) = (string, string);
+                let places = [one.as_str().as_ptr(), other.as_str().as_ptr()];
                 one.make_ascii_uppercase_in(start as u8..end as u8);
                 other.make_ascii_lowercase_in(start as u8..end as u8);
                 assert_eq!((one.as_str(), other.as_str()), (&*upper, &*lower), "{N} {start} {end}");
+                // Nothing moves.
+                assert_eq!([one.as_str().as_ptr(), other.as_str().as_ptr()], places, "{N} {start} {end}");
             }
         }
     }
@@ -178,5 +198,17 @@ fn what_a_drain_shows() {
             assert_eq!((hash_of(&drain), drain.size_hint()), (hash_of(left), left.chars().size_hint()));
             assert_eq!(drain.collect::<String>(), left);
         }
+    }
+}
+
+/// Units may be more than a byte counts. Each item takes one or two of them.
+#[test]
+fn what_units_tell_of_their_number() {
+    let units: Vec<u16> = mixed(1000, 0).encode_utf16().chain([0xD800, 0xDC00, 0xDC00]).collect();
+    for start in 0..=units.len() {
+        let rest = Units::new(&units[start..]);
+        let (len, count) = (units.len() - start, rest.clone().count());
+        assert_eq!(rest.size_hint(), (len.div_ceil(2), Some(len)));
+        assert!(len.div_ceil(2) <= count && count <= len, "{count} of {len}");
     }
 }

@@ -27,9 +27,23 @@ pub const MOST: usize = 255;
 /// The lengths of what is given: to more than twice what any string takes.
 pub const GIVEN: std::ops::RangeInclusive<usize> = 0..=520;
 
-/// Characters of each width, the least and the greatest of each, and some between.
-pub const CHARS: [char; 11] =
-    ['\0', 'a', 'b', '\u{7F}', '\u{80}', 'é', '\u{7FF}', '\u{800}', '\u{FFFF}', '\u{10000}', '\u{10FFFF}'];
+/// Characters of each width, the least and the greatest of each, and some between: among them white space, and the mark that some
+/// programs drop in front of a text.
+pub const CHARS: [char; 13] = [
+    '\0',
+    'a',
+    ' ',
+    'b',
+    '\u{7F}',
+    '\u{80}',
+    'é',
+    '\u{7FF}',
+    '\u{800}',
+    '\u{FEFF}',
+    '\u{FFFF}',
+    '\u{10000}',
+    '\u{10FFFF}',
+];
 
 /// How many bytes a string of a capacity takes.
 pub fn capacity<const N: usize>() -> usize {

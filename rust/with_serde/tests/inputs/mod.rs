@@ -12,7 +12,8 @@ pub fn cut(text: &str, size: usize) -> &str {
 
 /// Texts of so many bytes: of letters, and of characters of one to four bytes that begin at some place of the list.
 pub fn texts_of(len: usize) -> [String; 3] {
-    const CHARS: [char; 7] = ['🤔', 'é', '\0', '€', '"', '\u{80}', 'a'];
+    // (among them white space, and the mark that some programs drop in front of a text)
+    const CHARS: [char; 9] = ['🤔', 'é', '\0', '€', '\u{FEFF}', '"', '\u{80}', ' ', 'a'];
     let mixed = |first: usize| {
         let mut text = String::new();
         for ch in CHARS.iter().cycle().skip(first) {
