@@ -280,7 +280,7 @@ fn what_was_a_fault() {
 }
 
 /// The columns of the table of what compiles and does something else.
-const SILENT: &str = "| Code | arrayvec | heapless, read only | `String` | Here | To have it as there |";
+const SILENT: &str = "| Code | arrayvec | heapless, not run | `String` | Here | What does here what it does there |";
 const STRING: usize = 2;
 const HERE: usize = 3;
 const INSTEAD: usize = 4;
@@ -293,12 +293,14 @@ fn what_a_string_of_std_leaves() {
     let [mut s, t] = [Name::from("ab"), "m".repeat(150)];
     leaves!(table, STRING, s.push_str("cde"), |()| s.clone());
     leaves!(table, STRING, Name::try_from("abcde"), made);
+    leaves!(table, STRING, Name::from("abcde"), |name| name);
     leaves!(table, STRING, Name::from_utf8(b"abcde".to_vec()), made);
     leaves!(table, STRING, "abcde".chars().collect::<Name>(), |collected| collected);
     s = Name::from("ab");
     leaves!(table, STRING, s += "cde", |()| s.clone());
     s = Name::from("ab");
     leaves!(table, STRING, format!("{s:_>4}"), |printed| printed);
+    leaves!(table, STRING, format!("{s:.1}"), |printed| printed);
     leaves!(table, STRING, format!("{s:?}"), |printed| printed);
     leaves!(table, STRING, format!("{:?}", s.remove(0)), |printed| printed);
     leaves!(table, STRING, t.len() + t.len(), |sum| sum);
@@ -323,6 +325,8 @@ fn what_the_same_code_leaves_here() -> Result<(), Error> {
     assert_eq!((written!(row, INSTEAD, s.try_push_str("cde")), s.as_str()), (Err(OutOfBounds), "ab"));
     let row = leaves!(table, HERE, Name::try_from("abcde"), made);
     assert_eq!(written!(row, INSTEAD, Name::try_from_str("abcde")), Err(OutOfBounds));
+    let row = leaves!(table, HERE, Name::from("abcde"), |name| name);
+    assert_eq!(written!(row, INSTEAD, Name::try_from_str("abcde")), Err(OutOfBounds));
     let row = leaves!(table, HERE, Name::from_utf8(b"abcde".to_vec()), made);
     assert_eq!(written!(row, INSTEAD, Name::try_from_utf8(b"abcde")), Err(Error::OutOfBounds));
     let row = leaves!(table, HERE, "abcde".chars().collect::<Name>(), |collected| collected);
@@ -332,6 +336,8 @@ fn what_the_same_code_leaves_here() -> Result<(), Error> {
     assert_eq!((written!(row, INSTEAD, s.try_push_str("cde")), s.as_str()), (Err(OutOfBounds), "ab"));
     let row = leaves!(table, HERE, format!("{s:_>4}"), |printed| printed);
     assert_eq!(written!(row, INSTEAD, format!("{:_>4}", s.as_str())), "__ab");
+    let row = leaves!(table, HERE, format!("{s:.1}"), |printed| printed);
+    assert_eq!(written!(row, INSTEAD, format!("{:.1}", s.as_str())), "a");
     let row = leaves!(table, HERE, format!("{s:?}"), |printed| printed);
     assert_eq!(written!(row, INSTEAD, format!("{:?}", s.as_str())), "\"ab\"");
     let row = leaves!(table, HERE, format!("{:?}", s.remove(0)), |printed| printed);
@@ -465,8 +471,15 @@ fn what_does_not_compile_is_written_in_another_way() -> Result<(), Box<dyn std::
     assert!(!written!(table.row("s.len() == at"), WRITTEN, usize::from(s.len()) == at));
     let t = ArrayString::<8>::from("ab");
     assert!(written!(table.row("s == t"), WRITTEN, s.as_str() == t.as_str()));
+    assert!(written!(table.row("*\"n\" < s"), WRITTEN, *"n" < *s) == ("n" < "ab"));
+    assert_eq!(written!(table.row("s.get(at..)"), WRITTEN, s.as_str().get(at..)), Some("b"));
     assert_eq!(written!(table.row("&s[at..]"), WRITTEN, &s.as_str()[at..]), "b");
-    written!(table.row("s.truncate(at)"), WRITTEN, s.truncate(u8::try_from(at)?)?);
+    let (row, mut long) = (table.row("s.truncate(at)"), String::from("ab"));
+    for at in [300, 2, 1] {
+        long.truncate(at);
+        written!(row, WRITTEN, s.truncate(u8::try_from(at).unwrap_or(u8::MAX))?);
+        assert_eq!(s, long.as_str());
+    }
     assert_eq!((s.as_str(), Name::from("é").truncate(1)), ("a", Err(Utf8)));
     assert!(written!(table.row("s.remove(0) == 'a'"), WRITTEN, s.remove(0)? == 'a'));
     s = Name::from("ab");
@@ -476,11 +489,14 @@ fn what_does_not_compile_is_written_in_another_way() -> Result<(), Box<dyn std::
     assert_eq!((s.insert_str(1, "cde"), s.as_str()), (Ok(()), "acdb"));
     s = Name::from("ab");
     written!(table.row("s.insert_str(1, \"c\")"), WRITTEN, s.try_insert_str(1, "c")?);
+    s = Name::from("ab");
+    written!(table.row("s.replace_range(..1, \"c\")"), WRITTEN, s.replace_range(..1, "c")?);
+    assert_eq!((written!(table.row("s.split_off(1)"), WRITTEN, s.split_off(1)?).as_str(), s.as_str()), ("b", "c"));
     s = Name::from(" ab ");
     assert!(written!(table.row("s.trim() == \"ab\""), WRITTEN, s.as_str().trim() == "ab"));
     s.trim();
     assert_eq!(s, "ab");
-    assert_eq!(written!(table.row("s.into_bytes()"), WRITTEN, s.as_bytes().to_vec()), b"ab");
+    assert_eq!(written!(table.row("s.into_bytes()"), WRITTEN, s.as_bytes()), b"ab");
     // SAFETY: the bytes are looked at, and stay as they are.
     assert_eq!(written!(table.row("unsafe { s.as_mut_vec() }"), WRITTEN, unsafe { s.as_bytes_mut() }), b"ab");
     table.assert_all_met();
@@ -494,6 +510,8 @@ fn makes_are_written_in_another_way(table: &mut Table, at: usize) -> Result<(), 
     let row = table.row("Name::from(\"ab\").unwrap()");
     assert_eq!(written!(row, WRITTEN, Name::try_from_str("ab").unwrap()), "ab");
     assert_eq!(written!(table.row("Name::from(text)"), WRITTEN, Name::try_from_str(&text)?), "ab");
+    assert_eq!(written!(table.row("Name::new_const()"), WRITTEN, Name::new()), "");
+    assert_eq!(written!(table.row("Name::with_capacity(at)"), WRITTEN, Name::new()), "");
     let row = table.row("Name::from_byte_string(b\"abcd\")");
     assert_eq!(written!(row, WRITTEN, Name::try_from_utf8(b"abcd")?), "abcd");
     let row = table.row("Name::try_from(format_args!(\"{at}\"))");

@@ -49,11 +49,13 @@ impl Elsewhere for Name {}
 
 #[test]
 fn what_compiles_in_both_leaves_another_text() {
-    let mut table = Table::below("| Code | arrayvec | heapless, read only | `String` | Here | To have it as there |");
+    let mut table =
+        Table::below("| Code | arrayvec | heapless, not run | `String` | Here | What does here what it does there |");
     let t = ArrayString::<200>::from(&"m".repeat(150)).expect("it fits");
     let mut s = Name::from("ab").expect("it fits");
     leaves!(table, ARRAYVEC, s.push_str("cde"), |()| s);
     leaves!(table, ARRAYVEC, Name::try_from("abcde"), made);
+    leaves!(table, ARRAYVEC, Name::from("abcde"), made);
     assert_eq!(Name::from_utf8(b"abcde".to_vec()), Absent);
     table.row("Name::from_utf8(b\"abcde\".to_vec())").says(ARRAYVEC, "none");
     assert_eq!((Collected::<String>::IS_THERE, Collected::<Name>::IS_THERE), (true, false));
@@ -62,6 +64,7 @@ fn what_compiles_in_both_leaves_another_text() {
     table.row("s += \"cde\"").says(ARRAYVEC, "none");
     s = Name::from("ab").expect("it fits");
     leaves!(table, ARRAYVEC, format!("{s:_>4}"), |printed| printed);
+    leaves!(table, ARRAYVEC, format!("{s:.1}"), |printed| printed);
     leaves!(table, ARRAYVEC, format!("{s:?}"), |printed| printed);
     leaves!(table, ARRAYVEC, format!("{:?}", s.remove(0)), |printed| printed);
     leaves!(table, ARRAYVEC, t.len() + t.len(), |sum| sum);
@@ -89,6 +92,8 @@ fn what_does_not_compile_beside_it_compiles_here() {
     let () = s.push_str("c");
     s = is_of!(table, "arrayvec", Name::from("ab").unwrap());
     table.row("Name::from(text)").says(0, "String");
+    assert_eq!(is_of!(table, "arrayvec", Name::new_const()).as_str(), "");
+    table.row("Name::with_capacity(at)").says(0, "String");
     assert_eq!(is_of!(table, "arrayvec", Name::from_byte_string(b"abcd")).as_deref(), Ok("abcd"));
     assert_eq!(is_of!(table, "arrayvec", Name::try_from(format_args!("{at}"))).as_deref(), Ok("1"));
     table.row("Name::try_from(7)").says(0, "heapless");
@@ -96,6 +101,8 @@ fn what_does_not_compile_beside_it_compiles_here() {
     assert!(!is_of!(table, "arrayvec", s.remaining_capacity() == at));
     assert!(!is_of!(table, "all three", s.len() == at));
     table.row("s == t").says(0, "heapless");
+    assert!(!is_of!(table, "arrayvec", *"n" < s));
+    assert_eq!(is_of!(table, "all three", s.get(at..)), Some("b"));
     assert_eq!(is_of!(table, "all three", &s[at..]), "b");
     is_of!(table, "all three", s.truncate(at));
     let mut wide = Name::from("é").expect("it fits");
@@ -109,6 +116,8 @@ fn what_does_not_compile_beside_it_compiles_here() {
     assert!(is_of!(table, "all three", s.remove(0) == 'a'));
     table.row("s.drain(..at).collect::<String>()").says(0, "String");
     table.row("s.insert_str(1, \"c\")").says(0, "String");
+    table.row("s.replace_range(..1, \"c\")").says(0, "String");
+    table.row("s.split_off(1)").says(0, "String");
     s = Name::from(" ab ").expect("it fits");
     assert!(is_of!(table, "all three", s.trim() == "ab"));
     table.row("s.into_bytes()").says(0, "heapless, `String`");
