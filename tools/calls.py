@@ -1,7 +1,7 @@
 """Fails where a call has no test, or does not stand on the page that lists the calls.
 
 Each public call of `ArrayString` is made by a test of `arraystring_tests`, and stands in CALLING.md. What ends in `_counted` needs no
-row there, since one sentence of that page speaks of all of them. Each law that a caller calls is called by a test. Each command of a
+row there, since one sentence of that page speaks of all of them. The list there has no call that is gone. Each law that a caller calls is called by a test. Each command of a
 script stands on the page of commands. A comment is no test, nor are the files that make the calls of a table: a row has to.
 """
 import re
@@ -12,6 +12,8 @@ from repository import inline_code, read, section
 MAKERS = ("call_list.rt", "calls.rt")
 TESTS = "crates/arraystring_tests/src/tests"
 CALLING, SCRIPTS = "crates/arraystring/CALLING.md", "docs/scripts.md"
+# Which the list of calls has from std.
+OF_STD = {"into"}
 
 
 def names_in(root, form, *files):
@@ -32,5 +34,7 @@ def main(arguments, root):
     faults = [f"{path}: {name} does not stand in {place}"
               for names, place, has in ((calls, TESTS, tested), (calls, CALLING, listed), (laws, TESTS, tested), (commands, SCRIPTS, rows))
               for name, path in names.items() if name not in has]
+    functions = names_in(root, r"\bfn (\w+)", "crates/*/src/**/*.rt")
+    faults += [f"{CALLING}: no source has {name}" for name in sorted(listed - set(functions) - OF_STD)]
     print("\n".join(faults) or f"{len(calls)} calls, {len(laws)} laws and {len(commands)} commands have a test or a row")
     return bool(faults) or not (calls and laws and commands)

@@ -5,7 +5,7 @@ from planted import TreeTest
 STRING = "crates/arraystring_core/src/array_string"
 CALL = "impl<const N: usize> ArrayString<N> {{\n    /// It is so.\n    pub fn {}(&self) {{\n    }}\n\n    fn hidden(&self) {{\n    }}\n}}\n"
 LINE, END = "crates/arraystring_run/src/line.rt", r"\Z"
-COMMANDS = 'match word {\n    "pop" => Command::Pop,\n    "len" | "size" => Command::Len,\n    "get" if two => Command::Get,\n    _ => "none",\n}\n'
+COMMANDS = 'match word {\n    "pop" => Command::Pop,\n    "len" | "size" => Command::Len,\n    "get" if two => Command::Get,\n    _ => "none",\n}\n\nfn size() {\n}\n'
 
 
 class Calls(TreeTest):
@@ -33,6 +33,7 @@ class Calls(TreeTest):
             (f"{STRING}/trim.rt: trim {tests}\n{STRING}/trim.rt: trim {page}\n", trim),
             (f"{STRING}/trim.rt: trim {page}\n", trim, row),
             (f"{STRING}/remove.rt: pop {page}", (calls.CALLING, r"`pop\(\)`", "`pop`")),
+            (f"{calls.CALLING}: no source has trim\n", (calls.CALLING, r"`len\(\)`", "`len()`, `into()`, `trim()`")),
             (f"pop_counted {tests}", (f"{calls.TESTS}/remove.rt", " pop_counted", "")),
             # (what makes the calls of tables makes each, and a comment makes none)
             (f"pop {tests}", (f"{calls.TESTS}/remove.rt", "pop ", ""), (f"{calls.TESTS}/calls.rt", "pop()\n")),

@@ -22,6 +22,9 @@ const OFF_THE_PAGE: &[(&str, &str)] = &[
     ("serialize", "the page has `with = \"arraystring::cut\"`, which calls it"),
 ];
 
+/// What else the list of calls names.
+const OTHER_WORDS: &[&str] = &["checked", "const", "split_at_mut", "str", "unsafe", "utf16", "utils"];
+
 /// The texts of the files below a folder.
 fn texts(folder: &Path) -> Vec<String> {
     let entries = fs::read_dir(folder).expect("a folder").map(|entry| entry.expect("an entry").path());
@@ -58,9 +61,20 @@ fn each_public_call_is_tried_and_stands_on_the_page() {
     let folders = ["tests/every_state", "tests/tables"].map(Path::new).into_iter().filter(|folder| folder.exists());
     let tests: Vec<_> = folders.flat_map(texts).collect();
     let tried = tests.iter().flat_map(|text| words(text)).collect();
-    assert_eq!(lacking(&calls, &tried, TRIED_ELSEWHERE), [""; 0], "no test tries these, or their entry fits nothing");
+    assert_eq!(
+        lacking(&calls, &tried, TRIED_ELSEWHERE),
+        [""; 0],
+        "neither tests/every_state nor tests/tables makes these, or their entry fits nothing"
+    );
     let page = fs::read_to_string("README.md").expect("a text");
     assert!(page.contains("The `.._unchecked` calls are `unsafe`."), "so the page has these, too");
     let named = words(&page).chain(calls.iter().copied().filter(|call| call.ends_with("_unchecked"))).collect();
     assert_eq!(lacking(&calls, &named, OFF_THE_PAGE), [""; 0], "the page lacks these, or their entry fits nothing");
+    let (_, list) = page.split_once("\n## The calls\n").expect("a list of calls");
+    let (list, _) = list.split_once("\n## ").expect("another part");
+    let rows = list.lines().filter(|line| line.starts_with(['-', ' ']));
+    let is_name = |code: &&str| code.chars().all(|ch| ch.is_ascii_lowercase() || ch.is_ascii_digit() || ch == '_');
+    let listed: BTreeSet<_> = rows.flat_map(|row| row.split('`').skip(1).step_by(2)).filter(is_name).collect();
+    let others = listed.iter().copied().filter(|code| !calls.contains(code));
+    assert_eq!(others.collect::<Vec<_>>(), OTHER_WORDS, "the page has these, and no source");
 }

@@ -246,7 +246,8 @@ fn in_range<const N: usize>(text: &mut ArrayString<N>, call: &str, row: &str) ->
         while range.next().is_some() {}
         return of_range(text, call, row, range);
     }
-    let (start, end) = written.split_once("..").unwrap_or_else(|| panic!("no range in {row}"));
+    let (start, end) =
+        written.split_once("..").unwrap_or_else(|| panic!("nothing makes the call of {row}, or its range is none"));
     if written.starts_with(['~', '(', '[']) {
         return of_range(text, call, row, Untold(bound(start), bound(end)));
     }
