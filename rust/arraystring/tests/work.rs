@@ -163,7 +163,8 @@ fn removed<const N: usize>() {
         let none = |place: usize, name: &str, edit: Edit<N>| edited(&string, place, 0..0, name, edit);
         none(offset, "pop", &|string| _ = string.pop());
         none(offset, "clear", &|string| string.clear());
-        let leading = |trimmed: &str| offset + len - trimmed.len();
+        // (what is at the end goes first, and of white space alone nothing is left to go at the front)
+        let leading = |trimmed: &str| if trimmed.is_empty() { offset } else { offset + len - trimmed.len() };
         none(leading(string.as_str().trim_start()), "trim", &|string| string.trim());
         none(leading(string.as_str().trim_start_matches(' ')), "trim_spaces", &|string| string.trim_spaces());
         let boundaries = boundaries(&string);
