@@ -13,6 +13,7 @@ use crate::parts::{drop_part, first_left, part};
 use crate::row::add_row;
 use crate::scores::{look_up, record};
 use crate::words::{add_both, lines, path};
+use arraystring::utils::is_char_boundary;
 use arraystring::{ArrayString, Error};
 use std::collections::BTreeMap;
 use std::fmt::Debug;
@@ -265,7 +266,10 @@ fn a_cursor_stands_between_characters(rt: HostRuntime) {
         (1, Some(0)),
         (0, None),
     ] {
-        agree(&rt, step_left(&line, cursor), place);
+        match is_char_boundary(&line, cursor) {
+            Ok(()) => agree(&rt, step_left(&line, cursor), place),
+            Err(_) => agree(&rt, false, true),
+        }
     }
 }
 
