@@ -29,8 +29,8 @@ from repository import closed, crates, public_types, read, sources
 
 # Only tests call test_support, and memory_tests is one: what is wrong there its own tests and theirs see, or `tools/run refused`.
 FOR_TESTS = {"test_support", "memory_tests"}
-# They borrow what they speak of, so that the prover has the fact. Without the borrow they are as true.
-LAWS_THAT_BORROW = {"text_fits", "text_spelled", "left_fits"}
+# They borrow what they speak of, or call it, so that the prover has the fact. Without that they are as true.
+LAWS_THAT_BORROW = {"text_fits", "text_spelled", "left_fits", "keys_ascend"}
 # What the prover says before the values at which a goal is false; the log cuts it off somewhere behind.
 VALUES = "the goal does not follow from what it read. All of"
 # (what is refused only because a name is gone is told in other words, and is no evidence)
