@@ -20,25 +20,11 @@ mod traits;
 
 /// A string of at most 63 bytes of UTF-8, under a name of its own. Its field `0` is an
 /// `ArrayString<63>`. Calls that a `CacheString` lacks are called on this field.
-///
-/// # Examples
-///
-/// ```
-/// let mut key = CacheString::try_from_str("user:").unwrap();
-/// key.0.push_str("42");
-/// assert_eq!(key.0.as_str(), "user:42");
-/// ```
 #[derive(Clone, Copy, Debug)]
 pub struct CacheString(pub ArrayString<63>);
 
 impl CacheString {
     /// Returns an empty string.
-    ///
-    /// # Examples
-    ///
-    /// ```
-    /// assert!(CacheString::new().0.is_empty());
-    /// ```
     pub const fn new() -> Self
         ensures { result.0.text ≡ [] }
     {
@@ -46,12 +32,6 @@ impl CacheString {
     }
 
     /// Returns the capacity in bytes: 63.
-    ///
-    /// # Examples
-    ///
-    /// ```
-    /// assert_eq!(CacheString::capacity(), 63);
-    /// ```
     pub const fn capacity() -> u8
         ensures { result ≡ 63 }
     {
@@ -63,13 +43,6 @@ impl CacheString {
     /// # Errors
     ///
     /// Returns `Err(OutOfBounds)` if `string` is larger than the capacity.
-    ///
-    /// # Examples
-    ///
-    /// ```
-    /// assert_eq!(CacheString::try_from_str("user:42").map(|key| key.0.len()), Ok(7));
-    /// assert_eq!(CacheString::try_from_str(&"m".repeat(64)), Err(OutOfBounds));
-    /// ```
     pub fn try_from_str(string: &str) -> Result<Self, OutOfBounds>
         ensures { IsWholeOrRefused (chars string.now) 63 (from_out_of_bounds (held result)) }
     {
@@ -78,13 +51,6 @@ impl CacheString {
 
     /// Creates a string from the longest prefix of whole characters of `string` that fits.
     /// `try_from_str` refuses what does not fit.
-    ///
-    /// # Examples
-    ///
-    /// ```
-    /// assert_eq!(CacheString::from_str_truncate("user:42").0.as_str(), "user:42");
-    /// assert_eq!(CacheString::from_str_truncate(&"é".repeat(32)).0.as_str(), "é".repeat(31));
-    /// ```
     pub fn from_str_truncate(string: &str) -> Self
         ensures { result.0.text ≡ cut (chars string.now) 63 }
     {
@@ -112,13 +78,6 @@ impl CacheString {
     /// # Precondition
     ///
     /// The iterator must end, and until then the precondition of its `next` must hold.
-    ///
-    /// # Examples
-    ///
-    /// ```
-    /// assert_eq!(CacheString::try_from_iterator(["user:", "42"]).map(|key| key.0.len()), Ok(7));
-    /// assert_eq!(CacheString::try_from_iterator(["é"; 32]), Err(OutOfBounds));
-    /// ```
     pub fn try_from_iterator<'a, I: IntoIterator<Item = &'a str> + Drop>(
         pieces: I,
     ) -> Result<Self, OutOfBounds>
@@ -138,13 +97,6 @@ impl CacheString {
     /// # Precondition
     ///
     /// The iterator must end, and until then the precondition of its `next` must hold.
-    ///
-    /// # Examples
-    ///
-    /// ```
-    /// assert_eq!(CacheString::from_iterator(["user", ":", "42"]).0.as_str(), "user:42");
-    /// assert_eq!(CacheString::from_iterator(["é"; 32]).0.len(), 62);
-    /// ```
     pub fn from_iterator<'a, I: IntoIterator<Item = &'a str> + Drop>(pieces: I) -> Self
         requires { IsFiniteIterable I.into_iter_gives I.IntoIter.can_next I.IntoIter.remaining pieces }
         ensures taken { (taken : List (Bor (List ℕ)))
@@ -182,13 +134,6 @@ impl CacheString {
     /// # Precondition
     ///
     /// The iterator must end, and until then the precondition of its `next` must hold.
-    ///
-    /// # Examples
-    ///
-    /// ```
-    /// assert_eq!(CacheString::try_from_chars('a'..='c').map(|key| key.0.len()), Ok(3));
-    /// assert_eq!(CacheString::try_from_chars("é".repeat(32).chars()), Err(OutOfBounds));
-    /// ```
     pub fn try_from_chars<I: IntoIterator<Item = char> + Drop>(
         characters: I,
     ) -> Result<Self, OutOfBounds>
@@ -207,13 +152,6 @@ impl CacheString {
     /// # Precondition
     ///
     /// The iterator must end, and until then the precondition of its `next` must hold.
-    ///
-    /// # Examples
-    ///
-    /// ```
-    /// assert_eq!(CacheString::from_chars('a'..='c').0.as_str(), "abc");
-    /// assert_eq!(CacheString::from_chars("é".repeat(32).chars()).0.len(), 62);
-    /// ```
     pub fn from_chars<I: IntoIterator<Item = char> + Drop>(characters: I) -> Self
         requires { IsFiniteIterable I.into_iter_gives I.IntoIter.can_next I.IntoIter.remaining characters }
         ensures taken { (taken : List ℕ) × Takes I.into_iter_gives I.IntoIter.next_gives (λ cs. cs) characters 63 taken
@@ -250,14 +188,6 @@ impl CacheString {
     /// - `Err(Error::Utf8)` if `given` is not well-formed UTF-8 (the Unicode Standard, section
     ///   3.9);
     /// - `Err(Error::OutOfBounds)` if the text is larger than the capacity.
-    ///
-    /// # Examples
-    ///
-    /// ```
-    /// assert_eq!(CacheString::try_from_utf8(b"user:42").map(|key| key.0.len()), Ok(7));
-    /// assert_eq!(CacheString::try_from_utf8(b"user:\xFF"), Err(Error::Utf8));
-    /// assert_eq!(CacheString::try_from_utf8(&[b'm'; 64]), Err(Error::OutOfBounds));
-    /// ```
     pub fn try_from_utf8(given: &[u8]) -> Result<Self, Error>
         ensures malformed { ¬ (IsWellFormed given.now) → held result ≡ Err error.Utf8 }
         ensures whole { (t : List ℕ) → IsText t → bytes t ≡ given.now → IsWholeOrRefused t 63 (held result) }
@@ -274,13 +204,6 @@ impl CacheString {
     ///
     /// Returns `Err(Utf8)` if `given` is not well-formed UTF-8 (the Unicode Standard, section
     /// 3.9), even if only bytes that would be cut off are malformed.
-    ///
-    /// # Examples
-    ///
-    /// ```
-    /// assert_eq!(CacheString::from_utf8(&[b'm'; 64]).map(|key| key.0.len()), Ok(63));
-    /// assert_eq!(CacheString::from_utf8(b"user:\xFF"), Err(Utf8));
-    /// ```
     pub fn from_utf8(given: &[u8]) -> Result<Self, Utf8>
         ensures well_formed { IsOk result ↔ IsWellFormed given.now }
         ensures cut { (t : List ℕ) → IsText t → bytes t ≡ given.now → IfOk result (λ made. made.0.text ≡ cut t 63) }
@@ -313,14 +236,6 @@ impl CacheString {
     ///
     /// - `Err(Error::Utf16)` if it is a lone surrogate;
     /// - `Err(Error::OutOfBounds)` if it is a character that does not fit.
-    ///
-    /// # Examples
-    ///
-    /// ```
-    /// assert_eq!(CacheString::try_from_utf16(&[0x61, 0xE9]).map(|key| key.0.len()), Ok(3));
-    /// assert_eq!(CacheString::try_from_utf16(&[0x61, 0xD83E]), Err(Error::Utf16)); // half a pair
-    /// assert_eq!(CacheString::try_from_utf16(&[0x61; 64]), Err(Error::OutOfBounds));
-    /// ```
     pub fn try_from_utf16(units: &[u16]) -> Result<Self, Error>
         ensures { (items : List Unit16) → IsReading units.now items → GivesWhole (first_stop items 63) (held result) }
     {
@@ -335,13 +250,6 @@ impl CacheString {
     ///
     /// Returns `Err(Utf16)` if a lone surrogate comes right after that prefix, even if the string
     /// is full.
-    ///
-    /// # Examples
-    ///
-    /// ```
-    /// assert_eq!(CacheString::from_utf16(&[0x61; 64]).map(|key| key.0.len()), Ok(63));
-    /// assert_eq!(CacheString::from_utf16(&[0x61, 0xD83E]), Err(Utf16)); // half a pair
-    /// ```
     pub fn from_utf16(units: &[u16]) -> Result<Self, Utf16>
         ensures { (items : List Unit16) → IsReading units.now items → GivesPrefix (first_stop items 63) (held result) }
     {
@@ -350,13 +258,6 @@ impl CacheString {
 
     /// Creates a string from the longest prefix of the characters of `units` that fits. Each lone
     /// surrogate is read as U+FFFD, which takes three bytes.
-    ///
-    /// # Examples
-    ///
-    /// ```
-    /// assert_eq!(CacheString::from_utf16_lossy(&[0x61, 0xD83E]).0.as_str(), "a\u{FFFD}");
-    /// assert_eq!(CacheString::from_utf16_lossy(&[0x61; 64]).0.len(), 63);
-    /// ```
     pub fn from_utf16_lossy(units: &[u16]) -> Self
         ensures { (items : List Unit16) → IsReading units.now items → result.0.text ≡ cut (lossy_text items) 63 }
     {
@@ -372,16 +273,6 @@ impl CacheString {
     ///
     /// - `Err(Error::OutOfBounds)` if `at` is past the text;
     /// - `Err(Error::Utf8)` if `at` is inside a character.
-    ///
-    /// # Examples
-    ///
-    /// ```
-    /// let mut key = CacheString::from_str_truncate("user:é");
-    /// assert_eq!(key.split_off(9), Err(Error::OutOfBounds)); // past the text
-    /// assert_eq!(key.split_off(6), Err(Error::Utf8)); // inside `é`
-    /// assert_eq!(key.split_off(5).map(|rest| rest.0.len()), Ok(2));
-    /// assert_eq!(key.0.as_str(), "user:");
-    /// ```
     pub fn split_off(&mut self, at: u8) -> Result<Self, Error>
         ensures { Makes (split self.old.0.text at) self.old.0.text (with_text (held result)) self.new.0.text }
     {

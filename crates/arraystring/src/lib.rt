@@ -15,21 +15,9 @@ pub use arraystring_core::{ArrayString, Drain, drain};
 pub use cache_string::CacheString;
 
 /// A string of at most 23 bytes of UTF-8.
-///
-/// # Examples
-///
-/// ```
-/// assert_eq!((SmallString::capacity(), SmallString::from("abc").len()), (23, 3));
-/// ```
 pub type SmallString = ArrayString<23>;
 
 /// A string of at most 255 bytes of UTF-8, the greatest capacity that there is.
-///
-/// # Examples
-///
-/// ```
-/// assert_eq!(MaxString::from("m".repeat(300).as_str()).len(), 255);
-/// ```
 pub type MaxString = ArrayString<255>;
 
 /// Boundaries, cuts and moves of bytes. Sizes and indices count bytes of UTF-8.

@@ -13,15 +13,6 @@ use std::hash::{Hash, Hasher};
 use std::str::Utf8Error;
 
 /// Why a call was refused.
-///
-/// # Examples
-///
-/// ```
-/// let mut string = ArrayString::<4>::from("é");
-/// assert_eq!(string.remove(1), Err(Error::Utf8));
-/// assert_eq!(string.remove(2), Err(Error::OutOfBounds));
-/// assert_eq!(ArrayString::<4>::try_from_utf16(&[0xD800]), Err(Error::Utf16));
-/// ```
 #[derive(Clone, Copy, PartialEq, Eq)]
 pub enum Error {
     /// Bytes that are not well-formed UTF-8 (the Unicode Standard, section 3.9), or an index
@@ -47,12 +38,6 @@ impl Error {
 }
 
 /// Prints the case with its type, such as `Error::Utf8`.
-///
-/// # Examples
-///
-/// ```
-/// assert_eq!(format!("{:?}", Error::Utf8), "Error::Utf8");
-/// ```
 impl fmt::Debug for Error {
     ghost debug_output = { λ e. Some (codes "Error::" ++ error_name e) };
 
@@ -63,12 +48,6 @@ impl fmt::Debug for Error {
 }
 
 /// Prints the name alone.
-///
-/// # Examples
-///
-/// ```
-/// assert_eq!(Error::OutOfBounds.to_string(), "OutOfBounds");
-/// ```
 impl fmt::Display for Error {
     ghost output = { λ e. Some (error_name e) };
 
@@ -80,30 +59,9 @@ impl fmt::Display for Error {
 }
 
 /// It converts to a `Box<dyn std::error::Error>`, and has no source.
-///
-/// # Examples
-///
-/// ```
-/// fn parsed(text: &str) -> Result<u8, Box<dyn std::error::Error>> {
-///     Ok(ArrayString::<3>::try_from_str(text).map_err(Error::from)?.parse()?)
-/// }
-///
-/// assert_eq!(parsed("255").unwrap(), 255);
-/// assert_eq!(parsed("2555").unwrap_err().to_string(), "OutOfBounds");
-/// ```
 impl StdError for Error {}
 
 /// Converts to the variant of the same name.
-///
-/// # Examples
-///
-/// ```
-/// fn two(text: &str) -> Result<ArrayString<2>, Error> {
-///     Ok(ArrayString::try_from_str(text)?)
-/// }
-///
-/// assert_eq!(two("abc"), Err(Error::OutOfBounds));
-/// ```
 impl From<OutOfBounds> for Error {
     ghost from_gives = { λ _ error. error ≡ cases.OutOfBounds };
 
@@ -113,12 +71,6 @@ impl From<OutOfBounds> for Error {
 }
 
 /// Converts to the variant of the same name.
-///
-/// # Examples
-///
-/// ```
-/// assert_eq!(Error::from(Utf16), Error::Utf16);
-/// ```
 impl From<Utf16> for Error {
     ghost from_gives = { λ _ error. error ≡ cases.Utf16 };
 
@@ -128,12 +80,6 @@ impl From<Utf16> for Error {
 }
 
 /// Converts to the variant of the same name.
-///
-/// # Examples
-///
-/// ```
-/// assert_eq!(Error::from(Utf8), Error::Utf8);
-/// ```
 impl From<Utf8> for Error {
     ghost from_gives = { λ _ error. error ≡ cases.Utf8 };
 
@@ -143,12 +89,6 @@ impl From<Utf8> for Error {
 }
 
 /// The error of `std` for bytes that are not UTF-8 becomes `Error::Utf8`.
-///
-/// # Examples
-///
-/// ```
-/// assert_eq!(std::str::from_utf8(b"a\xFF").map_err(Error::from), Err(Error::Utf8));
-/// ```
 impl From<Utf8Error> for Error {
     ghost from_gives = { λ _ error. error ≡ cases.Utf8 };
 
@@ -158,15 +98,6 @@ impl From<Utf8Error> for Error {
 }
 
 /// Hashes as the `&str` of the case's name does.
-///
-/// # Examples
-///
-/// ```
-/// use std::collections::HashSet;
-///
-/// let errors = HashSet::from([Error::Utf8, Error::Utf16, Error::Utf8]);
-/// assert_eq!(errors.len(), 2);
-/// ```
 impl Hash for Error {
     ghost hash_input = { λ e. fed.str (error_name e) };
 
@@ -179,24 +110,10 @@ impl Hash for Error {
 
 /// Bytes that are not well-formed UTF-8 (the Unicode Standard, section 3.9), or an index inside a
 /// character. `is_char_boundary` also returns it for an index past the text.
-///
-/// # Examples
-///
-/// ```
-/// let mut string = ArrayString::<4>::from("é");
-/// assert_eq!(string.truncate(1), Err(Utf8));
-/// assert_eq!(ArrayString::<4>::from_utf8(&[0xFF]), Err(Utf8));
-/// ```
 #[derive(Clone, Copy, Default, PartialEq, Eq)]
 pub struct Utf8;
 
 /// Prints `Utf8`.
-///
-/// # Examples
-///
-/// ```
-/// assert_eq!(format!("{Utf8:?}"), "Utf8");
-/// ```
 impl fmt::Debug for Utf8 {
     ghost debug_output = { λ _. Some (codes "Utf8") };
 
@@ -206,12 +123,6 @@ impl fmt::Debug for Utf8 {
 }
 
 /// Prints `Utf8`. A width in the format does not pad it.
-///
-/// # Examples
-///
-/// ```
-/// assert_eq!(Utf8.to_string(), "Utf8");
-/// ```
 impl fmt::Display for Utf8 {
     ghost output = { λ _. Some (codes "Utf8") };
 
@@ -223,22 +134,9 @@ impl fmt::Display for Utf8 {
 }
 
 /// It converts to a `Box<dyn std::error::Error>`, and has no source.
-///
-/// # Examples
-///
-/// ```
-/// let error: Box<dyn std::error::Error> = Utf8.into();
-/// assert!(error.source().is_none());
-/// ```
 impl StdError for Utf8 {}
 
 /// The error of `std` for bytes that are not UTF-8 becomes `Utf8`.
-///
-/// # Examples
-///
-/// ```
-/// assert_eq!(std::str::from_utf8(b"a\xFF").map_err(Utf8::from), Err(Utf8));
-/// ```
 impl From<Utf8Error> for Utf8 {
     fn from(_error: Utf8Error) -> Self {
         Utf8
@@ -246,22 +144,10 @@ impl From<Utf8Error> for Utf8 {
 }
 
 /// A lone surrogate in UTF-16 (the Unicode Standard, section 3.9).
-///
-/// # Examples
-///
-/// ```
-/// assert_eq!(ArrayString::<4>::from_utf16(&[0xD800]), Err(Utf16));
-/// ```
 #[derive(Clone, Copy, Default, PartialEq, Eq)]
 pub struct Utf16;
 
 /// Prints `Utf16`.
-///
-/// # Examples
-///
-/// ```
-/// assert_eq!(format!("{Utf16:?}"), "Utf16");
-/// ```
 impl fmt::Debug for Utf16 {
     ghost debug_output = { λ _. Some (codes "Utf16") };
 
@@ -271,12 +157,6 @@ impl fmt::Debug for Utf16 {
 }
 
 /// Prints `Utf16`. A width in the format does not pad it.
-///
-/// # Examples
-///
-/// ```
-/// assert_eq!(Utf16.to_string(), "Utf16");
-/// ```
 impl fmt::Display for Utf16 {
     ghost output = { λ _. Some (codes "Utf16") };
 
@@ -288,32 +168,13 @@ impl fmt::Display for Utf16 {
 }
 
 /// It converts to a `Box<dyn std::error::Error>`, and has no source.
-///
-/// # Examples
-///
-/// ```
-/// let error: Box<dyn std::error::Error> = Utf16.into();
-/// assert!(error.source().is_none());
-/// ```
 impl StdError for Utf16 {}
 
 /// An index or a range outside the text, a reversed range, or a result larger than the capacity.
-///
-/// # Examples
-///
-/// ```
-/// assert_eq!(ArrayString::<4>::try_from_str("hello"), Err(OutOfBounds));
-/// ```
 #[derive(Clone, Copy, Default, PartialEq, Eq)]
 pub struct OutOfBounds;
 
 /// Prints `OutOfBounds`.
-///
-/// # Examples
-///
-/// ```
-/// assert_eq!(format!("{OutOfBounds:?}"), "OutOfBounds");
-/// ```
 impl fmt::Debug for OutOfBounds {
     ghost debug_output = { λ _. Some (codes "OutOfBounds") };
 
@@ -323,12 +184,6 @@ impl fmt::Debug for OutOfBounds {
 }
 
 /// Prints `OutOfBounds`. A width in the format does not pad it.
-///
-/// # Examples
-///
-/// ```
-/// assert_eq!(OutOfBounds.to_string(), "OutOfBounds");
-/// ```
 impl fmt::Display for OutOfBounds {
     ghost output = { λ _. Some (codes "OutOfBounds") };
 
@@ -340,11 +195,4 @@ impl fmt::Display for OutOfBounds {
 }
 
 /// It converts to a `Box<dyn std::error::Error>`, and has no source.
-///
-/// # Examples
-///
-/// ```
-/// let error: Box<dyn std::error::Error> = OutOfBounds.into();
-/// assert!(error.source().is_none());
-/// ```
 impl StdError for OutOfBounds {}

@@ -9,14 +9,6 @@ use std::iter::FusedIterator;
 use std::marker::Model;
 
 /// What UTF-16 units are read as: a character, or a lone surrogate.
-///
-/// # Examples
-///
-/// ```
-/// let mut items = Units::new(&[0xDD14, 0x61]);
-/// assert_eq!(items.next(), Some(Unit16::Lone(0xDD14)));
-/// assert_eq!(items.next(), Some(Unit16::Char('a')));
-/// ```
 #[derive(Clone, Copy, PartialEq, Eq, Debug)]
 pub enum Unit16 {
     /// A character: a unit that is no surrogate, or a high surrogate and the low one after it.
@@ -29,14 +21,6 @@ pub enum Unit16 {
 /// one way to read them. It allocates nothing.
 ///
 /// In contracts it is the list of the items that are left.
-///
-/// # Examples
-///
-/// ```
-/// let units = [0x61, 0xD83E, 0xDD14, 0xD83E]; // `a`, the pair of `🤔`, and half of it
-/// let items: Vec<_> = Units::new(&units).collect();
-/// assert_eq!(items, [Unit16::Char('a'), Unit16::Char('🤔'), Unit16::Lone(0xD83E)]);
-/// ```
 #[derive(Drop)]
 pub struct Units<'a> {
     rest: &'a [u16],
@@ -54,13 +38,6 @@ impl<'a> Model for Units<'a> {
 
 impl<'a> Units<'a> {
     /// Returns an iterator over the characters and lone surrogates of `units`.
-    ///
-    /// # Examples
-    ///
-    /// ```
-    /// assert_eq!(Units::new(&[0x61]).next(), Some(Unit16::Char('a')));
-    /// assert_eq!(Units::new(&[]).next(), None);
-    /// ```
     pub fn new(units: &'a [u16]) -> Self
         ensures { IsReading units.now result }
     {
@@ -69,14 +46,6 @@ impl<'a> Units<'a> {
 }
 
 /// The items that are left, from the front.
-///
-/// # Examples
-///
-/// ```
-/// let mut units = Units::new(&[0x61, 0x62]);
-/// assert_eq!(units.next(), Some(Unit16::Char('a')));
-/// assert_eq!(units.count(), 1);
-/// ```
 impl<'a> Iterator for Units<'a> {
     type Item = Unit16;
 
@@ -102,13 +71,6 @@ impl<'a> Iterator for Units<'a> {
 }
 
 /// Once no item is left, `next` always returns `None`.
-///
-/// # Examples
-///
-/// ```
-/// let mut units = Units::new(&[0x61]);
-/// assert_eq!((units.next().is_some(), units.next(), units.next()), (true, None, None));
-/// ```
 impl<'a> FusedIterator for Units<'a> {}
 
 /// The character of the pair that `high` begins, and the units after the pair.

@@ -8,13 +8,6 @@ use std::char;
 
 /// Returns whether `at` is a boundary of `text`: the size of one of its prefixes of whole characters.
 /// Returns false if `at` is past the length of the text.
-///
-/// # Examples
-///
-/// ```
-/// assert!(utils::is_boundary("aé", 1) && utils::is_boundary("aé", 3));
-/// assert!(!utils::is_boundary("aé", 2) && !utils::is_boundary("aé", 4));
-/// ```
 pub fn is_boundary(text: &str, at: usize) -> bool
     ensures { result ≡ boundary (chars text.now) at }
 {
@@ -23,14 +16,6 @@ pub fn is_boundary(text: &str, at: usize) -> bool
 
 /// Returns the longest prefix of whole characters of `text` that takes at most `size` bytes,
 /// borrowed from the text.
-///
-/// # Examples
-///
-/// ```
-/// assert_eq!(utils::truncate_str("aéb", 3), "aé");
-/// assert_eq!(utils::truncate_str("aéb", 2), "a"); // the index 2 is inside `é`
-/// assert_eq!(utils::truncate_str("aéb", 9), "aéb");
-/// ```
 pub fn truncate_str(text: &str, size: u8) -> &str
     ensures { result.now ≡ bytes (cut (chars text.now) size) }
 {

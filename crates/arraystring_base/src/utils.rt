@@ -12,13 +12,6 @@ pub use crate::utf8::{encode, is_boundary, last_char, truncate_str, truncate_str
 /// # Errors
 ///
 /// Returns `Err(OutOfBounds)` if `size` is greater.
-///
-/// # Examples
-///
-/// ```
-/// assert_eq!(utils::is_inside_boundary(4usize, 4usize), Ok(()));
-/// assert_eq!(utils::is_inside_boundary(5usize, 4usize), Err(OutOfBounds));
-/// ```
 pub fn is_inside_boundary(size: usize, limit: usize) -> Result<(), OutOfBounds>
     ensures { IsOk result ↔ (size ≤ limit) }
 {

@@ -81,16 +81,6 @@ mod utf16;
 ///
 /// A range that is passed in may be any `RangeBounds<u8>`. An iterator is asked for no item behind
 /// the first that does not fit.
-///
-/// # Examples
-///
-/// ```
-/// let mut name = ArrayString::<8>::try_from_str("ann").unwrap();
-/// assert_eq!(name.try_push_str(" and bo"), Err(OutOfBounds)); // refused, and nothing changed
-/// name.push_str(" and bo"); // adds what fits
-/// assert_eq!(name.as_str(), "ann and ");
-/// assert_eq!((name.len(), name.get(..3)), (8, Some("ann")));
-/// ```
 #[derive(Clone, Copy)]
 pub struct ArrayString<const N: usize> {
     /// The `size` bytes from `start` on are the text. They are UTF-8, and the others have no meaning.
@@ -124,13 +114,6 @@ impl<const N: usize> Model for ArrayString<N> {
 
 impl<const N: usize> ArrayString<N> {
     /// Returns an empty string.
-    ///
-    /// # Examples
-    ///
-    /// ```
-    /// let string = ArrayString::<8>::new();
-    /// assert!(string.is_empty());
-    /// ```
     #[tactic(auto, using(crate::proofs::StoredLaws::chars_nil))]
     #[inline(always)]
     pub const fn new() -> Self
@@ -145,14 +128,6 @@ impl<const N: usize> ArrayString<N> {
 
     /// Returns the capacity in bytes: the lesser of `N` and 255. So a string whose `N` is over 255
     /// takes more memory and holds no more.
-    ///
-    /// # Examples
-    ///
-    /// ```
-    /// assert_eq!(ArrayString::<8>::capacity(), 8);
-    /// assert_eq!(ArrayString::<1024>::capacity(), 255);
-    /// assert_eq!(size_of::<ArrayString<1024>>(), 1026);
-    /// ```
     #[inline]
     pub const fn capacity() -> u8
         ensures { result ≡ cap N }
@@ -164,19 +139,6 @@ impl<const N: usize> ArrayString<N> {
     ///
     /// It is a `u8`, and so is a sum of such lengths. In a release build of Rust two lengths of 150
     /// add to 44. Add `usize::from(string.len())`.
-    ///
-    /// # Examples
-    ///
-    /// ```
-    /// let mut string = ArrayString::<8>::from("abc");
-    /// assert_eq!(string.len(), 3);
-    /// string.push_str("é"); // two bytes
-    /// assert_eq!(string.len(), 5);
-    ///
-    /// let large = MaxString::from("m".repeat(150).as_str());
-    /// assert_eq!(usize::from(large.len()) + usize::from(large.len()), 300);
-    /// assert_eq!(large.len().wrapping_add(large.len()), 44); // as `+` does in a release build
-    /// ```
     #[tactic(auto, using(crate::proofs::StoredLaws::opened_size))]
     #[inline]
     pub const fn len(&self) -> u8
@@ -187,13 +149,6 @@ impl<const N: usize> ArrayString<N> {
     }
 
     /// Returns whether the text has no character.
-    ///
-    /// # Examples
-    ///
-    /// ```
-    /// assert!(ArrayString::<4>::new().is_empty());
-    /// assert!(!ArrayString::<4>::from(" ").is_empty());
-    /// ```
     #[inline]
     pub const fn is_empty(&self) -> bool
         ensures { IsTrue result ↔ (self.now.text ≡ []) }
@@ -203,13 +158,6 @@ impl<const N: usize> ArrayString<N> {
 
     /// Returns the text as a `&str`, borrowed without a copy. The contract adds that each
     /// character is a Unicode scalar value and that the text is not larger than the capacity.
-    ///
-    /// # Examples
-    ///
-    /// ```
-    /// let string = ArrayString::<8>::from("café");
-    /// assert_eq!(string.as_str(), "café");
-    /// ```
     #[inline]
     pub fn as_str(&self) -> &str
         ensures bytes { result.now ≡ bytes self.now.text }
@@ -224,13 +172,6 @@ impl<const N: usize> ArrayString<N> {
 
     /// Returns the bytes of the text, borrowed without a copy. There are as many as `len` returns.
     /// The contract also promises what the contract of `as_str` promises of the text.
-    ///
-    /// # Examples
-    ///
-    /// ```
-    /// let string = ArrayString::<8>::from("café");
-    /// assert_eq!(string.as_bytes(), [b'c', b'a', b'f', 0xC3, 0xA9]);
-    /// ```
     #[inline]
     pub fn as_bytes(&self) -> &[u8]
         ensures bytes { result.now ≡ bytes self.now.text }

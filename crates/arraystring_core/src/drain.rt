@@ -13,15 +13,6 @@ mod traits;
 ///
 /// Contracts name the list of the characters that are left. A drain has a copy of the string's
 /// array, and takes no memory.
-///
-/// # Examples
-///
-/// ```
-/// let mut string = ArrayString::<8>::from("abcdef");
-/// let mut drained = string.drain(1..5).unwrap();
-/// assert_eq!((drained.next(), drained.next_back()), (Some('b'), Some('e')));
-/// assert_eq!((drained.as_str(), string.as_str()), ("cd", "af"));
-/// ```
 #[derive(Clone, Copy)]
 pub struct Drain<const N: usize> {
     // The numbers lie before the array: so the compiler knows that no read of a byte of it reads them.
@@ -81,14 +72,6 @@ impl<const N: usize> Drain<N> {
     }
 
     /// Returns the characters that are left as a `&str`, borrowed without a copy.
-    ///
-    /// # Examples
-    ///
-    /// ```
-    /// let mut drained = ArrayString::<4>::from("abc").drain(..).unwrap();
-    /// drained.next();
-    /// assert_eq!(drained.as_str(), "bc");
-    /// ```
     #[inline]
     pub fn as_str(&self) -> &str
         ensures bytes { result.now ≡ bytes self.now.left }

@@ -20,12 +20,6 @@ use std::ops::Add;
 use std::str::FromStr;
 
 /// Appends the longest prefix of whole characters of the `&str` that fits.
-///
-/// # Examples
-///
-/// ```
-/// assert_eq!((CacheString::new() + "user:" + "42").0.as_str(), "user:42");
-/// ```
 impl<'a> Add<&'a str> for CacheString {
     type Output = Self;
 
@@ -37,12 +31,6 @@ impl<'a> Add<&'a str> for CacheString {
 }
 
 /// An empty string.
-///
-/// # Examples
-///
-/// ```
-/// assert_eq!(CacheString::default().0.as_str(), "");
-/// ```
 impl Default for CacheString {
     ghost is_default = { λ s. s.0.text ≡ [] };
 
@@ -53,13 +41,6 @@ impl Default for CacheString {
 
 /// Writes the text. A width and a precision in the format are ignored: nothing is padded, and
 /// nothing is cut.
-///
-/// # Examples
-///
-/// ```
-/// let key = CacheString::from_str_truncate("abc");
-/// assert_eq!(format!("[{key}] [{key:8.1}]"), "[abc] [abc]");
-/// ```
 impl fmt::Display for CacheString {
     ghost output = { λ s. Some (bytes s.0.text) };
 
@@ -71,27 +52,11 @@ impl fmt::Display for CacheString {
 }
 
 /// Each string is equal to itself, and so to a copy of it.
-///
-/// # Examples
-///
-/// ```
-/// let key = CacheString::from_str_truncate("user:42");
-/// let mut copy = key;
-/// assert_eq!(copy, key);
-/// copy.0.clear();
-/// assert_ne!(copy, key);
-/// ```
 impl Eq for CacheString {
     ghost laws = { on_equiv (λ s. s.0.text) nat_list_eq_equiv };
 }
 
 /// A `CacheString` of the same text.
-///
-/// # Examples
-///
-/// ```
-/// assert_eq!(CacheString::from(ArrayString::from("user:42")).0.as_str(), "user:42");
-/// ```
 impl From<ArrayString<63>> for CacheString {
     ghost from_gives = { λ string made. made.0.text ≡ string.text };
 
@@ -101,13 +66,6 @@ impl From<ArrayString<63>> for CacheString {
 }
 
 /// Makes a string as `try_from_str` does.
-///
-/// # Examples
-///
-/// ```
-/// assert_eq!("user:42".parse().map(|key: CacheString| key.0.len()), Ok(7));
-/// assert_eq!("m".repeat(64).parse::<CacheString>(), Err(OutOfBounds));
-/// ```
 impl FromStr for CacheString {
     type Err = OutOfBounds;
 
@@ -124,15 +82,6 @@ impl FromStr for CacheString {
 }
 
 /// Hashes as the `&str` of the text does.
-///
-/// # Examples
-///
-/// ```
-/// use std::collections::HashMap;
-///
-/// let ages = HashMap::from([(CacheString::from_str_truncate("ann"), 41)]);
-/// assert_eq!(ages.get(&CacheString::from_str_truncate("ann")), Some(&41));
-/// ```
 impl Hash for CacheString {
     ghost hash_input = { λ s. fed.str (bytes s.0.text) };
 
@@ -144,13 +93,6 @@ impl Hash for CacheString {
 }
 
 /// Strings are ordered by their characters, as their texts are.
-///
-/// # Examples
-///
-/// ```
-/// let [first, second] = ["é", "z"].map(CacheString::from_str_truncate);
-/// assert_eq!(first.max(second).0.as_str(), "é");
-/// ```
 impl Ord for CacheString {
     ghost cmp = { λ s t. slice_cmp nat_cmp s.0.text t.0.text };
 
@@ -175,13 +117,6 @@ impl Ord for CacheString {
 }
 
 /// Strings are equal if their texts are.
-///
-/// # Examples
-///
-/// ```
-/// let key = CacheString::from_str_truncate("user:42");
-/// assert!(key == CacheString::new() + "user:42" && key != CacheString::new());
-/// ```
 impl PartialEq for CacheString {
     ghost eq = { λ s t. pointwise nat_eq s.0.text t.0.text };
 
@@ -193,12 +128,6 @@ impl PartialEq for CacheString {
 }
 
 /// Always `Some` of what `cmp` returns.
-///
-/// # Examples
-///
-/// ```
-/// assert!(CacheString::from_str_truncate("ab") < CacheString::from_str_truncate("b"));
-/// ```
 impl PartialOrd for CacheString {
     ghost partial_cmp = { λ s t. Some (slice_cmp nat_cmp s.0.text t.0.text) };
 
@@ -210,17 +139,6 @@ impl PartialOrd for CacheString {
 }
 
 /// `write!` appends what it prints, each piece whole.
-///
-/// # Examples
-///
-/// ```
-/// use std::fmt::Write;
-///
-/// let mut key = CacheString::new();
-/// assert!(write!(key, "user:{}", 42).is_ok());
-/// assert!(write!(key, "{}", "m".repeat(64)).is_err());
-/// assert_eq!(key.0.as_str(), "user:42");
-/// ```
 impl fmt::Write for CacheString {
     ghost write_str_gives = { λ s given t. bytes t.0.text ≡ bytes s.0.text ++ given };
 

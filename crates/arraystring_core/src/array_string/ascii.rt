@@ -11,14 +11,6 @@ use std::ops::RangeBounds;
 
 impl<const N: usize> ArrayString<N> {
     /// Changes a..z to A..Z. All other characters stay as they are.
-    ///
-    /// # Examples
-    ///
-    /// ```
-    /// let mut string = ArrayString::<8>::from("café 1");
-    /// string.make_ascii_uppercase();
-    /// assert_eq!(string.as_str(), "CAFé 1");
-    /// ```
     pub fn make_ascii_uppercase(&mut self)
         ensures { Makes (uppercase self.old.text) self.old.text (Ok result) self.new.text }
     {
@@ -26,14 +18,6 @@ impl<const N: usize> ArrayString<N> {
     }
 
     /// Changes A..Z to a..z. All other characters stay as they are.
-    ///
-    /// # Examples
-    ///
-    /// ```
-    /// let mut string = ArrayString::<8>::from("CAFÉ 1");
-    /// string.make_ascii_lowercase();
-    /// assert_eq!(string.as_str(), "cafÉ 1");
-    /// ```
     pub fn make_ascii_lowercase(&mut self)
         ensures { Makes (lowercase self.old.text) self.old.text (Ok result) self.new.text }
     {
@@ -48,14 +32,6 @@ impl<const N: usize> ArrayString<N> {
     ///   `RangeInclusive` that was iterated to its end.
     /// - The range must not end before it starts.
     /// - Both ends, read as in `slice`, must be boundaries.
-    ///
-    /// # Examples
-    ///
-    /// ```
-    /// let mut string = ArrayString::<8>::from("hello é");
-    /// string.make_ascii_uppercase_in(..1);
-    /// assert_eq!(string.as_str(), "Hello é");
-    /// ```
     pub fn make_ascii_uppercase_in<R: RangeBounds<u8> + Drop>(&mut self, range: R)
         requires known { R.has_bounds range }
         requires order { start_index (R.start_bound range) ≤ end_index (R.end_bound range) (size self.old.text) }
@@ -78,14 +54,6 @@ impl<const N: usize> ArrayString<N> {
     ///   `RangeInclusive` that was iterated to its end.
     /// - The range must not end before it starts.
     /// - Both ends, read as in `slice`, must be boundaries.
-    ///
-    /// # Examples
-    ///
-    /// ```
-    /// let mut string = ArrayString::<8>::from("HELLO É");
-    /// string.make_ascii_lowercase_in(1..);
-    /// assert_eq!(string.as_str(), "Hello É");
-    /// ```
     pub fn make_ascii_lowercase_in<R: RangeBounds<u8> + Drop>(&mut self, range: R)
         requires known { R.has_bounds range }
         requires order { start_index (R.start_bound range) ≤ end_index (R.end_bound range) (size self.old.text) }

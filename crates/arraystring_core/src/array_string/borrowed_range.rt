@@ -22,14 +22,6 @@ impl<const N: usize> ArrayString<N> {
     /// - Both ends must be boundaries.
     ///
     /// If `has_bounds` holds, a `get` of the range that returned `Some` proves the rest.
-    ///
-    /// # Examples
-    ///
-    /// ```
-    /// let string = ArrayString::<8>::from("aéb");
-    /// assert_eq!(string.slice(1..3), "é");
-    /// assert_eq!(string.slice(..), "aéb");
-    /// ```
     pub fn slice<R: RangeBounds<u8> + Drop>(&self, range: R) -> &str
         requires known { R.has_bounds range }
         requires order { start_index (R.start_bound range) ≤ end_index (R.end_bound range) (size self.now.text) }
@@ -45,15 +37,6 @@ impl<const N: usize> ArrayString<N> {
     /// Returns the part of the text in the range, borrowed without a copy. Returns `None` if the
     /// range ends before it starts, or if its start or its end is not a boundary. The ends are
     /// read as in `slice`.
-    ///
-    /// # Examples
-    ///
-    /// ```
-    /// let string = ArrayString::<8>::from("aéb");
-    /// assert_eq!(string.get(1..3), Some("é"));
-    /// assert_eq!(string.get(..2), None); // inside `é`
-    /// assert_eq!(string.get(2..9), None); // past the text
-    /// ```
     pub fn get<R: RangeBounds<u8> + Drop>(&self, range: R) -> Option<&str>
         ensures { OfReturnedBounds R.has_bounds R.start_bound R.end_bound range (λ start end.
             let found = part_in self.now.text (start_index start) (end_index end (size self.now.text)) in

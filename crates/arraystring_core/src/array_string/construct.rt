@@ -20,13 +20,6 @@ impl<const N: usize> ArrayString<N> {
     /// # Errors
     ///
     /// Returns `Err(OutOfBounds)` if `string` is larger than the capacity.
-    ///
-    /// # Examples
-    ///
-    /// ```
-    /// assert_eq!(ArrayString::<4>::try_from_str("cafe").map(|string| string.len()), Ok(4));
-    /// assert_eq!(ArrayString::<4>::try_from_str("café"), Err(OutOfBounds)); // five bytes
-    /// ```
     pub fn try_from_str(string: &str) -> Result<Self, OutOfBounds>
         ensures { IsWholeOrRefused (chars string.now) (cap N) (from_out_of_bounds result) }
     {
@@ -46,13 +39,6 @@ impl<const N: usize> ArrayString<N> {
 
     /// Creates a string from the longest prefix of whole characters of `string` that fits.
     /// `try_from_str` refuses what does not fit.
-    ///
-    /// # Examples
-    ///
-    /// ```
-    /// assert_eq!(ArrayString::<4>::from_str_truncate("caf").as_str(), "caf");
-    /// assert_eq!(ArrayString::<4>::from_str_truncate("café").as_str(), "caf"); // not half of `é`
-    /// ```
     pub fn from_str_truncate(string: &str) -> Self
         ensures { result.text ≡ cut (chars string.now) (cap N) }
     {
@@ -68,14 +54,6 @@ impl<const N: usize> ArrayString<N> {
     /// # Precondition
     ///
     /// The iterator must end, and until then the precondition of its `next` must hold.
-    ///
-    /// # Examples
-    ///
-    /// ```
-    /// let string = ArrayString::<8>::try_from_iterator(["one", " ", "two"]);
-    /// assert_eq!(string, Ok(ArrayString::from("one two")));
-    /// assert_eq!(ArrayString::<8>::try_from_iterator(["one", " three"]), Err(OutOfBounds));
-    /// ```
     pub fn try_from_iterator<'a, I: IntoIterator<Item = &'a str> + Drop>(
         pieces: I,
     ) -> Result<Self, OutOfBounds>
@@ -97,13 +75,6 @@ impl<const N: usize> ArrayString<N> {
     /// # Precondition
     ///
     /// The iterator must end, and until then the precondition of its `next` must hold.
-    ///
-    /// # Examples
-    ///
-    /// ```
-    /// assert_eq!(ArrayString::<8>::from_iterator(["one", " ", "two"]).as_str(), "one two");
-    /// assert_eq!(ArrayString::<8>::from_iterator(["one", " three", "!"]).as_str(), "one thre");
-    /// ```
     pub fn from_iterator<'a, I: IntoIterator<Item = &'a str> + Drop>(pieces: I) -> Self
         requires { IsFiniteIterable I.into_iter_gives I.IntoIter.can_next I.IntoIter.remaining pieces }
         ensures taken { (taken : List (Bor (List ℕ)))
@@ -126,13 +97,6 @@ impl<const N: usize> ArrayString<N> {
     /// # Precondition
     ///
     /// The iterator must end, and until then the precondition of its `next` must hold.
-    ///
-    /// # Examples
-    ///
-    /// ```
-    /// assert_eq!(ArrayString::<4>::try_from_chars('a'..='c'), Ok(ArrayString::from("abc")));
-    /// assert_eq!(ArrayString::<4>::try_from_chars('a'..='e'), Err(OutOfBounds));
-    /// ```
     pub fn try_from_chars<I: IntoIterator<Item = char> + Drop>(
         characters: I,
     ) -> Result<Self, OutOfBounds>
@@ -153,14 +117,6 @@ impl<const N: usize> ArrayString<N> {
     /// # Precondition
     ///
     /// The iterator must end, and until then the precondition of its `next` must hold.
-    ///
-    /// # Examples
-    ///
-    /// ```
-    /// assert_eq!(ArrayString::<4>::from_chars('a'..='c').as_str(), "abc");
-    /// // `d` would fit, but `é` before it does not
-    /// assert_eq!(ArrayString::<4>::from_chars("abcéd".chars()).as_str(), "abc");
-    /// ```
     pub fn from_chars<I: IntoIterator<Item = char> + Drop>(characters: I) -> Self
         requires { IsFiniteIterable I.into_iter_gives I.IntoIter.can_next I.IntoIter.remaining characters }
         ensures taken { (taken : List ℕ) × Takes I.into_iter_gives I.IntoIter.next_gives (λ cs. cs) characters (cap N) taken
@@ -182,14 +138,6 @@ impl<const N: usize> ArrayString<N> {
     /// - `Err(Error::Utf8)` if `given` is not well-formed UTF-8 (the Unicode Standard, section
     ///   3.9);
     /// - `Err(Error::OutOfBounds)` if the text is larger than the capacity.
-    ///
-    /// # Examples
-    ///
-    /// ```
-    /// assert_eq!(ArrayString::<4>::try_from_utf8(&[0xC3, 0xA9]), Ok(ArrayString::from("é")));
-    /// assert_eq!(ArrayString::<4>::try_from_utf8(&[0xC3]), Err(Error::Utf8));
-    /// assert_eq!(ArrayString::<4>::try_from_utf8(b"abcde"), Err(Error::OutOfBounds));
-    /// ```
     pub fn try_from_utf8(given: &[u8]) -> Result<Self, Error>
         ensures malformed { ¬ (IsWellFormed given.now) → result ≡ Err Error.Utf8 }
         ensures whole { (t : List ℕ) → IsText t → bytes t ≡ given.now → IsWholeOrRefused t (cap N) result }
@@ -212,14 +160,6 @@ impl<const N: usize> ArrayString<N> {
     ///
     /// Returns `Err(Utf8)` if `given` is not well-formed UTF-8 (the Unicode Standard, section
     /// 3.9), even if only bytes that would be cut off are malformed.
-    ///
-    /// # Examples
-    ///
-    /// ```
-    /// assert_eq!(ArrayString::<4>::from_utf8(&[b'a', 0xC3, 0xA9]), Ok(ArrayString::from("aé")));
-    /// assert_eq!(ArrayString::<4>::from_utf8(b"abcde"), Ok(ArrayString::from("abcd")));
-    /// assert_eq!(ArrayString::<4>::from_utf8(b"abcd\xFF"), Err(Utf8));
-    /// ```
     pub fn from_utf8(given: &[u8]) -> Result<Self, Utf8>
         ensures well_formed { IsOk result ↔ IsWellFormed given.now }
         ensures cut { (t : List ℕ) → IsText t → bytes t ≡ given.now → IfOk result (λ made. made.text ≡ cut t (cap N)) }

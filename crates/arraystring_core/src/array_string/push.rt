@@ -16,15 +16,6 @@ impl<const N: usize> ArrayString<N> {
     /// # Errors
     ///
     /// Returns `Err(OutOfBounds)` if `ch` does not fit. The text is then unchanged.
-    ///
-    /// # Examples
-    ///
-    /// ```
-    /// let mut string = ArrayString::<4>::from("ab");
-    /// assert_eq!(string.try_push('c'), Ok(()));
-    /// assert_eq!(string.try_push('é'), Err(OutOfBounds)); // one byte is left, and `é` takes two
-    /// assert_eq!(string.as_str(), "abc");
-    /// ```
     #[inline(always)]
     pub fn try_push(&mut self, ch: char) -> Result<(), OutOfBounds>
         ensures { Makes (addition self.old.text (ch ∷ []) (cap N)) self.old.text (from_out_of_bounds result) self.new.text }
@@ -46,15 +37,6 @@ impl<const N: usize> ArrayString<N> {
     /// # Errors
     ///
     /// Returns `Err(OutOfBounds)` if not all of `string` fits. The text is then unchanged.
-    ///
-    /// # Examples
-    ///
-    /// ```
-    /// let mut string = ArrayString::<4>::from("ab");
-    /// assert_eq!(string.try_push_str("c"), Ok(()));
-    /// assert_eq!(string.try_push_str("de"), Err(OutOfBounds));
-    /// assert_eq!(string.as_str(), "abc");
-    /// ```
     #[inline]
     pub fn try_push_str(&mut self, string: &str) -> Result<(), OutOfBounds>
         ensures { Makes (addition self.old.text (chars string.now) (cap N))
@@ -73,14 +55,6 @@ impl<const N: usize> ArrayString<N> {
     }
 
     /// Appends the longest prefix of whole characters of `string` that fits.
-    ///
-    /// # Examples
-    ///
-    /// ```
-    /// let mut string = ArrayString::<4>::from("abc");
-    /// string.push_str("dé"); // one byte is left, and `é` takes two
-    /// assert_eq!(string.as_str(), "abcd");
-    /// ```
     pub fn push_str(&mut self, string: &str)
         ensures { Makes (addition_of_cut self.old.text (chars string.now) (cap N)) self.old.text (Ok result) self.new.text }
     {
@@ -93,14 +67,6 @@ impl<const N: usize> ArrayString<N> {
     /// # Precondition
     ///
     /// The iterator must end, and until then the precondition of its `next` must hold.
-    ///
-    /// # Examples
-    ///
-    /// ```
-    /// let mut string = ArrayString::<4>::from("a");
-    /// string.extend_chars('b'..='z');
-    /// assert_eq!(string.as_str(), "abcd");
-    /// ```
     pub fn extend_chars<I: IntoIterator<Item = char> + Drop>(&mut self, characters: I)
         requires { IsFiniteIterable I.into_iter_gives I.IntoIter.can_next I.IntoIter.remaining characters }
         ensures taken { (taken : List ℕ)
@@ -117,14 +83,6 @@ impl<const N: usize> ArrayString<N> {
     /// # Precondition
     ///
     /// The iterator must end, and until then the precondition of its `next` must hold.
-    ///
-    /// # Examples
-    ///
-    /// ```
-    /// let mut string = ArrayString::<8>::from("one");
-    /// string.extend_strs([" two", " three"]);
-    /// assert_eq!(string.as_str(), "one two ");
-    /// ```
     pub fn extend_strs<'a, I: IntoIterator<Item = &'a str> + Drop>(&mut self, pieces: I)
         requires { IsFiniteIterable I.into_iter_gives I.IntoIter.can_next I.IntoIter.remaining pieces }
         ensures taken { (taken : List (Bor (List ℕ)))

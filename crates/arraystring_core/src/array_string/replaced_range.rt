@@ -21,17 +21,6 @@ impl<const N: usize> ArrayString<N> {
     /// - `Err(Error::OutOfBounds)` if the text with `with` in it does not fit;
     /// - `Err(Error::Utf8)` if the start of the range is inside a character;
     /// - `Err(Error::Utf8)` if the end of the range is inside a character.
-    ///
-    /// # Examples
-    ///
-    /// ```
-    /// let mut string = ArrayString::<8>::from("abcdé");
-    /// assert_eq!(string.replace_range(1..3, "éx"), Ok(()));
-    /// assert_eq!(string.as_str(), "aéxdé");
-    /// assert_eq!(string.replace_range(2..1, ""), Err(Error::OutOfBounds)); // end before start
-    /// assert_eq!(string.replace_range(..1, "abc"), Err(Error::OutOfBounds)); // nine bytes
-    /// assert_eq!(string.replace_range(2.., ""), Err(Error::Utf8)); // inside `é`
-    /// ```
     pub fn replace_range<R: RangeBounds<u8> + Drop>(
         &mut self,
         range: R,

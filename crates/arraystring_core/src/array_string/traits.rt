@@ -19,13 +19,6 @@ use std::ops::Add;
 use std::str::FromStr;
 
 /// Appends the longest prefix of whole characters of the `&str` that fits.
-///
-/// # Examples
-///
-/// ```
-/// let string = ArrayString::<4>::from("ab") + "c" + "de";
-/// assert_eq!(string.as_str(), "abcd");
-/// ```
 impl<'a, const N: usize> Add<&'a str> for ArrayString<N> {
     type Output = Self;
 
@@ -38,13 +31,6 @@ impl<'a, const N: usize> Add<&'a str> for ArrayString<N> {
 }
 
 /// `ArrayString { array: "abc", size: 3 }` for the text `abc`; the size counts bytes of UTF-8.
-///
-/// # Examples
-///
-/// ```
-/// let string = ArrayString::<8>::from("é\n");
-/// assert_eq!(format!("{string:?}"), r#"ArrayString { array: "é\n", size: 3 }"#);
-/// ```
 impl<const N: usize> fmt::Debug for ArrayString<N> {
     fn fmt<W: fmt::Write>(&self, f: &mut fmt::Formatter<W>) -> fmt::Result {
         f.debug_struct("ArrayString")
@@ -55,12 +41,6 @@ impl<const N: usize> fmt::Debug for ArrayString<N> {
 }
 
 /// An empty string.
-///
-/// # Examples
-///
-/// ```
-/// assert_eq!(ArrayString::<4>::default().as_str(), "");
-/// ```
 impl<const N: usize> Default for ArrayString<N> {
     ghost is_default = { λ s. s.text ≡ [] };
 
@@ -71,13 +51,6 @@ impl<const N: usize> Default for ArrayString<N> {
 
 /// Writes the text. A width and a precision in the format are ignored: nothing is padded, and
 /// nothing is cut.
-///
-/// # Examples
-///
-/// ```
-/// let string = ArrayString::<8>::from("abc");
-/// assert_eq!(format!("[{string}] [{string:8.1}]"), "[abc] [abc]");
-/// ```
 impl<const N: usize> fmt::Display for ArrayString<N> {
     ghost output = { λ s. Some (bytes s.text) };
 
@@ -89,29 +62,12 @@ impl<const N: usize> fmt::Display for ArrayString<N> {
 }
 
 /// Each string is equal to itself, and so to a copy of it.
-///
-/// # Examples
-///
-/// ```
-/// let string = ArrayString::<4>::from("a");
-/// let mut copy = string;
-/// assert_eq!(copy, string);
-/// copy.clear();
-/// assert_ne!(copy, string);
-/// ```
 impl<const N: usize> Eq for ArrayString<N> {
     ghost laws = { on_equiv (λ s. s.text) nat_list_eq_equiv };
 }
 
 /// Makes a string as `from_str_truncate` does: what does not fit is **cut** off, also by `into`, and in
 /// Rust by std's `try_from`, which is then `Ok` of a cut text. `parse` and `try_from_str` refuse it.
-///
-/// # Examples
-///
-/// ```
-/// assert_eq!(ArrayString::<4>::from("hello").as_str(), "hell");
-/// assert!("hello".parse::<ArrayString<4>>().is_err());
-/// ```
 impl<'a, const N: usize> From<&'a str> for ArrayString<N> {
     ghost from_gives = { λ string made. made.text ≡ cut (chars string.now) (cap N) };
 
@@ -121,13 +77,6 @@ impl<'a, const N: usize> From<&'a str> for ArrayString<N> {
 }
 
 /// Makes a string as `try_from_str` does.
-///
-/// # Examples
-///
-/// ```
-/// assert_eq!("hell".parse(), Ok(ArrayString::<4>::from("hell")));
-/// assert_eq!("hello".parse::<ArrayString<4>>(), Err(OutOfBounds));
-/// ```
 impl<const N: usize> FromStr for ArrayString<N> {
     type Err = OutOfBounds;
 
@@ -144,15 +93,6 @@ impl<const N: usize> FromStr for ArrayString<N> {
 }
 
 /// Hashes as the `&str` of the text does.
-///
-/// # Examples
-///
-/// ```
-/// use std::collections::HashMap;
-///
-/// let ages = HashMap::from([(ArrayString::<8>::from("ann"), 41)]);
-/// assert_eq!(ages.get(&ArrayString::from("ann")), Some(&41));
-/// ```
 impl<const N: usize> Hash for ArrayString<N> {
     ghost hash_input = { λ s. fed.str (bytes s.text) };
 
@@ -164,14 +104,6 @@ impl<const N: usize> Hash for ArrayString<N> {
 }
 
 /// Strings are ordered by their characters, as their texts are.
-///
-/// # Examples
-///
-/// ```
-/// let mut names = ["é", "z", "ab", "a"].map(ArrayString::<4>::from);
-/// names.sort();
-/// assert_eq!(names.map(|name| name.len()), [1, 2, 1, 2]); // "a", "ab", "z", "é"
-/// ```
 impl<const N: usize> Ord for ArrayString<N> {
     ghost cmp = { λ s t. slice_cmp nat_cmp s.text t.text };
 
@@ -199,14 +131,6 @@ impl<const N: usize> Ord for ArrayString<N> {
 }
 
 /// Strings are equal if and only if their texts are.
-///
-/// # Examples
-///
-/// ```
-/// let mut popped = ArrayString::<4>::from("ab");
-/// popped.pop();
-/// assert!(popped == ArrayString::from("a") && popped != ArrayString::from("A"));
-/// ```
 impl<const N: usize> PartialEq for ArrayString<N> {
     ghost eq = { λ s t. pointwise nat_eq s.text t.text };
 
@@ -218,12 +142,6 @@ impl<const N: usize> PartialEq for ArrayString<N> {
 }
 
 /// Always `Some` of what `cmp` returns.
-///
-/// # Examples
-///
-/// ```
-/// assert!(ArrayString::<4>::from("ab") < ArrayString::from("b"));
-/// ```
 impl<const N: usize> PartialOrd for ArrayString<N> {
     ghost partial_cmp = { λ s t. Some (slice_cmp nat_cmp s.text t.text) };
 
@@ -236,18 +154,6 @@ impl<const N: usize> PartialOrd for ArrayString<N> {
 }
 
 /// `write!` appends what it prints, each piece whole.
-///
-/// # Examples
-///
-/// ```
-/// use std::fmt::Write;
-///
-/// let mut string = ArrayString::<4>::new();
-/// let [one, large] = [1, 2345];
-/// assert!(write!(string, "{one}-").is_ok());
-/// assert!(write!(string, "{one}{large}").is_err()); // the first piece fits
-/// assert_eq!(string.as_str(), "1-1");
-/// ```
 impl<const N: usize> fmt::Write for ArrayString<N> {
     ghost write_str_gives = { λ s given t. bytes t.text ≡ bytes s.text ++ given };
 

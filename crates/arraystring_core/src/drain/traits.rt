@@ -16,14 +16,6 @@ use std::hash::{Hash, Hasher};
 use std::iter::FusedIterator;
 
 /// `Drain("bc")` if `bc` is left.
-///
-/// # Examples
-///
-/// ```
-/// let mut drained = ArrayString::<4>::from("abc").drain(..).unwrap();
-/// drained.next();
-/// assert_eq!(format!("{drained:?}"), r#"Drain("bc")"#);
-/// ```
 impl<const N: usize> fmt::Debug for Drain<N> {
     fn fmt<W: fmt::Write>(&self, f: &mut fmt::Formatter<W>) -> fmt::Result {
         f.debug_tuple("Drain").field(&self.as_str()).finish()
@@ -31,12 +23,6 @@ impl<const N: usize> fmt::Debug for Drain<N> {
 }
 
 /// An empty drain: nothing is left.
-///
-/// # Examples
-///
-/// ```
-/// assert_eq!(Drain::<4>::default().as_str(), "");
-/// ```
 impl<const N: usize> Default for Drain<N> {
     ghost is_default = { λ d. d.left ≡ [] };
 
@@ -47,13 +33,6 @@ impl<const N: usize> Default for Drain<N> {
 }
 
 /// The characters that are left, from the back.
-///
-/// # Examples
-///
-/// ```
-/// let drained = ArrayString::<4>::from("aéb").drain(1..).unwrap();
-/// assert!(drained.rev().eq(['b', 'é']));
-/// ```
 impl<const N: usize> DoubleEndedIterator for Drain<N> {
     ghost next_back_gives = { YieldsLast (λ d. d.left) };
 
@@ -68,40 +47,14 @@ impl<const N: usize> DoubleEndedIterator for Drain<N> {
 }
 
 /// Each drain is equal to itself, and so to a copy of it.
-///
-/// # Examples
-///
-/// ```
-/// let drained = ArrayString::<4>::from("ab").drain(..).unwrap();
-/// let mut copy = drained;
-/// assert_eq!(copy, drained);
-/// copy.next();
-/// assert_ne!(copy, drained);
-/// ```
 impl<const N: usize> Eq for Drain<N> {
     ghost laws = { on_equiv (λ s. s.left) nat_list_eq_equiv };
 }
 
 /// Once nothing is left, `next` and `next_back` return `None` ever after.
-///
-/// # Examples
-///
-/// ```
-/// let mut drained = ArrayString::<4>::from("a").drain(..).unwrap();
-/// assert_eq!((drained.next(), drained.next(), drained.next()), (Some('a'), None, None));
-/// ```
 impl<const N: usize> FusedIterator for Drain<N> {}
 
 /// Hashes as the `&str` of what is left does.
-///
-/// # Examples
-///
-/// ```
-/// use std::collections::HashSet;
-///
-/// let drained = ["a", "b", "a"].map(|text| ArrayString::<4>::from(text).drain(..).unwrap());
-/// assert_eq!(HashSet::from(drained).len(), 2);
-/// ```
 impl<const N: usize> Hash for Drain<N> {
     ghost hash_input = { λ s. fed.str (bytes s.left) };
 
@@ -113,13 +66,6 @@ impl<const N: usize> Hash for Drain<N> {
 }
 
 /// The characters that are left, from the front.
-///
-/// # Examples
-///
-/// ```
-/// let drained = ArrayString::<4>::from("aéb").drain(1..).unwrap();
-/// assert!(drained.eq(['é', 'b']));
-/// ```
 impl<const N: usize> Iterator for Drain<N> {
     type Item = char;
 
@@ -149,13 +95,6 @@ impl<const N: usize> Iterator for Drain<N> {
 }
 
 /// Drains are ordered by the characters that are left.
-///
-/// # Examples
-///
-/// ```
-/// let [first, second] = ["é", "z"].map(|text| ArrayString::<4>::from(text).drain(..).unwrap());
-/// assert!(first > second);
-/// ```
 impl<const N: usize> Ord for Drain<N> {
     ghost cmp = { λ s t. slice_cmp nat_cmp s.left t.left };
 
@@ -181,14 +120,6 @@ impl<const N: usize> Ord for Drain<N> {
 }
 
 /// Two drains are equal if and only if the same characters are left.
-///
-/// # Examples
-///
-/// ```
-/// let mut drained = ArrayString::<4>::from("ab").drain(..).unwrap();
-/// drained.next();
-/// assert_eq!(Ok(drained), ArrayString::from("b").drain(..));
-/// ```
 impl<const N: usize> PartialEq for Drain<N> {
     ghost eq = { λ s t. pointwise nat_eq s.left t.left };
 
@@ -200,13 +131,6 @@ impl<const N: usize> PartialEq for Drain<N> {
 }
 
 /// Always `Some` of what `cmp` returns.
-///
-/// # Examples
-///
-/// ```
-/// let [first, second] = ["ab", "b"].map(|text| ArrayString::<4>::from(text).drain(..).unwrap());
-/// assert!(first < second);
-/// ```
 impl<const N: usize> PartialOrd for Drain<N> {
     ghost partial_cmp = { λ s t. Some (slice_cmp nat_cmp s.left t.left) };
 
