@@ -1,36 +1,69 @@
--- What the tests of an addition, an insertion and a replacement decide.
-use Rattle.std.proofs.Common.{◌≡◌, ℕ, ◌+◌, ◌-◌, ◌≤◌, None, Ok, List, arith, true, ◌<◌, ◌++◌, Err, refl, false}
-use Rattle.std.proofs.lemmas.Bool.{ltb-false, le-ltb, lt-ltb}
-use Rattle.arraystring_base.specs.Text.{size, boundary, front, back}
-use Rattle.arraystring_base.specs.declared.error.Error.TheVariants.{OutOfBounds, Utf8}
-use Rattle.arraystring_core.specs.Edits.{Test, first_cause, ok_unless, replacement, Makes, Room, Inside, addition, insertion}
-use Rattle.arraystring_core.proofs.EditLaws.{none-holds, inside-failed, refuses, makes, inside-so, inside-not, addition-no_cause, addition-room}
+-- What is known once the tests of a row were made.
+use Rattle.std.proofs.Common.{◌≡◌, ℕ, ◌+◌, ◌-◌, ◌≤◌, ◌<◌, None, Ok, Err, List, ◌∷◌, [], ◌++◌, arith, true, refl}
+use Rattle.std.proofs.lemmas.Bool.{ltb-false, leb-false}
+use Rattle.arraystring_base.specs.Text.{size, boundary}
+use Rattle.arraystring_base.specs.declared.error.Error.TheVariants.{OutOfBounds}
+use Rattle.arraystring_core.specs.Edits.{Test, first_cause, ok_unless, past, at_end, crossed, inside, no_room, Makes, Room, addition}
+use Rattle.arraystring_core.proofs.EditLaws.{none-holds, inside-failed, refuses, makes, addition-no_cause, addition-room}
+
+-- the tests found no cause
+abbrev Passed : List Test → Type 0
+Passed tests = Ok (tt {0}) ≡ ok_unless (first_cause tests) (tt {0})
 
 -- `ok_unless` returns `Ok` only without a cause
-pub no_cause : (tests : List Test) → Ok (tt {0}) ≡ ok_unless (first_cause tests) (tt {0}) → first_cause tests ≡ None
+pub no_cause : (tests : List Test) → Passed tests → first_cause tests ≡ None
 no_cause tests is = grind arith
 
--- what is known if a replacement has no cause
-pub record IsAllowed (t : List ℕ) (start end : ℕ) (given : List ℕ) (n : ℕ) : Type 0 where
+-- an index in the text that is no boundary would be inside a character
+module _ (t : List ℕ) (i : ℕ) where
+  pub divides : Passed (past t i ∷ inside t i ∷ []) → (i ≤ size t) × (boundary t i ≡ true)
+  divides is =
+      let tests = past t i ∷ inside t i ∷ [] in
+      let none = none-holds tests (no_cause tests is) in
+      let within : i ≤ size t = ltb-false (size t) i none.0 in
+      (within, inside-failed t i within none.1.0)
+
+  pub takes_in : (len n : ℕ) → Passed (past t i ∷ no_room (size t + len) n ∷ inside t i ∷ [])
+      → (size t + len ≤ n) × (boundary t i ≡ true)
+  takes_in len n is =
+      let tests = past t i ∷ no_room (size t + len) n ∷ inside t i ∷ [] in
+      let none = none-holds tests (no_cause tests is) in
+      (ltb-false n (size t + len) none.1.0, inside-failed t i (ltb-false (size t) i none.0) none.1.1.0)
+
+  pub begins : Passed (at_end t i ∷ inside t i ∷ []) → (i < size t) × (boundary t i ≡ true)
+  begins is =
+      let tests = at_end t i ∷ inside t i ∷ [] in
+      let none = none-holds tests (no_cause tests is) in
+      let before : i < size t = leb-false (size t) i none.0 in
+      (before, inside-failed t i (omega arith) none.1.0)
+
+-- what is known if a part may be replaced by so many bytes
+pub record IsAllowed (t : List ℕ) (start end len n : ℕ) : Type 0 where
   pub order : start ≤ end
   pub within : end ≤ size t
-  pub room : size t - (end - start) + size given ≤ n
+  pub room : size t - (end - start) + len ≤ n
   pub starts : boundary t start ≡ true
   pub ends : boundary t end ≡ true
 
-pub allowed-where : (t given : List ℕ) (start end n : ℕ) → first_cause (replacement t start end given n).tests ≡ None
-    → IsAllowed t start end given n
-allowed-where t given start end n e =
-    let none = none-holds (replacement t start end given n).tests e in
-    let le : start ≤ end = ltb-false end start none.0 in
-    let reached : end ≤ size t = ltb-false (size t) end none.1.0 in
-    record {
-      order = le;
-      within = reached;
-      room = ltb-false n (size t - (end - start) + size given) none.1.1.0;
-      starts = inside-failed t start (omega arith) none.1.1.1.0;
-      ends = inside-failed t end reached none.1.1.1.1.0;
-    }
+module _ (t : List ℕ) (start end len n : ℕ) where
+  abbrev tests_of_replacement : List Test
+  tests_of_replacement = crossed start end ∷ past t end ∷ no_room (size t - (end - start) + len) n ∷ inside t start ∷ inside t end ∷ []
+
+  pub allowed-where : first_cause tests_of_replacement ≡ None → IsAllowed t start end len n
+  allowed-where e =
+      let none = none-holds tests_of_replacement e in
+      let order : start ≤ end = ltb-false end start none.0 in
+      let reached : end ≤ size t = ltb-false (size t) end none.1.0 in
+      record {
+        order = order;
+        within = reached;
+        room = ltb-false n (size t - (end - start) + len) none.1.1.0;
+        starts = inside-failed t start (omega arith) none.1.1.1.0;
+        ends = inside-failed t end reached none.1.1.1.1.0;
+      }
+
+  pub allowed : Passed tests_of_replacement → IsAllowed t start end len n
+  allowed is = allowed-where (no_cause tests_of_replacement is)
 
 module _ {t : List ℕ} (given : List ℕ) {n : ℕ} where
   pub refuses-addition : n < size t + size given → Makes (addition t given n) t (Err OutOfBounds) t
@@ -38,16 +71,3 @@ module _ {t : List ℕ} (given : List ℕ) {n : ℕ} where
 
   pub makes-addition : {new : List ℕ} → size t + size given ≤ n → new ≡ t ++ given → Makes (addition t given n) t (Ok tt) new
   makes-addition fits is = makes _ t tt _ (addition-no_cause t given n fits) refl is
-
-  -- the index i is not past the text
-  module _ {i : ℕ} (reached : i ≤ size t) where
-    pub refuses-insertion : n < size t + size given → Makes (insertion t i given n) t (Err OutOfBounds) t
-    refuses-insertion over = refuses _ t Room (rw (le-ltb _ _ reached, lt-ltb _ _ over))
-
-    module _ (fits : size t + size given ≤ n) where
-      pub refuses-inside : boundary t i ≡ false → Makes (insertion t i given n) t (Err Utf8) t
-      refuses-inside within = refuses _ t Inside (rw (le-ltb _ _ reached, le-ltb _ _ fits, inside-so t i reached within))
-
-      pub makes-insertion : {new : List ℕ} → boundary t i ≡ true → new ≡ front t i ++ (given ++ back t i)
-          → Makes (insertion t i given n) t (Ok tt) new
-      makes-insertion at is = makes _ t tt _ (rw (le-ltb _ _ reached, le-ltb _ _ fits, inside-not t i at)) refl is

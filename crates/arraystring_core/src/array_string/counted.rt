@@ -52,16 +52,8 @@ impl<const N: usize> ArrayString<N> {
         ensures counted { steps.old.moved ≤ steps.new.moved }
         ensures looked { steps.new.looked ≡ steps.old.looked }
     {
-        if index > self.len() {
-            return Err(Error::OutOfBounds);
-        }
-        if self.len() as usize + string.len() > Self::capacity() as usize {
-            return Err(Error::OutOfBounds);
-        }
+        self.check_insertion(index, string.len())?;
         let at = index as usize;
-        if !self.is_boundary(at) {
-            return Err(Error::Utf8);
-        }
         self.splice(at, at, string, steps);
         Ok(())
     }
@@ -224,13 +216,8 @@ impl<const N: usize> ArrayString<N> {
         ensures counted { steps.old.moved ≤ steps.new.moved }
         ensures looked { steps.new.looked ≡ steps.old.looked }
     {
-        if index >= self.len() {
-            return Err(Error::OutOfBounds);
-        }
+        self.check_removal(index)?;
         let start = index as usize;
-        if !self.is_boundary(start) {
-            return Err(Error::Utf8);
-        }
         let (ch, width) = self.char_at(start);
         self.remove_range(start, start + width, steps);
         Ok(ch)

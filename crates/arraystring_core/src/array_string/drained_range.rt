@@ -3,7 +3,7 @@ ghost use Rattle.std.specs.Prelude.{◌≡◌, ◌≢◌, ◌+◌, ◌-◌, ◌^
 ghost use Rattle.arraystring_base.specs.Text.{size};
 ghost use Rattle.arraystring_core.specs.RangeEnds.{OfReturnedBounds, saturated_start, saturated_end};
 ghost use Rattle.arraystring_core.specs.Drained.{with_left};
-ghost use Rattle.arraystring_core.specs.Edits.{Makes, first_cause, ok_unless, draining};
+ghost use Rattle.arraystring_core.specs.Edits.{Makes, draining};
 
 use crate::range_ends::saturating_ends;
 use crate::{ArrayString, Drain};
@@ -57,18 +57,5 @@ impl<const N: usize> ArrayString<N> {
         *removed = Drain::new(self.array, self.start + from, to - from);
         self.remove_range(from as usize, to as usize, steps);
         Ok(*removed)
-    }
-
-    /// Refuses the bytes from `start` to `end` where `drain` has to.
-    fn check_part(&self, start: u8, end: u8) -> Result<(), Error>
-        ensures { result ≡ ok_unless (first_cause (draining self.now.text start end).tests) tt }
-    {
-        if start > end || end > self.len() {
-            return Err(Error::OutOfBounds);
-        }
-        if !self.is_boundary(start as usize) || !self.is_boundary(end as usize) {
-            return Err(Error::Utf8);
-        }
-        Ok(())
     }
 }

@@ -20,15 +20,7 @@ impl<const N: usize> ArrayString<N> {
     pub fn try_insert(&mut self, index: u8, ch: char) -> Result<(), Error>
         ensures { Makes (insertion self.old.text index (ch ∷ []) (cap N)) self.old.text result self.new.text }
     {
-        if index > self.len() {
-            return Err(Error::OutOfBounds);
-        }
-        if self.len() as usize + ch.len_utf8() > Self::capacity() as usize {
-            return Err(Error::OutOfBounds);
-        }
-        if !self.is_boundary(index as usize) {
-            return Err(Error::Utf8);
-        }
+        self.check_insertion(index, ch.len_utf8())?;
         self.insert_unchecked(index, ch);
         Ok(())
     }
@@ -60,12 +52,7 @@ impl<const N: usize> ArrayString<N> {
     pub fn insert_str(&mut self, index: u8, string: &str) -> Result<(), Error>
         ensures { Makes (insertion_of_cut self.old.text index (chars string.now) (cap N)) self.old.text result self.new.text }
     {
-        if index > self.len() {
-            return Err(Error::OutOfBounds);
-        }
-        if !self.is_boundary(index as usize) {
-            return Err(Error::Utf8);
-        }
+        self.check_index(index)?;
         let room = Self::capacity() - self.len();
         self.insert_str_unchecked(index, truncate_str(string, room));
         Ok(())

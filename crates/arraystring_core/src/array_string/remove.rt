@@ -6,7 +6,7 @@ ghost use Rattle.arraystring_core.specs.Edits.{Makes, popping, from_utf8_error, 
 
 use crate::ArrayString;
 use arraystring_base::error::{Error, Utf8};
-use arraystring_base::utils::{Steps, shift};
+use arraystring_base::utils::Steps;
 
 impl<const N: usize> ArrayString<N> {
     /// Shortens the text to its first `size` bytes. Nothing changes if it has no more.
@@ -61,12 +61,7 @@ impl<const N: usize> ArrayString<N> {
     pub fn split_off(&mut self, at: u8) -> Result<Self, Error>
         ensures { Makes (split self.old.text at) self.old.text (with_text result) self.new.text }
     {
-        if at > self.len() {
-            return Err(Error::OutOfBounds);
-        }
-        if !self.is_boundary(at as usize) {
-            return Err(Error::Utf8);
-        }
+        self.check_index(at)?;
         let rest = Self::from_str_unchecked(&self.as_str()[at as usize..]);
         self.set_len(at);
         Ok(rest)
@@ -95,10 +90,8 @@ impl<const N: usize> ArrayString<N> {
         if start == 0 {
             return self.drop_front(end);
         }
-        let (offset, size) = (self.start as usize, self.size as usize);
-        let tail = size - end;
-        self.size = (start + tail) as u8;
-        shift(&mut self.array, offset + end, offset + start, tail, steps);
+        let _ = &self.array; // gives the prover that the text fits
+        self.splice(start, end, "", steps);
     }
 
     /// Drops the part before a boundary, without a move.

@@ -2,7 +2,7 @@
 ghost use Rattle.std.specs.Prelude.{◌≡◌, ◌≢◌, ◌+◌, ◌-◌, ◌^◌, ◌≤◌, min, OnOk, OnErr, chars};
 ghost use Rattle.arraystring_base.specs.Text.{cap, size};
 ghost use Rattle.arraystring_core.specs.RangeEnds.{OfReturnedBounds, saturated_start, saturated_end};
-ghost use Rattle.arraystring_core.specs.Edits.{Makes, first_cause, ok_unless, replacement};
+ghost use Rattle.arraystring_core.specs.Edits.{Makes, replacement};
 
 use crate::ArrayString;
 use arraystring_base::error::Error;
@@ -52,27 +52,9 @@ impl<const N: usize> ArrayString<N> {
         ensures counted { steps.old.moved ≤ steps.new.moved }
         ensures looked { steps.new.looked ≡ steps.old.looked }
     {
-        self.check_replacement(start, end, with)?;
+        self.check_replacement(start, end, with.len())?;
         let (from, to) = (start as usize, end as usize);
         self.splice(from, to, with, steps);
-        Ok(())
-    }
-
-    /// Refuses to replace the bytes from `start` to `end` by `with` where `replace_range` has to.
-    #[inline(always)]
-    fn check_replacement(&self, start: u8, end: u8, with: &str) -> Result<(), Error>
-        ensures { result ≡ ok_unless (first_cause (replacement self.now.text start end (chars with.now) (cap N)).tests) tt }
-    {
-        if start > end || end > self.len() {
-            return Err(Error::OutOfBounds);
-        }
-        let kept = (self.len() - (end - start)) as usize;
-        if kept + with.len() > Self::capacity() as usize {
-            return Err(Error::OutOfBounds);
-        }
-        if !self.is_boundary(start as usize) || !self.is_boundary(end as usize) {
-            return Err(Error::Utf8);
-        }
         Ok(())
     }
 }

@@ -129,7 +129,7 @@ impl<const N: usize> ArrayString<N> {
         requires room { size self.old.text + width ch ≤ cap N }
         ensures { self.new.text ≡ front self.old.text index ++ (ch ∷ back self.old.text index) }
     {
-        self.put_char(index as usize, ch);
+        self.splice_char(index as usize, ch);
     }
 
     /// Inserts `string` at the byte index `index`.

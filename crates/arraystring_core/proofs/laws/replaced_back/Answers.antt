@@ -9,7 +9,7 @@ use Rattle.arraystring_core.proofs.EditLaws.{inside-not}
 use Rattle.arraystring_core.proofs.PartLaws.{part-joined, part-size}
 use Rattle.arraystring_core.proofs.laws.replaced_back.Goals as goal
 
-module _ (t given : List ℕ) (start end n : ℕ) (is : IsAllowed t start end given n) where
+module _ (t given : List ℕ) (start end n : ℕ) (is : IsAllowed t start end (size given) n) where
   before : size (front t start) ≡ start
   before = front-size t start is.starts
 
@@ -52,6 +52,6 @@ module _ (t given : List ℕ) (start end n : ℕ) (is : IsAllowed t start end gi
 
 pub returns : goal.returns
 returns c = record {
-  allowed = λ t given start end n le e. allowed t given start end n (allowed-where t given start end n e) le;
-  back = λ t given start end n e. again t given start end n (allowed-where t given start end n e);
+  allowed = λ t given start end n le e. allowed t given start end n (allowed-where t start end (size given) n e) le;
+  back = λ t given start end n e. again t given start end n (allowed-where t start end (size given) n e);
 }

@@ -1,20 +1,21 @@
-use Rattle.std.proofs.Common.{chars, refl, rules}
+use Rattle.std.proofs.Common.{◌≡◌, Ok, chars, refl, rules}
 use Rattle.arraystring_base.specs.Text.{cap}
-use Rattle.arraystring_core.specs.Edits.{replacement}
-use Rattle.arraystring_core.proofs.CauseLemmas.{allowed-where, no_cause}
+use Rattle.arraystring_base.proofs.TextLaws.{size-borrowed}
+use Rattle.arraystring_core.specs.Edits.{replacement, first_cause, ok_unless}
+use Rattle.arraystring_core.proofs.CauseLemmas.{allowed, no_cause}
 use Rattle.arraystring_core.proofs.EditLaws.{makes}
 use Rattle.arraystring_core.proofs.array_string.ArrayString.replace_between.Goals as goal
 
+pub returns-in_err-check_replacement-clause-edit : goal.returns-in_err-check_replacement-clause-edit
+returns-in_err-check_replacement-clause-edit g c = rw (size-borrowed c.utf8.with) (search rules)
+
 pub splice-requires : goal.splice-requires
 splice-requires g c =
-    let t = c.args.self.now.text in
-    let given = chars c.args.with.now in
-    let none = no_cause (replacement t c.args.start c.args.end given (cap g.row.N)).tests c.in_ok-check_replacement.ensures in
-    let is = allowed-where t given c.args.start c.args.end (cap g.row.N) none in
-    (search rules, (is.order, (is.starts, (is.ends, (is.room, c.requires)))))
+    let is = allowed _ _ _ _ _ c.in_ok-check_replacement.ensures in
+    (search rules, (is.order, (is.starts, (is.ends, (rw (size-borrowed c.utf8.with) is.room, c.requires)))))
 
 pub returns-clause-edit : goal.returns-clause-edit
 returns-clause-edit g c =
-    let t = c.args.self.now.text in
-    let row = replacement t c.args.start c.args.end (chars c.args.with.now) (cap g.row.N) in
-    makes row t _ _ (no_cause row.tests c.in_ok-check_replacement.ensures) refl c.splice.ensures.text
+    let row = replacement c.args.self.now.text c.args.start c.args.end (chars c.args.with.now) (cap g.row.N) in
+    let is : Ok (tt {0}) ≡ ok_unless (first_cause row.tests) (tt {0}) = rw (size-borrowed c.utf8.with) c.in_ok-check_replacement.ensures in
+    makes row _ _ _ (no_cause row.tests is) refl c.splice.ensures.text

@@ -1,21 +1,24 @@
-use Rattle.std.proofs.Common.{◌∷◌, [], ◌∙◌, sym, arith, rules}
+use Rattle.std.proofs.Common.{◌≡◌, ◌∷◌, [], Ok, arith, refl, rules}
+use Rattle.arraystring_base.specs.Text.{cap, size}
 use Rattle.arraystring_base.proofs.TextLaws.{width-is}
-use Rattle.arraystring_core.proofs.CauseLemmas.{refuses-insertion, refuses-inside, makes-insertion}
+use Rattle.arraystring_core.specs.Edits.{insertion, first_cause, ok_unless}
+use Rattle.arraystring_core.proofs.CauseLemmas.{takes_in, no_cause}
+use Rattle.arraystring_core.proofs.EditLaws.{makes}
 use Rattle.arraystring_core.proofs.array_string.ArrayString.try_insert.Goals as goal
 
-pub returns-then-len-len_utf8 : goal.returns-then-len-len_utf8
-returns-then-len-len_utf8 g c = refuses-insertion (c.args.ch ∷ []) (omega arith) (omega (arith, width-is c.args.ch))
-
-pub returns-then-not-is_boundary : goal.returns-then-not-is_boundary
-returns-then-not-is_boundary g c =
-    refuses-inside (c.args.ch ∷ []) (omega arith) (omega (arith, width-is c.args.ch))
-    (sym c.is_boundary.ensures ∙ c.if-not-is_boundary.true)
+pub returns-in_err-check_insertion : goal.returns-in_err-check_insertion
+returns-in_err-check_insertion g c =
+    let wide : size (c.args.ch ∷ []) ≡ c.len_utf8.result = omega (arith, width-is c.args.ch) in
+    rw wide (search rules)
 
 pub insert_unchecked-requires : goal.insert_unchecked-requires
 insert_unchecked-requires g c =
-    (search rules, (sym c.is_boundary.ensures ∙ c.if-not-is_boundary.false, omega (arith, width-is c.args.ch)))
+    let is = takes_in _ _ _ _ c.in_ok-check_insertion.ensures in
+    (search rules, (is.1, omega (arith, width-is c.args.ch)))
 
 pub returns : goal.returns
 returns g c =
-    let at = sym c.is_boundary.ensures ∙ c.if-not-is_boundary.false in
-    makes-insertion (c.args.ch ∷ []) (omega arith) (omega (arith, width-is c.args.ch)) at c.insert_unchecked.ensures
+    let wide : size (c.args.ch ∷ []) ≡ c.len_utf8.result = omega (arith, width-is c.args.ch) in
+    let row = insertion c.args.self.now.text c.args.index (c.args.ch ∷ []) (cap g.row.N) in
+    let is : Ok (tt {0}) ≡ ok_unless (first_cause row.tests) (tt {0}) = rw wide c.in_ok-check_insertion.ensures in
+    makes row _ _ _ (no_cause row.tests is) refl c.insert_unchecked.ensures

@@ -1,0 +1,99 @@
+//! The one way in which bytes are put in or taken out: the part between two boundaries becomes another text. What
+//! follows it moves. If there is no room after the text, what precedes it moves to the start of the array, too.
+ghost use Rattle.std.specs.Prelude.{◌≡◌, ◌≢◌, ◌+◌, ◌-◌, ◌^◌, ◌≤◌, min, ◌∷◌, ◌++◌, IsTrue, chars};
+ghost use Rattle.arraystring_base.specs.Text.{size, width, cap, front, back, boundary};
+
+use crate::ArrayString;
+use arraystring_base::utils::{Steps, encode, shift, write_over};
+use std::str;
+
+impl<const N: usize> ArrayString<N> {
+    /// Replaces the text between two boundaries by `given`. There must be room for it. A text that does not grow
+    /// has room: the compiler is told so, and leaves the test out where nothing is given.
+    #[inline(always)]
+    pub(super) fn splice(&mut self, start: usize, end: usize, given: &str, steps: &mut Steps)
+        requires order { start ≤ end }
+        requires start { IsTrue (boundary self.old.text start) }
+        requires end { IsTrue (boundary self.old.text end) }
+        requires room { size self.old.text - (end - start) + size (chars given.now) ≤ cap N }
+        requires countable { steps.old.moved ≤ 2 ^ 63 }
+        ensures text { self.new.text ≡ front self.old.text start ++ (chars given.now ++ back self.old.text end) }
+        ensures tail_alone { size (chars given.now) ≤ end - start
+            → steps.new.moved ≤ steps.old.moved + (size self.old.text - end) }
+        ensures most { steps.new.moved ≤ steps.old.moved + (start + (size self.old.text - end)) }
+        ensures least { end ≢ start + size (chars given.now)
+            → steps.old.moved + min start (size self.old.text - end) ≤ steps.new.moved }
+        ensures counted { steps.old.moved ≤ steps.new.moved }
+        ensures looked { steps.new.looked ≡ steps.old.looked }
+    {
+        let (offset, size) = (self.start as usize, self.size as usize);
+        let (len, tail) = (given.len(), size - end);
+        if offset + (start + (len + tail)) > Self::capacity() as usize && len > end - start {
+            return self.compact_and_splice(start, end, given, steps);
+        }
+        self.size = (start + (len + tail)) as u8;
+        shift(
+            &mut self.array,
+            offset + end,
+            offset + (start + len),
+            tail,
+            steps,
+        );
+        write_over(&mut self.array, offset + start, given.as_bytes());
+    }
+
+    /// Replaces as `splice` does, in a text that has to move to the start of the array for it. Each byte moves at
+    /// most once.
+    #[cold]
+    #[inline(never)]
+    fn compact_and_splice(&mut self, start: usize, end: usize, given: &str, steps: &mut Steps)
+        requires order { start ≤ end }
+        requires start { IsTrue (boundary self.old.text start) }
+        requires end { IsTrue (boundary self.old.text end) }
+        requires room { size self.old.text - (end - start) + size (chars given.now) ≤ cap N }
+        requires countable { steps.old.moved ≤ 2 ^ 63 }
+        ensures text { self.new.text ≡ front self.old.text start ++ (chars given.now ++ back self.old.text end) }
+        ensures most { steps.new.moved ≤ steps.old.moved + (start + (size self.old.text - end)) }
+        ensures least { end ≢ start + size (chars given.now)
+            → steps.old.moved + min start (size self.old.text - end) ≤ steps.new.moved }
+        ensures counted { steps.old.moved ≤ steps.new.moved }
+        ensures looked { steps.new.looked ≡ steps.old.looked }
+    {
+        let (offset, size) = (self.start as usize, self.size as usize);
+        let (len, tail) = (given.len(), size - end);
+        self.start = 0;
+        self.size = (start + (len + tail)) as u8;
+        shift(&mut self.array, offset, 0, start, steps);
+        shift(&mut self.array, offset + end, start + len, tail, steps);
+        write_over(&mut self.array, start, given.as_bytes());
+    }
+
+    /// Puts `ch` at a boundary, as `splice` does with a text. There must be room for it. Its UTF-8 is written
+    /// straight into the array: by a text of four bytes `try_insert` takes some ten instructions more (its curve in
+    /// docs/speed.md).
+    #[inline(always)]
+    pub(super) fn splice_char(&mut self, at: usize, ch: char)
+        requires boundary { IsTrue (boundary self.old.text at) }
+        requires room { size self.old.text + width ch ≤ cap N }
+        ensures { self.new.text ≡ front self.old.text at ++ (ch ∷ back self.old.text at) }
+    {
+        let (offset, size) = (self.start as usize, self.size as usize);
+        let (len, tail) = (ch.len_utf8(), size - at);
+        if offset + size + len > Self::capacity() as usize {
+            let mut utf8 = [0; 4];
+            encode(ch, &mut utf8, 0);
+            // SAFETY: `encode` wrote the `len` bytes of the UTF-8 of `ch` in front.
+            let given = unsafe { str::from_utf8_unchecked(&utf8[..len]) };
+            return self.compact_and_splice(at, at, given, &mut Steps::new());
+        }
+        self.size = (at + (len + tail)) as u8;
+        shift(
+            &mut self.array,
+            offset + at,
+            offset + (at + len),
+            tail,
+            &mut Steps::new(),
+        );
+        encode(ch, &mut self.array, offset + at);
+    }
+}
