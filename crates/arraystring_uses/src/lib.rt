@@ -1,4 +1,4 @@
-//! Uses of `arraystring`, as a caller writes them. Its tests are in `tests.rt`.
+//! Uses of `arraystring` and `arraystring_run`, as a caller writes them. Its tests are in `tests.rt`.
 #![tactic(auto)]
 
 pub mod columns;
@@ -13,6 +13,7 @@ pub mod packet;
 pub mod pair;
 pub mod parts;
 pub mod row;
+pub mod runs;
 pub mod scores;
 #[cfg(test)]
 mod tests;
