@@ -19,7 +19,7 @@ use serde::ser::Serializer;
 
 use crate::serde_traits::text_of;
 
-/// Writes the text, as serde writes that of a `String`.
+/// Writes the text, as serde writes that of a `String`. With the feature `serde`.
 ///
 /// # Errors
 ///
@@ -46,7 +46,8 @@ pub fn serialize<T: AsRef<str>, S: Serializer>(string: &T, serializer: S) -> Res
     serializer.serialize_str(string.as_ref())
 }
 
-/// Reads a text, borrowed or owned, or its UTF-8, and keeps the longest prefix of whole characters that fits.
+/// Reads a text, borrowed or owned, or its UTF-8, and keeps the longest prefix of whole characters that fits. With the feature
+/// `serde`.
 ///
 /// # Errors
 ///

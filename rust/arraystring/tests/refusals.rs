@@ -153,7 +153,7 @@ fn short(name: &str) -> &str {
 
 #[test]
 fn each_call_refuses_with_what_the_page_says() {
-    let head = "| Refused with | By | Which says |";
+    let head = "| Error | Returned by | It means |";
     let mut listed: Vec<(String, String)> = Vec::new();
     for row in rows(head) {
         let [error, ..] = codes(&row[0])[..] else { panic!("no error in {row:?}") };
