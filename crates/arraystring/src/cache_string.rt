@@ -190,6 +190,7 @@ impl CacheString {
     /// - `Err(Error::OutOfBounds)` if the text is larger than the capacity.
     pub fn try_from_utf8(given: &[u8]) -> Result<Self, Error>
         ensures malformed { ¬ (IsWellFormed given.now) → held result ≡ Err error.Utf8 }
+        ensures too_large { held result ≡ Err error.OutOfBounds → IsWellFormed given.now }
         ensures whole { (t : List ℕ) → IsText t → bytes t ≡ given.now → IsWholeOrRefused t 63 (held result) }
         ensures bytes { IfOk result (λ made. bytes made.0.text ≡ given.now) }
         ensures text { IfOk result (λ made. IsText made.0.text) }

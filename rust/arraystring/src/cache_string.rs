@@ -308,6 +308,7 @@ impl CacheString {
     ///
     /// ```text
     /// ensures malformed { ¬ (IsWellFormed given.now) → held result ≡ Err error.Utf8 }
+    /// ensures too_large { held result ≡ Err error.OutOfBounds → IsWellFormed given.now }
     /// ensures whole { (t : List ℕ) → IsText t → bytes t ≡ given.now → IsWholeOrRefused t 63 (held result) }
     /// ensures bytes { IfOk result (λ made. bytes made.0.text ≡ given.now) }
     /// ensures text { IfOk result (λ made. IsText made.0.text) }

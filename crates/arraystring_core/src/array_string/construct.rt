@@ -140,6 +140,7 @@ impl<const N: usize> ArrayString<N> {
     /// - `Err(Error::OutOfBounds)` if the text is larger than the capacity.
     pub fn try_from_utf8(given: &[u8]) -> Result<Self, Error>
         ensures malformed { ¬ (IsWellFormed given.now) → result ≡ Err Error.Utf8 }
+        ensures too_large { result ≡ Err Error.OutOfBounds → IsWellFormed given.now }
         ensures whole { (t : List ℕ) → IsText t → bytes t ≡ given.now → IsWholeOrRefused t (cap N) result }
         ensures bytes { IfOk result (λ made. bytes made.text ≡ given.now) }
         ensures text { IfOk result (λ made. IsText made.text) }

@@ -284,6 +284,7 @@ impl<const N: usize> ArrayString<N> {
     ///
     /// ```text
     /// ensures malformed { ¬ (IsWellFormed given.now) → result ≡ Err Error.Utf8 }
+    /// ensures too_large { result ≡ Err Error.OutOfBounds → IsWellFormed given.now }
     /// ensures whole { (t : List ℕ) → IsText t → bytes t ≡ given.now → IsWholeOrRefused t (cap N) result }
     /// ensures bytes { IfOk result (λ made. bytes made.text ≡ given.now) }
     /// ensures text { IfOk result (λ made. IsText made.text) }

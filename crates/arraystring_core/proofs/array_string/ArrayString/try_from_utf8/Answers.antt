@@ -9,6 +9,9 @@ returns-in_default-clause-whole g c = λ t is e. absurd (c.in_default.ensures (w
 pub returns-then-text-capacity-clause-malformed : goal.returns-then-text-capacity-clause-malformed
 returns-then-text-capacity-clause-malformed g c = λ bad. absurd (bad (utf8-well_formed c.in-Ok.ensures.1))
 
+pub returns-then-text-capacity-clause-too_large : goal.returns-then-text-capacity-clause-too_large
+returns-then-text-capacity-clause-too_large g c = λ _. utf8-well_formed c.in-Ok.ensures.1
+
 pub returns-then-text-capacity-clause-whole : goal.returns-then-text-capacity-clause-whole
 returns-then-text-capacity-clause-whole g c = λ t is e.
     let given = c.args.given.now in
@@ -28,6 +31,7 @@ returns g c =
     let text = c.from_str_unchecked.ensures ∙ ap chars read.0 in
     record {
       malformed = λ bad. absurd (bad (utf8-well_formed read.1));
+      too_large = λ no. grind arith;
       whole = λ t is e.
           let same = chars-bytes read.1 (sym e) in
           (omega (arith, size-borrowed read.1, ap length read.0, ap size same), text ∙ same);
