@@ -4,8 +4,8 @@
 //!
 //! - `traits` has its impls of traits;
 //! - `unchecked` and `counted` have calls that most programs do without;
-//! - `append`, `replaced_part` and `remove` have the private calls that put bytes into its array or take
-//!   them out.
+//! - `checks` has the tests of the rows, `splice` and `append` put bytes into its array or take them out, and
+//!   `remove` shortens its text.
 //!
 //! # How a string lies in its array
 //!

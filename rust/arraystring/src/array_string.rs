@@ -5,8 +5,8 @@
 //!
 //! - `traits` has its impls of traits;
 //! - `unchecked` has calls that leave a test to the caller;
-//! - `append`, `replaced_part` and `remove` have the private calls that put bytes into its array or take
-//!   them out.
+//! - `checks` has the tests of the rows, `splice` and `append` put bytes into its array or take them out, and
+//!   `remove` shortens its text.
 //!
 //! # How a string lies in its array
 //!
@@ -59,8 +59,9 @@ mod retain;
 mod trim;
 mod ascii;
 mod traits;
+mod checks;
 mod append;
-mod replaced_part;
+mod splice;
 mod fill;
 mod unchecked;
 

@@ -73,7 +73,7 @@ impl<const N: usize> ArrayString<N> {
             × MatchResult result (λ _. size taken ≤ cap N - size self.old.text) (λ _. cap N - size self.old.text < size taken)
             × (self.new.text ≡ self.old.text ++ cut taken (cap N - size self.old.text)) }
     {
-        let _ = &self.array;
+        let _ = &self.array; // gives the prover that the text fits
         for ch in characters {
             match self.try_push(ch) {
                 Ok(()) => {}
@@ -97,7 +97,7 @@ impl<const N: usize> ArrayString<N> {
             (λ _. cap N - size self.old.text < size (joined_pieces taken))
             × (self.new.text ≡ self.old.text ++ cut (joined_pieces taken) (cap N - size self.old.text)) }
     {
-        let _ = &self.array;
+        let _ = &self.array; // gives the prover that the text fits
         for piece in pieces {
             match self.try_push_str(piece) {
                 Ok(()) => {}

@@ -67,16 +67,4 @@ impl<const N: usize> ArrayString<N> {
         unsafe { self.remove_range(from as usize, to as usize) };
         Ok(*removed)
     }
-
-    /// Refuses the bytes from `start` to `end` where `drain` has to.
-    #[inline]
-    fn check_part(&self, start: u8, end: u8) -> Result<(), Error> {
-        if start > end || end > self.len() {
-            return Err(Error::OutOfBounds);
-        }
-        if !self.is_boundary(start as usize) || !self.is_boundary(end as usize) {
-            return Err(Error::Utf8);
-        }
-        Ok(())
-    }
 }

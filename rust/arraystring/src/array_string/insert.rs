@@ -43,17 +43,9 @@ impl<const N: usize> ArrayString<N> {
     #[doc(alias = "insert")]
     #[inline]
     pub fn try_insert(&mut self, index: u8, ch: char) -> Result<(), Error> {
-        if index > self.len() {
-            return Err(Error::OutOfBounds);
-        }
-        if self.len() as usize + ch.len_utf8() > Self::capacity() as usize {
-            return Err(Error::OutOfBounds);
-        }
-        if !self.is_boundary(index as usize) {
-            return Err(Error::Utf8);
-        }
-        // SAFETY: `index` is a boundary of `self`; `self.len() + ch.len_utf8() <= Self::capacity()`: by the tests
-        // above.
+        self.check_insertion(index, ch.len_utf8())?;
+        // SAFETY: `index` is a boundary of `self`; `self.len() + ch.len_utf8() <= Self::capacity()`: `check_insertion`
+        // returned `Ok`.
         unsafe { self.insert_unchecked(index, ch) };
         Ok(())
     }
@@ -93,18 +85,10 @@ impl<const N: usize> ArrayString<N> {
     #[inline]
     pub fn try_insert_str<S: AsRef<str>>(&mut self, index: u8, string: S) -> Result<(), Error> {
         let string = string.as_ref();
-        if index > self.len() {
-            return Err(Error::OutOfBounds);
-        }
-        if self.len() as usize + string.len() > Self::capacity() as usize {
-            return Err(Error::OutOfBounds);
-        }
+        self.check_insertion(index, string.len())?;
         let at = index as usize;
-        if !self.is_boundary(at) {
-            return Err(Error::Utf8);
-        }
-        // SAFETY: `at` is a boundary of `self`; `self.len() - (at - at) + string.len() <= Self::capacity()`: by the
-        // tests above.
+        // SAFETY: `at` is a boundary of `self`; `self.len() - (at - at) + string.len() <= Self::capacity()`:
+        // `check_insertion` returned `Ok`.
         unsafe { self.splice(at, at, string) };
         Ok(())
     }
@@ -143,15 +127,10 @@ impl<const N: usize> ArrayString<N> {
     #[inline]
     pub fn insert_str<S: AsRef<str>>(&mut self, index: u8, string: S) -> Result<(), Error> {
         let string = string.as_ref();
-        if index > self.len() {
-            return Err(Error::OutOfBounds);
-        }
-        if !self.is_boundary(index as usize) {
-            return Err(Error::Utf8);
-        }
+        self.check_index(index)?;
         let room = Self::capacity() - self.len();
         // SAFETY: `index` is a boundary of `self`; `self.len() + truncate_str(string, room).len() <= Self::capacity()`:
-        // by the test above, and since `truncate_str` returns at most `room` bytes.
+        // `check_index` returned `Ok`, and `truncate_str` returns at most `room` bytes.
         unsafe { self.insert_str_unchecked(index, truncate_str(string, room)) };
         Ok(())
     }

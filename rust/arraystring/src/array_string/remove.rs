@@ -5,7 +5,6 @@
 
 use crate::ArrayString;
 use crate::error::{Error, Utf8};
-use crate::moves::shift;
 use crate::utf8::last_char;
 
 /// Removals.
@@ -117,17 +116,12 @@ impl<const N: usize> ArrayString<N> {
     /// </details>
     #[inline(always)]
     pub fn remove(&mut self, index: u8) -> Result<char, Error> {
-        if index >= self.len() {
-            return Err(Error::OutOfBounds);
-        }
+        self.check_removal(index)?;
         let start = index as usize;
-        if !self.is_boundary(start) {
-            return Err(Error::Utf8);
-        }
-        // SAFETY: `start` is a boundary of `self`; `start < self.len()`: by the tests above.
+        // SAFETY: `start` is a boundary of `self`; `start < self.len()`: `check_removal` returned `Ok`.
         let (ch, width) = unsafe { self.char_at(start) };
         // SAFETY: `start <= start + width`; `start` is a boundary of `self`; `start + width` is a boundary of `self`: a
-        // character begins at `start` by the tests above, and `char_at` returned that it takes `width` bytes.
+        // character begins at `start`, since `check_removal` returned `Ok`, and `char_at` returned that it takes `width` bytes.
         unsafe { self.remove_range(start, start + width) };
         Ok(ch)
     }
@@ -165,16 +159,11 @@ impl<const N: usize> ArrayString<N> {
     /// </details>
     #[inline]
     pub fn split_off(&mut self, at: u8) -> Result<Self, Error> {
-        if at > self.len() {
-            return Err(Error::OutOfBounds);
-        }
-        if !self.is_boundary(at as usize) {
-            return Err(Error::Utf8);
-        }
+        self.check_index(at)?;
         // SAFETY: `self.as_str()[at as usize..].len() <= Self::capacity()`: a part of a text of this capacity fits.
-        // SAFETY: this is within: `at` is a boundary, by the test above.
+        // SAFETY: this is within: `at` is a boundary, since `check_index` returned `Ok`.
         let rest = unsafe { Self::from_str_unchecked(get_unchecked!(self.as_str(), at as usize..)) };
-        // SAFETY: `at` is a boundary of `self`: by the test above.
+        // SAFETY: `at` is a boundary of `self`: `check_index` returned `Ok`.
         unsafe { self.set_len(at) };
         Ok(rest)
     }
@@ -214,20 +203,16 @@ impl<const N: usize> ArrayString<N> {
     /// - `start` is a boundary of `self`
     /// - `end` is a boundary of `self`
     #[inline]
-    #[expect(clippy::cast_possible_truncation, reason = "the line before the write says why it fits")]
     pub(super) unsafe fn remove_range(&mut self, start: usize, end: usize) {
         if start == 0 {
             // SAFETY: `end` is a boundary of `self`: by this function's `# Safety`.
             return unsafe { self.drop_front(end) };
         }
-        let (offset, size) = (self.start as usize, self.size as usize);
-        let tail = size - end;
-        // FIELDS: it is at most `size`, since `start` is at most `end` by this function's `# Safety`; `shift` moves the
-        // `tail` bytes behind `end` to `start`, and both are boundaries.
-        self.size = (start + tail) as u8;
-        // SAFETY: `offset + end + tail <= N`; `offset + start + tail <= N`: `end + tail` is the size of the text, which
-        // ends in the array, and `start` is at most `end`.
-        unsafe { shift(&mut self.array, offset + end, offset + start, tail) };
+        let _ = &self.array;
+        // SAFETY: `start <= end`; `start` is a boundary of `self`; `end` is a boundary of `self`;
+        // `self.len() - (end - start) + "".len() <= Self::capacity()`: by this function's `# Safety`, and since the text
+        // fits.
+        unsafe { self.splice(start, end, "") };
     }
 
     /// Drops the part before a boundary, without a move.

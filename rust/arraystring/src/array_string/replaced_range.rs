@@ -55,27 +55,11 @@ impl<const N: usize> ArrayString<N> {
     /// Replaces the bytes from `start` to `end`.
     #[inline]
     pub(super) fn replace_between(&mut self, start: u8, end: u8, with: &str) -> Result<(), Error> {
-        self.check_replacement(start, end, with)?;
+        self.check_replacement(start, end, with.len())?;
         let (from, to) = (start as usize, end as usize);
         // SAFETY: `from <= to`; `from` is a boundary of `self`; `to` is a boundary of `self`;
         // `self.len() - (to - from) + with.len() <= Self::capacity()`: `check_replacement` returned `Ok`.
         unsafe { self.splice(from, to, with) };
-        Ok(())
-    }
-
-    /// Refuses to replace the bytes from `start` to `end` by `with` where `replace_range` has to.
-    #[inline(always)]
-    fn check_replacement(&self, start: u8, end: u8, with: &str) -> Result<(), Error> {
-        if start > end || end > self.len() {
-            return Err(Error::OutOfBounds);
-        }
-        let kept = (self.len() - (end - start)) as usize;
-        if kept + with.len() > Self::capacity() as usize {
-            return Err(Error::OutOfBounds);
-        }
-        if !self.is_boundary(start as usize) || !self.is_boundary(end as usize) {
-            return Err(Error::Utf8);
-        }
         Ok(())
     }
 }

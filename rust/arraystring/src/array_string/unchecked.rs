@@ -282,7 +282,7 @@ impl<const N: usize> ArrayString<N> {
         required!(self.len() as usize + ch.len_utf8() <= Self::capacity() as usize);
         // SAFETY: `index` is a boundary of `self`; `self.len() + ch.len_utf8() <= Self::capacity()`: by this function's
         // `# Safety`.
-        unsafe { self.put_char(index as usize, ch) };
+        unsafe { self.splice_char(index as usize, ch) };
     }
 
     /// Inserts `string` at the byte index `index`.
