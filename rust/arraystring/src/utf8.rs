@@ -180,29 +180,27 @@ pub unsafe fn encode<const N: usize>(ch: char, array: &mut [u8; N], at: usize) -
     if code < 0x80 {
         // SAFETY: this is within: by this function's `# Safety`, since `ch` takes as many bytes as are written.
         *unsafe { get_unchecked_mut!(all, at) } = code as u8;
-        1
-    } else if code < 0x800 {
-        let first = (0xC0 + code / 64) as u8;
-        let second = (0x80 + code % 64) as u8;
-        // SAFETY: this is within: by this function's `# Safety`, since `ch` takes as many bytes as are written.
-        unsafe { copy_from_slice_unchecked!(all, at..at + 2, &[first, second]) };
-        2
-    } else if code < 0x1_0000 {
-        let first = (0xE0 + code / 4096) as u8;
-        let second = (0x80 + code / 64 % 64) as u8;
-        let third = (0x80 + code % 64) as u8;
-        // SAFETY: this is within: by this function's `# Safety`, since `ch` takes as many bytes as are written.
-        unsafe { copy_from_slice_unchecked!(all, at..at + 3, &[first, second, third]) };
-        3
-    } else {
-        let first = (0xF0 + code / 262_144) as u8;
-        let second = (0x80 + code / 4096 % 64) as u8;
-        let third = (0x80 + code / 64 % 64) as u8;
-        let fourth = (0x80 + code % 64) as u8;
-        // SAFETY: this is within: by this function's `# Safety`, since `ch` takes as many bytes as are written.
-        unsafe { copy_from_slice_unchecked!(all, at..at + 4, &[first, second, third, fourth]) };
-        4
+        return 1;
     }
+    let last = (0x80 + code % 64) as u8;
+    if code < 0x800 {
+        let first = (0xC0 + code / 64) as u8;
+        // SAFETY: this is within: by this function's `# Safety`, since `ch` takes as many bytes as are written.
+        unsafe { copy_from_slice_unchecked!(all, at..at + 2, &[first, last]) };
+        return 2;
+    }
+    let before_last = (0x80 + code / 64 % 64) as u8;
+    if code < 0x1_0000 {
+        let first = (0xE0 + code / 4096) as u8;
+        // SAFETY: this is within: by this function's `# Safety`, since `ch` takes as many bytes as are written.
+        unsafe { copy_from_slice_unchecked!(all, at..at + 3, &[first, before_last, last]) };
+        return 3;
+    }
+    let first = (0xF0 + code / 262_144) as u8;
+    let second = (0x80 + code / 4096 % 64) as u8;
+    // SAFETY: this is within: by this function's `# Safety`, since `ch` takes as many bytes as are written.
+    unsafe { copy_from_slice_unchecked!(all, at..at + 4, &[first, second, before_last, last]) };
+    4
 }
 
 /// Returns the text whose UTF-8 is `given`, or `Err(Utf8)` if `given` is not well-formed.
