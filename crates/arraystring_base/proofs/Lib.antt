@@ -6,5 +6,6 @@ pub mod OrderLaws
 pub mod Utf16Laws
 pub mod ReadingLaws
 mod CutLemmas
+mod FirstLemmas
 mod LastLemmas
 mod MoveLemmas

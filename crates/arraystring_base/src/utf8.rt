@@ -1,5 +1,5 @@
-//! The UTF-8 of texts and characters: boundaries, cuts, the last character of a text, and the bytes of a
-//! character. Sizes and indices count bytes of UTF-8.
+//! The UTF-8 of texts and characters: boundaries, cuts, the first and the last character of a text, and the
+//! bytes of a character. Sizes and indices count bytes of UTF-8.
 ghost use Rattle.std.specs.Prelude.{◌≡◌, ◌+◌, ◌^◌, ◌≤◌, ◌<◌, ◌↔◌, ◌++◌, ◌∷◌, [], ℕ, List, length, take, drop, chars, IsTrue, IfSome, IfNone, IsCharBoundary};
 ghost use Rattle.arraystring_base.specs.Text.{bytes, cut, utf8, width, size, boundary};
 
@@ -83,6 +83,47 @@ fn continues(byte: u8) -> bool
     matches!(byte, 0x80..=0xBF)
 }
 
+/// Returns the first character of `text`, and how many bytes it takes.
+///
+/// # Precondition
+///
+/// The text must not be empty.
+#[tactic(auto, using(crate::proofs::FirstLemmas::first_bytes), unfolding(crate::specs::Text::width))]
+pub fn first_char(text: &str) -> (char, usize)
+    requires { 0 < length text.now }
+    ensures first { (rest : List ℕ) × (text.now ≡ utf8 result.0 ++ rest) }
+    ensures width { result.1 ≡ width result.0 }
+    ensures some { 0 < result.1 }
+    ensures within { result.1 ≤ length text.now }
+{
+    let all = text.as_bytes();
+    let first = all[0] as u32;
+    if first < 0x80 {
+        // SAFETY: a number below 0x80 is a scalar value.
+        return (unsafe { char::from_u32_unchecked(first) }, 1);
+    }
+    let second = all[1] as u32;
+    if first < 0xE0 {
+        let code = (first - 0xC0) * 64 + (second - 0x80);
+        // SAFETY: the bytes of a `&str` are UTF-8. `first` begins a character of two bytes and `second` continues it,
+        // so `code` is its number, a scalar value.
+        return (unsafe { char::from_u32_unchecked(code) }, 2);
+    }
+    let third = all[2] as u32;
+    if first < 0xF0 {
+        let code = (first - 0xE0) * 4096 + (second - 0x80) * 64 + (third - 0x80);
+        // SAFETY: the bytes of a `&str` are UTF-8. `first` begins a character of three bytes and the two behind it
+        // continue it, so `code` is its number, a scalar value.
+        return (unsafe { char::from_u32_unchecked(code) }, 3);
+    }
+    let fourth = all[3] as u32;
+    let front = (first - 0xF0) * 262_144 + (second - 0x80) * 4096;
+    let code = front + (third - 0x80) * 64 + (fourth - 0x80);
+    // SAFETY: the bytes of a `&str` are UTF-8. `first` begins a character of four bytes and the three behind it
+    // continue it, so `code` is its number, a scalar value.
+    (unsafe { char::from_u32_unchecked(code) }, 4)
+}
+
 /// Returns the index at which the last character of `text` begins, and that character. Returns `None` if the
 /// text is empty. It makes at most four looks, and at least one if there is a character. It moves no byte.
 ///
@@ -163,24 +204,22 @@ pub fn encode<const N: usize>(ch: char, array: &mut [u8; N], at: usize) -> usize
     let all = &mut array[..];
     if code < 0x80 {
         all[at] = code as u8;
-        1
-    } else if code < 0x800 {
-        let first = (0xC0 + code / 64) as u8;
-        let second = (0x80 + code % 64) as u8;
-        all[at..at + 2].copy_from_slice(&[first, second]);
-        2
-    } else if code < 0x1_0000 {
-        let first = (0xE0 + code / 4096) as u8;
-        let second = (0x80 + code / 64 % 64) as u8;
-        let third = (0x80 + code % 64) as u8;
-        all[at..at + 3].copy_from_slice(&[first, second, third]);
-        3
-    } else {
-        let first = (0xF0 + code / 262_144) as u8;
-        let second = (0x80 + code / 4096 % 64) as u8;
-        let third = (0x80 + code / 64 % 64) as u8;
-        let fourth = (0x80 + code % 64) as u8;
-        all[at..at + 4].copy_from_slice(&[first, second, third, fourth]);
-        4
+        return 1;
     }
+    let last = (0x80 + code % 64) as u8;
+    if code < 0x800 {
+        let first = (0xC0 + code / 64) as u8;
+        all[at..at + 2].copy_from_slice(&[first, last]);
+        return 2;
+    }
+    let before_last = (0x80 + code / 64 % 64) as u8;
+    if code < 0x1_0000 {
+        let first = (0xE0 + code / 4096) as u8;
+        all[at..at + 3].copy_from_slice(&[first, before_last, last]);
+        return 3;
+    }
+    let first = (0xF0 + code / 262_144) as u8;
+    let second = (0x80 + code / 4096 % 64) as u8;
+    all[at..at + 4].copy_from_slice(&[first, second, before_last, last]);
+    4
 }

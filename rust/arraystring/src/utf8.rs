@@ -1,6 +1,6 @@
 // Proved sources: crates/arraystring_base/src/utf8.rt, crates/arraystring_core/src/blockwise/well_formed.rt
-//! The UTF-8 of texts and characters: boundaries, cuts, the last character of a text, and the bytes of a
-//! character, and whether bytes are UTF-8. Sizes and indices count bytes of UTF-8.
+//! The UTF-8 of texts and characters: boundaries, cuts, the first and the last character of a text, the bytes of
+//! a character, and whether bytes are UTF-8. Sizes and indices count bytes of UTF-8.
 
 use crate::access::{char, str};
 use crate::error::Utf8;
@@ -88,6 +88,45 @@ unsafe fn last_boundary(text: &str, limit: usize) -> usize {
 #[inline]
 fn continues(byte: u8) -> bool {
     matches!(byte, 0x80..=0xBF)
+}
+
+/// Returns the first character of `text`, and how many bytes it takes.
+///
+/// # Safety
+///
+/// - `0 < text.len()`
+#[inline]
+pub(crate) unsafe fn first_char(text: &str) -> (char, usize) {
+    let all = text.as_bytes();
+    // SAFETY: `0 < all.len()`: by this function's `# Safety`.
+    let first = *unsafe { get_unchecked!(all, 0) } as u32;
+    if first < 0x80 {
+        // SAFETY: a number below 0x80 is a scalar value.
+        return (unsafe { char::from_u32_unchecked(first) }, 1);
+    }
+    // SAFETY: `1 < all.len()`: the first byte is not ASCII, so its character has one more behind it.
+    let second = *unsafe { get_unchecked!(all, 1) } as u32;
+    if first < 0xE0 {
+        let code = (first - 0xC0) * 64 + (second - 0x80);
+        // SAFETY: the bytes of a `&str` are UTF-8. `first` begins a character of two bytes and `second` continues it,
+        // so `code` is its number, a scalar value.
+        return (unsafe { char::from_u32_unchecked(code) }, 2);
+    }
+    // SAFETY: `2 < all.len()`: the first byte begins a character of three bytes or four.
+    let third = *unsafe { get_unchecked!(all, 2) } as u32;
+    if first < 0xF0 {
+        let code = (first - 0xE0) * 4096 + (second - 0x80) * 64 + (third - 0x80);
+        // SAFETY: the bytes of a `&str` are UTF-8. `first` begins a character of three bytes and the two behind it
+        // continue it, so `code` is its number, a scalar value.
+        return (unsafe { char::from_u32_unchecked(code) }, 3);
+    }
+    // SAFETY: `3 < all.len()`: the first byte begins a character of four bytes.
+    let fourth = *unsafe { get_unchecked!(all, 3) } as u32;
+    let front = (first - 0xF0) * 262_144 + (second - 0x80) * 4096;
+    let code = front + (third - 0x80) * 64 + (fourth - 0x80);
+    // SAFETY: the bytes of a `&str` are UTF-8. `first` begins a character of four bytes and the three behind it
+    // continue it, so `code` is its number, a scalar value.
+    (unsafe { char::from_u32_unchecked(code) }, 4)
 }
 
 /// Returns the index at which the last character of `text` begins, and that character. Returns `None` if the
@@ -180,29 +219,27 @@ pub unsafe fn encode<const N: usize>(ch: char, array: &mut [u8; N], at: usize) -
     if code < 0x80 {
         // SAFETY: this is within: by this function's `# Safety`, since `ch` takes as many bytes as are written.
         *unsafe { get_unchecked_mut!(all, at) } = code as u8;
-        1
-    } else if code < 0x800 {
-        let first = (0xC0 + code / 64) as u8;
-        let second = (0x80 + code % 64) as u8;
-        // SAFETY: this is within: by this function's `# Safety`, since `ch` takes as many bytes as are written.
-        unsafe { copy_from_slice_unchecked!(all, at..at + 2, &[first, second]) };
-        2
-    } else if code < 0x1_0000 {
-        let first = (0xE0 + code / 4096) as u8;
-        let second = (0x80 + code / 64 % 64) as u8;
-        let third = (0x80 + code % 64) as u8;
-        // SAFETY: this is within: by this function's `# Safety`, since `ch` takes as many bytes as are written.
-        unsafe { copy_from_slice_unchecked!(all, at..at + 3, &[first, second, third]) };
-        3
-    } else {
-        let first = (0xF0 + code / 262_144) as u8;
-        let second = (0x80 + code / 4096 % 64) as u8;
-        let third = (0x80 + code / 64 % 64) as u8;
-        let fourth = (0x80 + code % 64) as u8;
-        // SAFETY: this is within: by this function's `# Safety`, since `ch` takes as many bytes as are written.
-        unsafe { copy_from_slice_unchecked!(all, at..at + 4, &[first, second, third, fourth]) };
-        4
+        return 1;
     }
+    let last = (0x80 + code % 64) as u8;
+    if code < 0x800 {
+        let first = (0xC0 + code / 64) as u8;
+        // SAFETY: this is within: by this function's `# Safety`, since `ch` takes as many bytes as are written.
+        unsafe { copy_from_slice_unchecked!(all, at..at + 2, &[first, last]) };
+        return 2;
+    }
+    let before_last = (0x80 + code / 64 % 64) as u8;
+    if code < 0x1_0000 {
+        let first = (0xE0 + code / 4096) as u8;
+        // SAFETY: this is within: by this function's `# Safety`, since `ch` takes as many bytes as are written.
+        unsafe { copy_from_slice_unchecked!(all, at..at + 3, &[first, before_last, last]) };
+        return 3;
+    }
+    let first = (0xF0 + code / 262_144) as u8;
+    let second = (0x80 + code / 4096 % 64) as u8;
+    // SAFETY: this is within: by this function's `# Safety`, since `ch` takes as many bytes as are written.
+    unsafe { copy_from_slice_unchecked!(all, at..at + 4, &[first, second, before_last, last]) };
+    4
 }
 
 /// Returns the text whose UTF-8 is `given`, or `Err(Utf8)` if `given` is not well-formed.

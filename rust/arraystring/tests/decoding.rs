@@ -158,6 +158,10 @@ fn each_character_is_taken() {
             let mut pushed = ArrayString::<4>::new();
             assert_eq!((pushed.try_push(ch), pushed.as_bytes()), (Ok(()), spelled.as_bytes()));
             assert_eq!((pushed.pop(), pushed.is_empty()), (Some(ch), true));
+            let (mut removed, mut kept) = (string, string);
+            assert_eq!((removed.remove(0), removed.is_empty()), (Ok(ch), true));
+            kept.retain(|asked| asked != ch);
+            assert!(kept.is_empty(), "{ch:?}");
             count += 1;
         }
         count

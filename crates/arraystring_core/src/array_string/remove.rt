@@ -1,12 +1,12 @@
 //! What is removed from a string: a character at the end or at an index, the text from an index on, all of
 //! it. The private calls remove a part, a front or an end of the text.
-ghost use Rattle.std.specs.Prelude.{◌≡◌, ◌≢◌, ◌+◌, ◌-◌, ◌^◌, ◌<◌, ◌≤◌, min, Ok, ◌++◌, IsTrue, length, slice_index, drop, ℕ, List};
-ghost use Rattle.arraystring_base.specs.Text.{size, width, front, back, boundary, utf8};
+ghost use Rattle.std.specs.Prelude.{◌≡◌, ◌≢◌, ◌+◌, ◌-◌, ◌^◌, ◌<◌, ◌≤◌, min, Ok, ◌++◌, IsTrue, slice_index, drop};
+ghost use Rattle.arraystring_base.specs.Text.{size, width, front, back, boundary};
 ghost use Rattle.arraystring_core.specs.Edits.{Makes, popping, from_utf8_error, with_text, truncation, removal, clearing, split};
 
 use crate::ArrayString;
 use arraystring_base::error::{Error, Utf8};
-use arraystring_base::utils::Steps;
+use arraystring_base::utils::{Steps, first_char};
 
 impl<const N: usize> ArrayString<N> {
     /// Shortens the text to its first `size` bytes. Nothing changes if it has no more.
@@ -122,18 +122,4 @@ impl<const N: usize> ArrayString<N> {
     {
         first_char(&self.as_str()[at..])
     }
-}
-
-/// The first character of a text that has one, and how many bytes it takes.
-pub(super) fn first_char(text: &str) -> (char, usize)
-    requires { 0 < length text.now }
-    ensures first { (rest : List ℕ) × (text.now ≡ utf8 result.0 ++ rest) }
-    ensures width { result.1 ≡ width result.0 }
-    ensures some { 0 < result.1 }
-    ensures within { result.1 ≤ length text.now }
-{
-    let Some(ch) = text.chars().next() else {
-        unreachable!();
-    };
-    (ch, ch.len_utf8())
 }

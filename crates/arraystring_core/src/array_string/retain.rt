@@ -4,8 +4,7 @@ ghost use Rattle.std.specs.List.Retain.{IsFiltered};
 ghost use Rattle.arraystring_core.specs.Retain.{IsCallableInTurn};
 
 use crate::ArrayString;
-use crate::array_string::remove::first_char;
-use arraystring_base::utils::{Steps, shift};
+use arraystring_base::utils::{Steps, first_char, shift};
 use std::str;
 
 impl<const N: usize> ArrayString<N> {

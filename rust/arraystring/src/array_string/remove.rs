@@ -5,7 +5,7 @@
 
 use crate::ArrayString;
 use crate::error::{Error, Utf8};
-use crate::utf8::last_char;
+use crate::utf8::{first_char, last_char};
 
 /// Removals.
 impl<const N: usize> ArrayString<N> {
@@ -254,18 +254,4 @@ impl<const N: usize> ArrayString<N> {
         // SAFETY: this is within: by this function's `# Safety`.
         unsafe { first_char(get_unchecked!(self.as_str(), at..)) }
     }
-}
-
-/// The first character of a text that has one, and how many bytes it takes.
-///
-/// # Safety
-///
-/// - `0 < text.len()`
-#[inline]
-pub(super) unsafe fn first_char(text: &str) -> (char, usize) {
-    let Some(ch) = text.chars().next() else {
-        // SAFETY: this is not reached: by this function's `# Safety`.
-        unsafe { unreachable_unchecked!() };
-    };
-    (ch, ch.len_utf8())
 }

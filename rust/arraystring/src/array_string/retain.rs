@@ -3,8 +3,8 @@
 
 use crate::ArrayString;
 use crate::access::str;
-use crate::array_string::remove::first_char;
 use crate::moves::shift;
+use crate::utf8::first_char;
 
 /// Removals by a closure.
 impl<const N: usize> ArrayString<N> {
