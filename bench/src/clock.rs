@@ -75,7 +75,7 @@ fn time_at<const N: usize>(side: Side, is_waiting: bool, call: Call, case: &Case
         Side::Crate => Some(time::<ArrayString<N>>(is_waiting, call, case, make_any)),
         Side::String => Some(time::<Limited<N>>(is_waiting, call, case, make_any)),
         Side::Arrayvec => Some(time::<arrayvec::ArrayString<N>>(is_waiting, call, case, make)),
-        Side::Proved => None,
+        Side::Proved | Side::Original => None,
     }
 }
 

@@ -90,7 +90,7 @@ pub fn make_programs() {
             Side::Crate => programs::run_all::<side::OfCrate>(&lines),
             Side::String => programs::run_all::<side::OfString>(&lines),
             Side::Arrayvec => programs::run_all::<side::OfArrayvec>(&lines),
-            Side::Proved => {}
+            Side::Proved | Side::Original => {}
         }
     }
 }
@@ -101,7 +101,7 @@ pub fn whole_programs() -> Vec<(&'static str, Counts)> {
     let mut found: Vec<_> = programs::TITLES.iter().map(|title| (*title, Counts::new())).collect();
     for side in SIDES {
         for (_, counts) in &mut found {
-            counts.push(if *side == Side::Proved { None } else { totals.next() });
+            counts.push(if matches!(side, Side::Proved | Side::Original) { None } else { totals.next() });
         }
     }
     found

@@ -1,4 +1,4 @@
-//! What a call costs, by the crate, by its proved build, by std's `String` and by arrayvec: see README.md.
+//! What a call costs, by the crate, by its proved build, by std's `String`, by arrayvec and by arraystring 0.3.0: see README.md.
 
 pub mod calls;
 pub mod cases;
@@ -24,6 +24,7 @@ pub enum Side {
     Proved,
     String,
     Arrayvec,
+    Original,
 }
 
 /// The sides that are built here, ours first.
@@ -33,6 +34,8 @@ pub const SIDES: &[Side] = &[
     Side::Proved,
     Side::String,
     Side::Arrayvec,
+    #[cfg(feature = "original")]
+    Side::Original,
 ];
 
 impl Side {
@@ -42,6 +45,7 @@ impl Side {
             Side::Proved => "proved",
             Side::String => "String",
             Side::Arrayvec => "arrayvec",
+            Side::Original => "0.3.0",
         }
     }
 
@@ -68,7 +72,25 @@ impl Side {
             Side::Proved => Some(proved::answer::<N>(call, case)),
             #[cfg(not(proved))]
             Side::Proved => None,
+            #[cfg(feature = "original")]
+            Side::Original => original_answer::<N>(call, case),
+            #[cfg(not(feature = "original"))]
+            Side::Original => None,
         }
+    }
+}
+
+/// What arraystring 0.3.0 answers. Its `replace_range` does not shorten a text, so it is left out, with the lines, which call it.
+#[cfg(feature = "original")]
+fn original_answer<const N: usize>(call: Call, case: &Case) -> Option<u64> {
+    use original::ArrayString;
+    use original::typenum::{U23, U63, U255};
+
+    match (call, N) {
+        (Call::ReplaceRange | Call::Lines, _) => None,
+        (_, 23) => calls::answer::<ArrayString<U23>>(call, case, calls::make_any),
+        (_, 63) => calls::answer::<ArrayString<U63>>(call, case, calls::make_any),
+        _ => calls::answer::<ArrayString<U255>>(call, case, calls::make_any),
     }
 }
 

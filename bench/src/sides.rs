@@ -39,120 +39,132 @@ pub trait More: Side {
     fn drain(&mut self, start: usize, end: usize, from_back: bool, each: impl FnMut(char)) -> bool;
 }
 
-impl<const N: usize> Side for ArrayString<N> {
-    fn new() -> Self {
-        Self::new()
-    }
+/// A string whose calls have the names of this crate's. Where `remove` of an empty text is undefined, it is refused before the call.
+macro_rules! side {
+    ([$($generic:tt)*] $text:ty, tests_empty: $tests_empty:literal) => {
+        impl<$($generic)*> Side for $text {
+            fn new() -> Self {
+                Self::new()
+            }
 
-    fn as_str(&self) -> &str {
-        Self::as_str(self)
-    }
+            fn as_str(&self) -> &str {
+                Self::as_str(self)
+            }
 
-    fn size(&self) -> usize {
-        usize::from(Self::len(self))
-    }
+            fn size(&self) -> usize {
+                usize::from(Self::len(self))
+            }
 
-    fn try_from_str(given: &str) -> Option<Self> {
-        Self::try_from_str(given).ok()
-    }
+            fn try_from_str(given: &str) -> Option<Self> {
+                Self::try_from_str(given).ok()
+            }
 
-    #[inline(always)]
-    fn try_push_str(&mut self, given: &str) -> bool {
-        Self::try_push_str(self, given).is_ok()
-    }
+            #[inline(always)]
+            fn try_push_str(&mut self, given: &str) -> bool {
+                Self::try_push_str(self, given).is_ok()
+            }
 
-    #[inline(always)]
-    fn try_push(&mut self, ch: char) -> bool {
-        Self::try_push(self, ch).is_ok()
-    }
+            #[inline(always)]
+            fn try_push(&mut self, ch: char) -> bool {
+                Self::try_push(self, ch).is_ok()
+            }
 
-    fn pop(&mut self) -> Option<char> {
-        Self::pop(self)
-    }
+            fn pop(&mut self) -> Option<char> {
+                Self::pop(self)
+            }
 
-    fn remove(&mut self, index: usize) -> Option<char> {
-        Self::remove(self, index as u8).ok()
-    }
+            fn remove(&mut self, index: usize) -> Option<char> {
+                if $tests_empty && Self::is_empty(self) {
+                    return None;
+                }
+                Self::remove(self, index as u8).ok()
+            }
 
-    fn truncate(&mut self, size: usize) -> bool {
-        Self::truncate(self, size as u8).is_ok()
-    }
+            fn truncate(&mut self, size: usize) -> bool {
+                Self::truncate(self, size as u8).is_ok()
+            }
 
-    fn clear(&mut self) {
-        Self::clear(self);
-    }
-}
-
-impl<const N: usize> More for ArrayString<N> {
-    #[inline(always)]
-    fn from_str_truncate(given: &str) -> Self {
-        Self::from_str_truncate(given)
-    }
-
-    fn from_chars(chars: impl Iterator<Item = char>) -> Self {
-        Self::from_chars(chars)
-    }
-
-    fn try_from_utf8(given: &[u8]) -> Option<Self> {
-        Self::try_from_utf8(given).ok()
-    }
-
-    fn from_utf8(given: &[u8]) -> Option<Self> {
-        Self::from_utf8(given).ok()
-    }
-
-    fn from_utf16(units: &[u16]) -> Option<Self> {
-        Self::from_utf16(units).ok()
-    }
-
-    fn from_utf16_lossy(units: &[u16]) -> Self {
-        Self::from_utf16_lossy(units)
-    }
-
-    fn push_str(&mut self, given: &str) {
-        Self::push_str(self, given);
-    }
-
-    fn try_insert(&mut self, index: usize, ch: char) -> bool {
-        Self::try_insert(self, index as u8, ch).is_ok()
-    }
-
-    fn try_insert_str(&mut self, index: usize, given: &str) -> bool {
-        Self::try_insert_str(self, index as u8, given).is_ok()
-    }
-
-    #[inline(always)]
-    fn insert_str(&mut self, index: usize, given: &str) -> bool {
-        Self::insert_str(self, index as u8, given).is_ok()
-    }
-
-    fn replace_range(&mut self, start: usize, end: usize, given: &str) -> bool {
-        Self::replace_range(self, start as u8..end as u8, given).is_ok()
-    }
-
-    fn trim(&mut self) {
-        Self::trim(self);
-    }
-
-    fn retain(&mut self, keeps: impl FnMut(char) -> bool) {
-        Self::retain(self, keeps);
-    }
-
-    fn split_off(&mut self, at: usize) -> Option<Self> {
-        Self::split_off(self, at as u8).ok()
-    }
-
-    #[inline(always)]
-    fn drain(&mut self, start: usize, end: usize, from_back: bool, each: impl FnMut(char)) -> bool {
-        let Ok(drained) = Self::drain(self, start as u8..end as u8) else { return false };
-        if from_back {
-            drained.rev().for_each(each)
-        } else {
-            drained.for_each(each)
+            fn clear(&mut self) {
+                Self::clear(self);
+            }
         }
-        true
-    }
+
+        impl<$($generic)*> More for $text {
+            #[inline(always)]
+            fn from_str_truncate(given: &str) -> Self {
+                Self::from_str_truncate(given)
+            }
+
+            fn from_chars(chars: impl Iterator<Item = char>) -> Self {
+                Self::from_chars(chars)
+            }
+
+            fn try_from_utf8(given: &[u8]) -> Option<Self> {
+                Self::try_from_utf8(given).ok()
+            }
+
+            fn from_utf8(given: &[u8]) -> Option<Self> {
+                Self::from_utf8(given).ok()
+            }
+
+            fn from_utf16(units: &[u16]) -> Option<Self> {
+                Self::from_utf16(units).ok()
+            }
+
+            fn from_utf16_lossy(units: &[u16]) -> Self {
+                Self::from_utf16_lossy(units)
+            }
+
+            fn push_str(&mut self, given: &str) {
+                Self::push_str(self, given);
+            }
+
+            fn try_insert(&mut self, index: usize, ch: char) -> bool {
+                Self::try_insert(self, index as u8, ch).is_ok()
+            }
+
+            fn try_insert_str(&mut self, index: usize, given: &str) -> bool {
+                Self::try_insert_str(self, index as u8, given).is_ok()
+            }
+
+            #[inline(always)]
+            fn insert_str(&mut self, index: usize, given: &str) -> bool {
+                Self::insert_str(self, index as u8, given).is_ok()
+            }
+
+            fn replace_range(&mut self, start: usize, end: usize, given: &str) -> bool {
+                Self::replace_range(self, start as u8..end as u8, given).is_ok()
+            }
+
+            fn trim(&mut self) {
+                Self::trim(self);
+            }
+
+            fn retain(&mut self, keeps: impl FnMut(char) -> bool) {
+                Self::retain(self, keeps);
+            }
+
+            fn split_off(&mut self, at: usize) -> Option<Self> {
+                Self::split_off(self, at as u8).ok()
+            }
+
+            #[inline(always)]
+            fn drain(&mut self, start: usize, end: usize, from_back: bool, each: impl FnMut(char)) -> bool {
+                let Ok(drained) = Self::drain(self, start as u8..end as u8) else { return false };
+                if from_back {
+                    drained.rev().for_each(each)
+                } else {
+                    drained.for_each(each)
+                }
+                true
+            }
+        }
+    };
 }
+
+side!([const N: usize] ArrayString<N>, tests_empty: false);
+#[cfg(feature = "original")]
+side!([Size: original::prelude::Capacity] original::ArrayString<Size>, tests_empty: true);
 
 /// Std's `String` that holds at most `N` bytes, with that room reserved. It makes the tests that the other sides make.
 #[derive(PartialEq, Eq, PartialOrd, Ord, Hash)]
