@@ -16,8 +16,6 @@ mod EndLemmas
 mod CauseLemmas
 mod PartLemmas
 mod DrainLemmas
-mod EqualLemmas
-mod OrderLemmas
-mod WordLemmas
+mod CompareLemmas
 mod UnitLemmas
 mod WellFormedLemmas

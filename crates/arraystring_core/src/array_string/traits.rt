@@ -9,8 +9,7 @@ ghost use Rattle.std.specs.Hash as fed;
 ghost use Rattle.std.specs.Ordering.{nat_cmp, MatchOrdering};
 
 use crate::ArrayString;
-use crate::blockwise::equal::equal;
-use crate::blockwise::order::order;
+use crate::blockwise::compare::{equal, order};
 use arraystring_base::error::OutOfBounds;
 use std::cmp::Ordering;
 use std::fmt;
@@ -126,7 +125,7 @@ impl<const N: usize> Ord for ArrayString<N> {
     {
         // `other` is read first: in the other order the compiler moves a register.
         let other_text = other.as_str();
-        order::<N>(self.as_str(), other_text)
+        order(self.as_str(), other_text)
     }
 }
 

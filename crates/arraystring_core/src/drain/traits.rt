@@ -8,7 +8,7 @@ ghost use Rattle.std.specs.Hash as fed;
 ghost use Rattle.std.specs.Ordering.{nat_cmp, MatchOrdering};
 
 use crate::Drain;
-use crate::blockwise::order::order;
+use crate::blockwise::compare::order;
 use arraystring_base::utils::{Steps, last_char};
 use std::cmp::Ordering;
 use std::fmt;
@@ -115,7 +115,7 @@ impl<const N: usize> Ord for Drain<N> {
             (self.now.left ≡ other.now.left)
             (IsBefore other.now.left self.now.left) }
     {
-        order::<N>(self.as_str(), other.as_str())
+        order(self.as_str(), other.as_str())
     }
 }
 

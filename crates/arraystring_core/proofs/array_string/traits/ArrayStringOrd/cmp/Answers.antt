@@ -1,10 +1,6 @@
-use Rattle.std.proofs.Common.{◌∙◌, arith}
+use Rattle.std.proofs.Common.{◌∙◌}
 use Rattle.arraystring_base.proofs.OrderLaws.{order-bytes, order-says}
-use Rattle.arraystring_base.proofs.TextLaws.{size-is}
 use Rattle.arraystring_core.proofs.array_string.traits.ArrayStringOrd.cmp.Goals as goal
-
-pub order-requires : goal.order-requires
-order-requires g c = record { most = rw c.as_str.ensures.bytes (omega (arith, size-is c.args.self.now.text)) }
 
 pub returns : goal.returns
 returns g c =

@@ -1,5 +1,5 @@
-use Rattle.std.proofs.Common.{◌-◌, ◌≡◌, ◌≤◌, take}
-use Rattle.arraystring_core.proofs.blockwise.order.equal_groups.Given as goal
+use Rattle.std.proofs.Common.{◌≡◌, ◌-◌, ◌≤◌, take}
+use Rattle.arraystring_core.proofs.blockwise.compare.difference_by_blocks.Given as goal
 
 abbrev pub invariant-loop-at : goal.invariant-loop-at
 invariant-loop-at l = (take l.at l.a ≡ take l.at l.b) × (l.at ≤ l.common)
