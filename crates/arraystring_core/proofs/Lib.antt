@@ -16,6 +16,5 @@ mod EndLemmas
 mod CauseLemmas
 mod PartLemmas
 mod DrainLemmas
-mod CompareLemmas
 mod UnitLemmas
 mod WellFormedLemmas

@@ -4,12 +4,12 @@
 #![tactic(auto)]
 
 pub mod array_string;
-mod blockwise;
 pub mod drain;
 pub mod integration;
 pub mod laws;
 mod range_ends;
 pub mod utils;
+mod well_formed;
 
 pub use array_string::ArrayString;
 pub use drain::Drain;

@@ -1,4 +1,4 @@
-// Proved sources: crates/arraystring_base/src/utf8.rt, crates/arraystring_core/src/blockwise/well_formed.rt
+// Proved sources: crates/arraystring_base/src/utf8.rt, crates/arraystring_core/src/well_formed.rt
 //! The UTF-8 of texts and characters: boundaries, cuts, the first and the last character of a text, the bytes of
 //! a character, and whether bytes are UTF-8. Sizes and indices count bytes of UTF-8.
 

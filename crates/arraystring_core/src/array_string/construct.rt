@@ -9,7 +9,7 @@ ghost use Rattle.arraystring_core.specs.Taken.{Takes, Gives, joined, joined_piec
 
 use crate::ArrayString;
 use crate::array_string::fill::try_fill;
-use crate::blockwise::well_formed::read_utf8;
+use crate::well_formed::read_utf8;
 use arraystring_base::error::{Error, OutOfBounds, Utf8};
 use arraystring_base::utils::truncate_str;
 use std::str;

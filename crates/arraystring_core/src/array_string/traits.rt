@@ -9,7 +9,6 @@ ghost use Rattle.std.specs.Hash as fed;
 ghost use Rattle.std.specs.Ordering.{nat_cmp, MatchOrdering};
 
 use crate::ArrayString;
-use crate::blockwise::compare::{equal, order};
 use arraystring_base::error::OutOfBounds;
 use std::cmp::Ordering;
 use std::fmt;
@@ -123,9 +122,7 @@ impl<const N: usize> Ord for ArrayString<N> {
             (self.now.text ≡ other.now.text)
             (IsBefore other.now.text self.now.text) }
     {
-        // `other` is read first: in the other order the compiler moves a register.
-        let other_text = other.as_str();
-        order(self.as_str(), other_text)
+        self.as_str().cmp(other.as_str())
     }
 }
 
@@ -136,7 +133,7 @@ impl<const N: usize> PartialEq for ArrayString<N> {
     ghost laws = { on_per (λ s. s.text) (partial_equiv_from_equiv nat_list_eq_equiv) };
 
     fn eq(&self, other: &Self) -> bool {
-        equal(self.as_str(), other.as_str())
+        self.as_str() == other.as_str()
     }
 }
 

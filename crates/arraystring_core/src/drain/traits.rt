@@ -8,7 +8,6 @@ ghost use Rattle.std.specs.Hash as fed;
 ghost use Rattle.std.specs.Ordering.{nat_cmp, MatchOrdering};
 
 use crate::Drain;
-use crate::blockwise::compare::order;
 use arraystring_base::utils::{Steps, last_char};
 use std::cmp::Ordering;
 use std::fmt;
@@ -115,7 +114,7 @@ impl<const N: usize> Ord for Drain<N> {
             (self.now.left ≡ other.now.left)
             (IsBefore other.now.left self.now.left) }
     {
-        order(self.as_str(), other.as_str())
+        self.as_str().cmp(other.as_str())
     }
 }
 

@@ -4,6 +4,6 @@ use Rattle.arraystring_core.proofs.array_string.traits.ArrayStringOrd.cmp.Goals 
 
 pub returns : goal.returns
 returns g c =
-    let borrowed = rw (c.as_str.ensures.bytes, c.as_str-other_text.ensures.bytes) at c.order.ensures in
+    let borrowed = rw (c.as_str.ensures.bytes, c.as_str-2.ensures.bytes) at c.cmp.ensures in
     let same = borrowed ∙ order-bytes c.args.self.now.text c.args.other.now.text in
     record { order = same; of_bytes = borrowed; says = order-says c.args.self.now.text c.args.other.now.text _ same }

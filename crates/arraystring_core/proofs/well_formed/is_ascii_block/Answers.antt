@@ -2,7 +2,7 @@ use Rattle.std.proofs.Common.{◌≡◌, ◌∙◌, ap, sym, arith, replicate, t
 use Rattle.std.proofs.lemmas.List.{length-map}
 use Rattle.std.proofs.lemmas.Simd.{tops_compared, zip2_splat_left, mask_l-mod, none_from_empty_mask}
 use Rattle.std.specs.Simd.Lanes.{mask_l}
-use Rattle.arraystring_core.proofs.blockwise.well_formed.is_ascii_block.Goals as goal
+use Rattle.arraystring_core.proofs.well_formed.is_ascii_block.Goals as goal
 
 pub returns : goal.returns
 returns g c e k ge lt =

@@ -1,5 +1,5 @@
 use Rattle.std.proofs.Common.{ℕ, ◌-◌, ◌<◌, ◌≤◌, length, slice_index}
-use Rattle.arraystring_core.proofs.blockwise.well_formed.ascii_at_front.Given as goal
+use Rattle.arraystring_core.proofs.well_formed.ascii_at_front.Given as goal
 
 abbrev pub invariant-loop-at : goal.invariant-loop-at
 invariant-loop-at l = (l.at ≤ length l.bytes) × ((k : ℕ) → k < l.at → slice_index l.bytes k < 128)

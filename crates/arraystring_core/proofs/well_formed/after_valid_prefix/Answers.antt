@@ -1,6 +1,6 @@
 use Rattle.std.proofs.Common.{arith, ◌-◌, drop, length, length-drop, length-take-le}
 use Rattle.arraystring_core.proofs.WellFormedLemmas.{utf8-behind}
-use Rattle.arraystring_core.proofs.blockwise.well_formed.after_valid_prefix.Goals as goal
+use Rattle.arraystring_core.proofs.well_formed.after_valid_prefix.Goals as goal
 
 pub loop-rest-init : goal.loop-rest-init
 loop-rest-init c = (λ u. u, λ u. u)

@@ -1,6 +1,6 @@
 use Rattle.std.proofs.Common.{refl, arith}
 use Rattle.arraystring_core.proofs.WellFormedLemmas.{one-byte, two-bytes, three-bytes, four-bytes}
-use Rattle.arraystring_core.proofs.blockwise.well_formed.character_at_front.Goals as goal
+use Rattle.arraystring_core.proofs.well_formed.character_at_front.Goals as goal
 
 pub returns-in-0-to-127-clause-character : goal.returns-in-0-to-127-clause-character
 returns-in-0-to-127-clause-character c = one-byte c.args.first (omega arith)
