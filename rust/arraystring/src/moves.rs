@@ -1,11 +1,12 @@
 // Proved sources: crates/arraystring_base/src/moves.rt
-//! The two moves of bytes: `shift`, inside an array, and `write_over`, of a given run into it. All that makes them
-//! fast is in this file.
+//! The two moves of bytes: `shift`, inside an array, and `write_over`, of a given run into it. Each has a form for
+//! cold functions: `shift_by_call` and `write_by_call`. All that makes them fast is in this file.
 //!
 //! Fewer than 16 bytes move as their first `K` and their last `K`, which may overlap, and both are read before the
 //! first is written. `memmove` moves short runs in this way too. They are read as vectors, since those stay in
-//! registers; arrays of bytes would be put on the stack. A longer run is one call, of `move_bytes` or
-//! `write_long_run`: these take a slice, and so each stands once in a program.
+//! registers; arrays of bytes would be put on the stack. A longer run is one call, of `memmove` or `memcpy`, in
+//! `move_bytes` and `write_bytes`. The forms for cold functions make this call at any length: these functions run
+//! seldom, and in them the moves in place would only be more code.
 
 use crate::simd::Simd;
 
@@ -48,6 +49,17 @@ pub unsafe fn shift<const N: usize>(array: &mut [u8; N], from: usize, to: usize,
     }
 }
 
+/// Moves as `shift` does, by one call at any length. It is for cold functions.
+///
+/// # Safety
+///
+/// - `from + len <= N`
+/// - `to + len <= N`
+pub(crate) unsafe fn shift_by_call<const N: usize>(array: &mut [u8; N], from: usize, to: usize, len: usize) {
+    // SAFETY: `from + len <= array[..].len()`; `to + len <= array[..].len()`: by this function's `# Safety`.
+    unsafe { move_bytes(&mut array[..], from, to, len) };
+}
+
 /// Moves as `shift` does. No test is made for more bytes than an array of `N` bytes can have.
 ///
 /// # Safety
@@ -61,20 +73,18 @@ unsafe fn move_run<const N: usize>(array: &mut [u8; N], from: usize, to: usize, 
         // `# Safety` and the test above, since `len` is at most `N`.
         unsafe { move_short_run::<N>(all, from, to, len) };
     } else {
-        // SAFETY: `from + len <= all.len()`; `to + len <= all.len()`; `16 <= len`: by this function's `# Safety` and
-        // the test above.
+        // SAFETY: `from + len <= all.len()`; `to + len <= all.len()`: by this function's `# Safety`.
         unsafe { move_bytes(all, from, to, len) };
     }
 }
 
-/// Moves 16 bytes or more. It is not inlined: a program has one copy of it, and each use is a call.
+/// Moves any number of bytes. It is `memmove`, so a call of its own would only be more to run.
 ///
 /// # Safety
 ///
 /// - `from + len <= all.len()`
 /// - `to + len <= all.len()`
-/// - `16 <= len`
-#[inline(never)]
+#[inline]
 unsafe fn move_bytes(all: &mut [u8], from: usize, to: usize, len: usize) {
     // SAFETY: this is within: by this function's `# Safety`.
     unsafe { copy_within_unchecked!(all, from..from + len, to) };
@@ -146,20 +156,28 @@ pub(crate) unsafe fn write_over<const N: usize>(array: &mut [u8; N], at: usize, 
         // `# Safety` and the test above, since `given.len()` is at most `N`.
         unsafe { write_short_run::<N>(all, at, given) };
     } else {
-        // SAFETY: `at + given.len() <= all.len()`; `16 <= given.len()`: by this function's `# Safety` and the test
-        // above.
-        unsafe { write_long_run(all, given, at) };
+        // SAFETY: `at + given.len() <= all.len()`: by this function's `# Safety`.
+        unsafe { write_bytes(all, given, at) };
     }
 }
 
-/// Writes 16 bytes or more.
+/// Writes as `write_over` does, by one call at any length. It is for cold functions.
+///
+/// # Safety
+///
+/// - `at + given.len() <= N`
+pub(crate) unsafe fn write_by_call<const N: usize>(array: &mut [u8; N], at: usize, given: &[u8]) {
+    // SAFETY: `at + given.len() <= array[..].len()`: by this function's `# Safety`.
+    unsafe { write_bytes(&mut array[..], given, at) };
+}
+
+/// Writes any number of bytes.
 ///
 /// # Safety
 ///
 /// - `at + given.len() <= all.len()`
-/// - `16 <= given.len()`
 #[inline]
-unsafe fn write_long_run(all: &mut [u8], given: &[u8], at: usize) {
+unsafe fn write_bytes(all: &mut [u8], given: &[u8], at: usize) {
     // SAFETY: this is within: by this function's `# Safety`.
     unsafe { copy_from_slice_unchecked!(all, at..at + given.len(), given) };
 }

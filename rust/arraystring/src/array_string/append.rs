@@ -3,7 +3,7 @@
 
 use crate::ArrayString;
 use crate::error::OutOfBounds;
-use crate::moves::{shift, write_over};
+use crate::moves::{shift_by_call, write_by_call};
 use crate::utf8::encode;
 
 impl<const N: usize> ArrayString<N> {
@@ -34,10 +34,10 @@ impl<const N: usize> ArrayString<N> {
             return Err(OutOfBounds);
         }
         // SAFETY: `start + size <= N`; `size <= N`: as the fields of `ArrayString` say.
-        unsafe { shift(&mut self.array, start, 0, size) };
+        unsafe { shift_by_call(&mut self.array, start, 0, size) };
         // SAFETY: `size + ch.len_utf8() <= N`: `has_room` returned true, and the capacity is at most `N`.
         let width = unsafe { encode(ch, &mut self.array, size) };
-        // FIELDS: `shift` moved the text there, and `encode` wrote `ch` at its end.
+        // FIELDS: `shift_by_call` moved the text there, and `encode` wrote `ch` at its end.
         self.start = 0;
         // FIELDS: `has_room` returned true, so the text with `ch` is at most the capacity.
         self.size += width as u8;
@@ -54,15 +54,15 @@ impl<const N: usize> ArrayString<N> {
         if size + string.len() > Self::capacity() as usize {
             return Err(OutOfBounds);
         }
-        // FIELDS: `shift` moves the text there.
+        // FIELDS: `shift_by_call` moves the text there.
         self.start = 0;
-        // FIELDS: the text with `string` is at most the capacity by the test above, and `write_over` writes `string` at
-        // its end.
+        // FIELDS: the text with `string` is at most the capacity by the test above, and `write_by_call` writes `string`
+        // at its end.
         self.size += string.len() as u8;
         // SAFETY: `from + size <= N`; `size <= N`: as the fields of `ArrayString` say.
-        unsafe { shift(&mut self.array, from, 0, size) };
+        unsafe { shift_by_call(&mut self.array, from, 0, size) };
         // SAFETY: `size + string.as_bytes().len() <= N`: by the test above, and the capacity is at most `N`.
-        unsafe { write_over(&mut self.array, size, string.as_bytes()) };
+        unsafe { write_by_call(&mut self.array, size, string.as_bytes()) };
         Ok(())
     }
 
