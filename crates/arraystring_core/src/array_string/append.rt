@@ -29,7 +29,7 @@ impl<const N: usize> ArrayString<N> {
     /// apart from `try_push`, each of whose calls would be longer.
     #[cold]
     #[inline(never)]
-    pub(super) fn push_at_front(&mut self, ch: char) -> Result<(), OutOfBounds>
+    pub(super) fn compact_and_push(&mut self, ch: char) -> Result<(), OutOfBounds>
         ensures { Makes (addition self.old.text (ch ∷ []) (cap N)) self.old.text (from_out_of_bounds result) self.new.text }
     {
         let (start, size) = (self.start as usize, self.size as usize);
@@ -44,10 +44,10 @@ impl<const N: usize> ArrayString<N> {
     }
 
     /// Appends `string` to a text that has to move to the start of the array for it, if it fits so. It
-    /// stands apart from `try_push_str`, as `push_at_front` does from `try_push`.
+    /// stands apart from `try_push_str`, as `compact_and_push` does from `try_push`.
     #[cold]
     #[inline(never)]
-    pub(super) fn push_str_at_front(&mut self, string: &str) -> Result<(), OutOfBounds>
+    pub(super) fn compact_and_push_str(&mut self, string: &str) -> Result<(), OutOfBounds>
         ensures { Makes (addition self.old.text (chars string.now) (cap N))
             self.old.text (from_out_of_bounds result) self.new.text }
     {
@@ -62,7 +62,7 @@ impl<const N: usize> ArrayString<N> {
         Ok(())
     }
 
-    /// Appends the characters before the first that does not fit. Refuses if there is such a one.
+    /// Appends the characters before the first that does not fit. Returns `Err` if there is such a one: what fitted stays.
     pub(super) fn add_chars<I: IntoIterator<Item = char> + Drop>(
         &mut self,
         characters: I,
@@ -83,8 +83,8 @@ impl<const N: usize> ArrayString<N> {
         Ok(())
     }
 
-    /// Appends the pieces before the first that does not fit, and of that one what fits. Refuses
-    /// if there is such a one.
+    /// Appends the pieces before the first that does not fit, and of that one what fits. Returns `Err`
+    /// if there is such a one: what fitted stays.
     pub(super) fn add_strs<'a, I: IntoIterator<Item = &'a str> + Drop>(
         &mut self,
         pieces: I,

@@ -1,4 +1,5 @@
-//! The tests of each kind of row, in the order of the row. The first that holds decides which error it is.
+//! What each kind of edit refuses, in the order of its errors: a row of the table of edits (docs/definitions.md) has these
+//! tests. The first that finds a cause decides which error it is.
 ghost use Rattle.std.specs.Prelude.{◌≡◌, ◌+◌, ◌-◌, ◌≤◌, ◌∷◌, []};
 ghost use Rattle.arraystring_base.specs.Text.{cap, size};
 ghost use Rattle.arraystring_core.specs.Edits.{first_cause, ok_unless, past, crossed, at_end, inside, no_room};
@@ -7,7 +8,7 @@ use crate::ArrayString;
 use arraystring_base::error::Error;
 
 impl<const N: usize> ArrayString<N> {
-    /// An index at which the text is divided.
+    /// Refuses an index past the text, and then one inside a character.
     #[inline(always)]
     pub(super) fn check_index(&self, index: u8) -> Result<(), Error>
         ensures { result ≡ ok_unless (first_cause (past self.now.text index ∷ inside self.now.text index ∷ [])) tt }
@@ -18,7 +19,7 @@ impl<const N: usize> ArrayString<N> {
         self.check_boundary(index)
     }
 
-    /// An index at which `len` bytes are inserted.
+    /// Refuses to insert `len` bytes at an index past the text, or without room, or inside a character.
     #[inline(always)]
     pub(super) fn check_insertion(&self, index: u8, len: usize) -> Result<(), Error>
         ensures { result ≡ ok_unless (first_cause (past self.now.text index
@@ -33,7 +34,7 @@ impl<const N: usize> ArrayString<N> {
         self.check_boundary(index)
     }
 
-    /// An index at which a character is removed.
+    /// Refuses an index at which no character begins: at the end or past it, and then one inside a character.
     #[inline(always)]
     pub(super) fn check_removal(&self, index: u8) -> Result<(), Error>
         ensures { result ≡ ok_unless (first_cause (at_end self.now.text index ∷ inside self.now.text index ∷ [])) tt }
@@ -44,7 +45,7 @@ impl<const N: usize> ArrayString<N> {
         self.check_boundary(index)
     }
 
-    /// The two ends of a part that is removed.
+    /// Refuses a range that is reversed or past the text, and then one whose start, or whose end, is inside a character.
     #[inline(always)]
     pub(super) fn check_part(&self, start: u8, end: u8) -> Result<(), Error>
         ensures { result ≡ ok_unless (first_cause (crossed start end ∷ past self.now.text end
@@ -57,7 +58,7 @@ impl<const N: usize> ArrayString<N> {
         self.check_boundary(end)
     }
 
-    /// The two ends of a part that is replaced by `len` bytes.
+    /// Refuses to put `len` bytes in place of a range: as `check_part` does, and for want of room after its first two tests.
     #[inline(always)]
     pub(super) fn check_replacement(&self, start: u8, end: u8, len: usize) -> Result<(), Error>
         ensures { result ≡ ok_unless (first_cause (crossed start end ∷ past self.now.text end
@@ -75,7 +76,7 @@ impl<const N: usize> ArrayString<N> {
         self.check_boundary(end)
     }
 
-    /// An index in the text that may be inside a character.
+    /// Refuses an index in the text that is inside a character.
     #[inline(always)]
     fn check_boundary(&self, index: u8) -> Result<(), Error>
         ensures { index ≤ size self.now.text → result ≡ ok_unless (first_cause (inside self.now.text index ∷ [])) tt }

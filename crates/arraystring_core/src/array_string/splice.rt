@@ -1,5 +1,6 @@
-//! The one way in which bytes are put in or taken out: the part between two boundaries becomes another text. What
-//! follows it moves. If there is no room after the text, what precedes it moves to the start of the array, too.
+//! How a part between two boundaries becomes another text. What follows it moves. If there is no room behind the text,
+//! what precedes it moves to the start of the array, too. Appends, and removals at the front and at the end, move nothing
+//! or all of the text: `append` and `remove` have them.
 ghost use Rattle.std.specs.Prelude.{◌≡◌, ◌≢◌, ◌+◌, ◌-◌, ◌^◌, ◌≤◌, min, ◌∷◌, ◌++◌, IsTrue, chars};
 ghost use Rattle.arraystring_base.specs.Text.{size, width, cap, front, back, boundary};
 
@@ -8,8 +9,7 @@ use arraystring_base::utils::{Steps, encode, shift, write_over};
 use std::str;
 
 impl<const N: usize> ArrayString<N> {
-    /// Replaces the text between two boundaries by `given`. There must be room for it. A text that does not grow
-    /// has room: the compiler is told so, and leaves the test out where nothing is given.
+    /// Replaces the text between two boundaries by `given`. The new text must fit.
     #[inline(always)]
     pub(super) fn splice(&mut self, start: usize, end: usize, given: &str, steps: &mut Steps)
         requires order { start ≤ end }
@@ -28,6 +28,7 @@ impl<const N: usize> ArrayString<N> {
     {
         let (offset, size) = (self.start as usize, self.size as usize);
         let (len, tail) = (given.len(), size - end);
+        // (That the text grows follows from the first test. It is there for the compiler, which drops both if nothing is given.)
         if offset + (start + (len + tail)) > Self::capacity() as usize && len > end - start {
             return self.compact_and_splice(start, end, given, steps);
         }
@@ -68,9 +69,9 @@ impl<const N: usize> ArrayString<N> {
         write_over(&mut self.array, start, given.as_bytes());
     }
 
-    /// Puts `ch` at a boundary, as `splice` does with a text. There must be room for it. Its UTF-8 is written
-    /// straight into the array: by a text of four bytes `try_insert` takes some ten instructions more (its curve in
-    /// docs/speed.md).
+    /// Puts `ch` at a boundary, as `splice` does with a text. The new text must fit. The UTF-8 of `ch` is written straight
+    /// into the array if there is room behind the text. By a text of four bytes `try_insert` would take some ten
+    /// instructions more.
     #[inline(always)]
     pub(super) fn splice_char(&mut self, at: usize, ch: char)
         requires boundary { IsTrue (boundary self.old.text at) }

@@ -27,7 +27,7 @@ impl<const N: usize> ArrayString<N> {
     #[expect(clippy::cast_possible_truncation, reason = "a character takes at most four bytes")]
     #[cold]
     #[inline(never)]
-    pub(super) fn push_at_front(&mut self, ch: char) -> Result<(), OutOfBounds> {
+    pub(super) fn compact_and_push(&mut self, ch: char) -> Result<(), OutOfBounds> {
         let (start, size) = (self.start as usize, self.size as usize);
         // SAFETY: `size <= 255`: as the fields of `ArrayString` say, the text is not larger than the capacity.
         if !unsafe { Self::has_room(size, ch) } {
@@ -45,11 +45,11 @@ impl<const N: usize> ArrayString<N> {
     }
 
     /// Appends `string` to a text that has to move to the start of the array for it, if it fits so. It
-    /// stands apart from `try_push_str`, as `push_at_front` does from `try_push`.
+    /// stands apart from `try_push_str`, as `compact_and_push` does from `try_push`.
     #[expect(clippy::cast_possible_truncation, reason = "by the test above it is at most the capacity")]
     #[cold]
     #[inline(never)]
-    pub(super) fn push_str_at_front(&mut self, string: &str) -> Result<(), OutOfBounds> {
+    pub(super) fn compact_and_push_str(&mut self, string: &str) -> Result<(), OutOfBounds> {
         let (from, size) = (self.start as usize, self.size as usize);
         if size + string.len() > Self::capacity() as usize {
             return Err(OutOfBounds);
@@ -66,10 +66,10 @@ impl<const N: usize> ArrayString<N> {
         Ok(())
     }
 
-    /// Appends the characters before the first that does not fit. Refuses if there is such a one.
+    /// Appends the characters before the first that does not fit. Returns `Err` if there is such a one: what fitted stays.
     #[inline]
     pub(super) fn add_chars<I: IntoIterator<Item = char>>(&mut self, characters: I) -> Result<(), OutOfBounds> {
-        let _ = &self.array;
+        let _ = &self.array; // gives the prover that the text fits
         for ch in characters {
             match self.try_push(ch) {
                 Ok(()) => {}
@@ -79,11 +79,11 @@ impl<const N: usize> ArrayString<N> {
         Ok(())
     }
 
-    /// Appends the pieces before the first that does not fit, and of that one what fits. Refuses
-    /// if there is such a one.
+    /// Appends the pieces before the first that does not fit, and of that one what fits. Returns `Err`
+    /// if there is such a one: what fitted stays.
     #[inline]
     pub(super) fn add_strs<U: AsRef<str>, I: IntoIterator<Item = U>>(&mut self, pieces: I) -> Result<(), OutOfBounds> {
-        let _ = &self.array;
+        let _ = &self.array; // gives the prover that the text fits
         for piece in pieces {
             let piece = piece.as_ref();
             match self.try_push_str(piece) {

@@ -52,7 +52,7 @@ impl<const N: usize> ArrayString<N> {
         if self.start == 0 {
             return Err(OutOfBounds);
         }
-        self.push_at_front(ch)
+        self.compact_and_push(ch)
     }
 
     /// Appends `string`.
@@ -99,7 +99,7 @@ impl<const N: usize> ArrayString<N> {
         if self.start == 0 {
             return Err(OutOfBounds);
         }
-        self.push_str_at_front(string)
+        self.compact_and_push_str(string)
     }
 
     /// Appends the longest prefix of whole characters of `string` that fits.

@@ -208,7 +208,7 @@ impl<const N: usize> ArrayString<N> {
             // SAFETY: `end` is a boundary of `self`: by this function's `# Safety`.
             return unsafe { self.drop_front(end) };
         }
-        let _ = &self.array;
+        let _ = &self.array; // gives the prover that the text fits
         // SAFETY: `start <= end`; `start` is a boundary of `self`; `end` is a boundary of `self`;
         // `self.len() - (end - start) + "".len() <= Self::capacity()`: by this function's `# Safety`, and since the text
         // fits.
@@ -237,8 +237,7 @@ impl<const N: usize> ArrayString<N> {
     /// - `size` is a boundary of `self`
     #[inline]
     pub(super) unsafe fn set_len(&mut self, size: u8) {
-        // FIELDS: it is at most `self.size` by this function's `# Safety`, so the text begins where it did, and ends at
-        // a boundary, within the capacity.
+        // FIELDS: it is a boundary by this function's `# Safety`, so the text is shorter, begins where it did, and is UTF-8.
         self.size = size;
     }
 

@@ -3,7 +3,7 @@ use Rattle.arraystring_base.specs.Text.{cap, width}
 use Rattle.arraystring_core.proofs.StoredLaws.{opened-size}
 use Rattle.arraystring_core.proofs.AppendLemmas.{char-appended_at_front}
 use Rattle.arraystring_core.proofs.CauseLemmas.{makes-addition, refuses-addition}
-use Rattle.arraystring_core.proofs.array_string.ArrayString.push_at_front.Goals as goal
+use Rattle.arraystring_core.proofs.array_string.ArrayString.compact_and_push.Goals as goal
 
 pub returns-then-not-has_room : goal.returns-then-not-has_room
 returns-then-not-has_room g c =

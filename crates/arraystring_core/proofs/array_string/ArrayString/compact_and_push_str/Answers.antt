@@ -4,7 +4,7 @@ use Rattle.arraystring_base.proofs.TextLaws.{size-borrowed}
 use Rattle.arraystring_core.proofs.StoredLaws.{opened-size}
 use Rattle.arraystring_core.proofs.SpanLemmas.{appended_at_front}
 use Rattle.arraystring_core.proofs.CauseLemmas.{makes-addition, refuses-addition}
-use Rattle.arraystring_core.proofs.array_string.ArrayString.push_str_at_front.Goals as goal
+use Rattle.arraystring_core.proofs.array_string.ArrayString.compact_and_push_str.Goals as goal
 
 pub returns-then-size-string : goal.returns-then-size-string
 returns-then-size-string g c =
