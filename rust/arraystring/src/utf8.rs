@@ -221,6 +221,20 @@ pub unsafe fn encode<const N: usize>(ch: char, array: &mut [u8; N], at: usize) -
         *unsafe { get_unchecked_mut!(all, at) } = code as u8;
         return 1;
     }
+    // SAFETY: `at + ch.len_utf8() <= all.len()`; `0x80 <= ch as u32`: by this function's `# Safety` and the test above.
+    unsafe { encode_wide(ch, all, at) }
+}
+
+/// Writes the UTF-8 of a character that is not ASCII. The compiler inlines it where it serves: a cold function only
+/// calls it.
+///
+/// # Safety
+///
+/// - `at + ch.len_utf8() <= all.len()`
+/// - `0x80 <= ch as u32`
+#[expect(clippy::cast_possible_truncation, reason = "by the tests of `code` each is a byte of UTF-8")]
+unsafe fn encode_wide(ch: char, all: &mut [u8], at: usize) -> usize {
+    let code = ch as u32;
     let last = (0x80 + code % 64) as u8;
     if code < 0x800 {
         let first = (0xC0 + code / 64) as u8;
