@@ -221,7 +221,7 @@ pub unsafe fn encode<const N: usize>(ch: char, array: &mut [u8; N], at: usize) -
         *unsafe { get_unchecked_mut!(all, at) } = code as u8;
         return 1;
     }
-    // SAFETY: `at + ch.len_utf8() <= all.len()`; `0x80 <= ch as u32`: by this function's `# Safety` and the test above.
+    // SAFETY: `at + ch.len_utf8() <= all.len()`; `!ch.is_ascii()`: by this function's `# Safety` and the test above.
     unsafe { encode_wide(ch, all, at) }
 }
 
@@ -231,7 +231,7 @@ pub unsafe fn encode<const N: usize>(ch: char, array: &mut [u8; N], at: usize) -
 /// # Safety
 ///
 /// - `at + ch.len_utf8() <= all.len()`
-/// - `0x80 <= ch as u32`
+/// - `!ch.is_ascii()`
 #[expect(clippy::cast_possible_truncation, reason = "by the tests of `code` each is a byte of UTF-8")]
 unsafe fn encode_wide(ch: char, all: &mut [u8], at: usize) -> usize {
     let code = ch as u32;
