@@ -1,7 +1,7 @@
 -- Laws of boundaries, and of the parts of a text before one, from one on and between two.
-use Rattle.std.proofs.Common.{◌≡◌, ℕ, ◌+◌, ◌≤◌, List, [], ◌∷◌, ◌++◌, true, Some, arith, ap, append_assoc, refl, sym, ◌∙◌}
+use Rattle.std.proofs.Common.{◌≡◌, ℕ, ◌+◌, ◌-◌, ◌≤◌, List, [], ◌∷◌, ◌++◌, true, Some, arith, ap, append_assoc, refl, sym, ◌∙◌}
 use Rattle.std.proofs.lemmas.Bool.Decides.{nat_tests}
-use Rattle.arraystring_base.specs.Text.{size, front, back, boundary}
+use Rattle.arraystring_base.specs.Text.{width, size, front, back, boundary}
 use Rattle.arraystring_base.proofs.TextLaws.{size-append}
 use Rattle.arraystring_core.specs.Edits.{part, part_in}
 pub use Rattle.arraystring_base.proofs.BoundaryLaws.{front-back, front-start, back-start, front-end, back-end, front-is, back-is, front-size, back-size}
@@ -15,6 +15,10 @@ boundary-start t = boundary-is [] t 0 refl
 -- and so is the end, in a form that `grind` finds at any index
 pub boundary-at_end : (t : List ℕ) (i : ℕ) → i ≡ size t → boundary t i ≡ true
 boundary-at_end t i e = rw e (boundary-end t)
+
+-- what is before an index is no larger than the text; so a boundary, which is the size of that, is within the text
+pub front-fits : (t : List ℕ) (i : ℕ) → size (front t i) ≤ size t
+front-fits t i = omega (arith, ap size (front-back t i), size-append (front t i) (back t i))
 
 -- the part from the start to the end is the text
 pub part-all : (t : List ℕ) → part t 0 (size t) ≡ t
@@ -32,6 +36,10 @@ part-end t i = rw front-end refl
 pub part_in-found : (t : List ℕ) (start end : ℕ) {found : List ℕ} → part_in t start end ≡ Some found
     → (start ≤ end) × (boundary t start ≡ true) × (boundary t end ≡ true) × (found ≡ part t start end)
 part_in-found t start end {found} some = grind (arith, nat_tests)
+
+-- the range from the start to a boundary has a part: what is before the boundary
+pub part_in-front : (t : List ℕ) (i : ℕ) → boundary t i ≡ true → part_in t 0 i ≡ Some (front t i)
+part_in-front t i b = part_in-some t 0 i (omega arith) (boundary-start t) b ∙ ap (λ part. Some part) (part-start t i)
 
 -- a part is no larger than its text
 pub part-fits : (t : List ℕ) (start end : ℕ) → size (part t start end) ≤ size t
@@ -61,6 +69,13 @@ pub boundary-behind_given : (t : List ℕ) (i : ℕ) (given : List ℕ) → boun
     × (back new (i + size given) ≡ back t i)
 boundary-behind_given t i given b = let is = boundary-behind t i given (i + size given) b refl refl in (refl, is.0, is.1, is.2)
 
+-- and the same of one character, which `grind` sees without the `++`
+pub boundary-behind_char : (t : List ℕ) (i c : ℕ) → boundary t i ≡ true → let new = front t i ++ c ∷ back t i in
+    (new ≡ new) × (boundary new (i + width c) ≡ true) × (front new (i + width c) ≡ front t i ++ c ∷ [])
+    × (back new (i + width c) ≡ back t i)
+boundary-behind_char t i c b =
+    let is = boundary-behind t i (c ∷ []) (i + width c) b refl (omega arith) in (refl, is.0, is.1, is.2)
+
 -- the place before the last character of what is before an index is a boundary: behind it is this character, and what was there
 pub boundary-before : (t : List ℕ) (i : ℕ) (p : List ℕ) (c j : ℕ) → front t i ≡ p ++ c ∷ [] → j ≡ size p
     → (boundary t j ≡ true) × (front t j ≡ p) × (back t j ≡ c ∷ back t i)
@@ -72,3 +87,12 @@ boundary-before t i p c j is at =
       ap (λ l. front l j) parts ∙ front-is p (c ∷ back t i) j long,
       ap (λ l. back l j) parts ∙ back-is p (c ∷ back t i) j long,
     )
+
+-- the same at a boundary, in a form that `grind` finds: the place is as many bytes to the left as the character takes
+pub boundary-before_char : (t : List ℕ) (i : ℕ) (p : List ℕ) (c : ℕ) → boundary t i ≡ true → front t i ≡ p ++ c ∷ []
+    → (p ++ c ∷ [] ≡ front t i) × (width c ≤ i) × (boundary t (i - width c) ≡ true) × (front t (i - width c) ≡ p)
+    × (back t (i - width c) ≡ c ∷ back t i)
+boundary-before_char t i p c b is =
+    let long : size p + width c ≡ i = omega (arith, ap size is, size-append p (c ∷ []), front-size t i b) in
+    let place = boundary-before t i p c (i - width c) is (omega arith) in
+    (sym is, omega arith, place.0, place.1, place.2)

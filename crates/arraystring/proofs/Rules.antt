@@ -2,11 +2,12 @@
 -- `#[tactic(auto, using(arraystring::proofs::Rules::additions))]`, and the check then lists these laws at each goal.
 -- A row of an edit opens by itself: what a goal lacks is what its tests ask. So each set is small, as `grind` has limits.
 use Rattle.std.proofs.Common.{append_assoc}
-use Rattle.arraystring_base.proofs.TextLaws.{size-append, size-is, size-borrowed, empty-size, width-bounds}
+use Rattle.std.proofs.lemmas.Bool.Decides.{nat_tests}
+use Rattle.arraystring_base.proofs.TextLaws.{size-append, size-is, size-borrowed, empty-size, width-bounds, width-is, chars-bytes}
 use Rattle.arraystring_base.proofs.CutLaws.{cut-all, cut-fits}
 use Rattle.arraystring_base.proofs.BoundaryLaws.{front-start, back-start}
 use Rattle.arraystring.proofs.AdditionLaws.{addition-made, addition-refused, addition_of_cut-makes, addition_of_cut-cuts}
-use Rattle.arraystring.proofs.BoundaryLaws.{boundary-at_end, boundary-behind_given}
+use Rattle.arraystring.proofs.BoundaryLaws.{front-fits, boundary-start, boundary-at_end, boundary-behind_given, boundary-behind_char, boundary-before_char, part-start, part_in-front}
 use Rattle.arraystring.proofs.CharacterLaws.{width-one, chars-ascii, size-repeated}
 use Rattle.arraystring.proofs.LoopLaws.{taken-item}
 use Rattle.arraystring.proofs.RemovalLaws.{popping-made, removal-made}
@@ -17,8 +18,11 @@ pub ruleset additions = (addition-made, addition-refused, size-append, append_as
 -- appends that are cut
 pub ruleset cuts = (addition_of_cut-makes, addition_of_cut-cuts, cut-all, cut-fits, size-append, append_assoc)
 
--- insertions at an index, and the place behind what is put there
-pub ruleset insertions = (boundary-at_end, boundary-behind_given)
+-- insertions at an index, and the place behind the text that is put there
+pub ruleset insertions = (boundary-at_end, boundary-behind_given, front-fits, nat_tests)
+
+-- a place between two characters: the text before it, and the places behind and before a character
+pub ruleset cursors = (boundary-behind_given, boundary-behind_char, boundary-before_char, boundary-start, front-fits, part-start, part_in-front, width-is, chars-bytes, nat_tests)
 
 -- removals: of the last character, of the one at an index
 pub ruleset removals = (boundary-at_end, popping-made, removal-made)

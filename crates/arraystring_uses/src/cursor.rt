@@ -1,44 +1,106 @@
 //! A line with a cursor, which stands at a boundary of its text.
-ghost use Rattle.std.specs.Prelude.{◌≡◌, ◌++◌, [], true, IfOk, OnErr, MatchOption, chars};
-ghost use Rattle.arraystring.specs.Edits.{all_but_last};
-ghost use Rattle.arraystring.specs.Text.{front, back, boundary};
+ghost use Rattle.std.specs.Prelude.{◌≡◌, ◌+◌, ◌≤◌, ◌↔◌, ◌++◌, ◌∷◌, [], true, IfErr, IfSome, IsOk, IsSome, MatchOption, IfNone, OnErr, OnOk, chars};
+ghost use Rattle.arraystring.specs.Refusals.{OutOfBounds};
+ghost use Rattle.arraystring.specs.Text.{back, boundary, bytes, cap, front, size, width};
 
+use arraystring::laws::{last_given, text_fits};
+use arraystring::utils::is_char_boundary;
 use arraystring::{ArrayString, Error};
 
-/// Puts `piece` at the cursor, and returns the place of the cursor behind it.
-///
-/// # Errors
-///
-/// Those of `try_insert_str`. The text is then unchanged.
-#[tactic(auto, using(arraystring::proofs::Rules::insertions, arraystring::proofs::Rules::sizes))]
-pub fn put(line: &mut ArrayString<32>, cursor: u8, piece: &str) -> Result<u8, Error>
-    ensures place { IfOk result (λ place. (boundary line.new.text place ≡ true)
-        × (front line.new.text place ≡ front line.old.text cursor ++ chars piece.now)
-        × (back line.new.text place ≡ back line.old.text cursor)) }
-    ensures refused { OnErr result (line.new.text ≡ line.old.text) }
-{
-    line.try_insert_str(cursor, piece)?;
-    Ok(cursor + piece.len() as u8)
+/// A text, and a cursor between two of its characters.
+#[derive(Clone, Copy, Drop)]
+pub struct Line<const N: usize> {
+    text: ArrayString<N>,
+    cursor: u8,
+    pub ghost at_boundary: { boundary text.text cursor ≡ true },
 }
 
-/// Returns the place of the cursor one character to the left, or `None` if it stands at the start.
-///
-/// # Precondition
-///
-/// The cursor must stand at a boundary.
-#[tactic(auto, using(arraystring::proofs::Rules::splits))]
-pub fn step_left(line: &ArrayString<32>, cursor: u8) -> Option<u8>
-    requires { boundary line.now.text cursor ≡ true }
-    ensures { MatchOption result (front line.now.text cursor ≡ [])
-        (λ place. (boundary line.now.text place ≡ true)
-        × (front line.now.text place ≡ all_but_last (front line.now.text cursor))) }
-{
-    let mut before = *line;
-    match before.truncate(cursor) {
-        Err(_) => None,
-        Ok(()) => match before.pop() {
+impl<const N: usize> Line<N> {
+    /// Sets the cursor at an index, or returns `None` if that is not a boundary.
+    pub fn at(text: ArrayString<N>, cursor: u8) -> Option<Self>
+        ensures made { IsSome result ↔ (boundary text.entry.text cursor ≡ true) }
+        ensures line { IfSome result (λ line. (line.text.text ≡ text.entry.text) × (line.cursor ≡ cursor)) }
+    {
+        is_char_boundary(&text, cursor).ok()?;
+        Some(Line { text, cursor })
+    }
+
+    /// Returns the whole text.
+    pub fn as_str(&self) -> &str
+        ensures { result.now ≡ bytes self.now.text.text }
+    {
+        self.text.as_str()
+    }
+
+    /// Returns the text before the cursor.
+    #[tactic(auto, using(arraystring::proofs::Rules::cursors))]
+    pub fn before(&self) -> &str
+        ensures { chars result.now ≡ front self.now.text.text self.now.cursor }
+    {
+        self.text.slice(0..self.cursor)
+    }
+
+    /// Inserts a character, and moves the cursor behind it.
+    ///
+    /// # Errors
+    ///
+    /// Returns `Err(Error::OutOfBounds)` if it does not fit. The line is then unchanged.
+    #[tactic(auto, using(arraystring::proofs::Rules::cursors))]
+    pub fn insert(&mut self, ch: char) -> Result<(), Error>
+        ensures before { OnOk result (front self.new.text.text self.new.cursor ≡ front self.old.text.text self.old.cursor ++ ch ∷ []) }
+        ensures after { OnOk result (back self.new.text.text self.new.cursor ≡ back self.old.text.text self.old.cursor) }
+        ensures fits { IsOk result ↔ (size self.old.text.text + width ch ≤ cap N) }
+        ensures error { IfErr result (λ error. error ≡ OutOfBounds) }
+        ensures refused { OnErr result (self.new ≡ self.old) }
+    {
+        let mut text = self.text;
+        text.try_insert(self.cursor, ch)?;
+        text_fits(&text);
+        let cursor = self.cursor + ch.len_utf8() as u8;
+        *self = Line { text, cursor };
+        Ok(())
+    }
+
+    /// Inserts a text, and moves the cursor behind it.
+    ///
+    /// # Errors
+    ///
+    /// Returns `Err(Error::OutOfBounds)` if it does not fit. The line is then unchanged.
+    #[tactic(auto, using(arraystring::proofs::Rules::insertions, arraystring::proofs::Rules::sizes))]
+    pub fn put(&mut self, piece: &str) -> Result<(), Error>
+        ensures before { OnOk result (front self.new.text.text self.new.cursor ≡ front self.old.text.text self.old.cursor ++ chars piece.now) }
+        ensures after { OnOk result (back self.new.text.text self.new.cursor ≡ back self.old.text.text self.old.cursor) }
+        ensures fits { IsOk result ↔ (size self.old.text.text + size (chars piece.now) ≤ cap N) }
+        ensures error { IfErr result (λ error. error ≡ OutOfBounds) }
+        ensures refused { OnErr result (self.new ≡ self.old) }
+    {
+        let mut text = self.text;
+        text.try_insert_str(self.cursor, piece)?;
+        text_fits(&text);
+        let cursor = self.cursor + piece.len() as u8;
+        *self = Line { text, cursor };
+        Ok(())
+    }
+
+    /// Moves the cursor one character to the left, and returns this character. At the start it stays
+    /// there, and `None` is returned.
+    #[tactic(auto, using(arraystring::proofs::Rules::cursors))]
+    pub fn left(&mut self) -> Option<char>
+        ensures text { self.new.text.text ≡ self.old.text.text }
+        ensures before { MatchOption result (front self.old.text.text self.old.cursor ≡ [])
+            (λ ch. front self.old.text.text self.old.cursor ≡ front self.new.text.text self.new.cursor ++ ch ∷ []) }
+        ensures after { IfSome result (λ ch. back self.new.text.text self.new.cursor ≡ ch ∷ back self.old.text.text self.old.cursor) }
+        ensures start { IfNone result (self.new.cursor ≡ self.old.cursor) }
+    {
+        let before = self.before();
+        let last = before.chars().next_back();
+        last_given(before, last);
+        match last {
+            Some(ch) => {
+                self.cursor -= ch.len_utf8() as u8;
+                Some(ch)
+            }
             None => None,
-            Some(_) => Some(before.len()),
-        },
+        }
     }
 }

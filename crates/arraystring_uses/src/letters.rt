@@ -1,5 +1,6 @@
 //! Single characters that go in and out.
-ghost use Rattle.std.specs.Prelude.{◌≡◌, ◌+◌, ◌<◌, ◌≤◌, ◌↔◌, ◌++◌, ◌∷◌, [], true, false, IsTrue, MatchOption, chars};
+ghost use Rattle.std.specs.Prelude.{◌≡◌, ◌+◌, ◌<◌, ◌≤◌, ◌↔◌, ◌++◌, ◌∷◌, [], true, false, IsTrue, MatchOption, chars, drop};
+ghost use Rattle.std.specs.List.{slice_get};
 ghost use Rattle.arraystring.specs.Edits.{all_but_last};
 ghost use Rattle.arraystring.specs.Text.{size};
 
@@ -36,6 +37,14 @@ pub fn take_last(text: &mut ArrayString<16>) -> Option<char>
     ensures { MatchOption result ((text.old.text ≡ []) × (text.new.text ≡ [])) (λ last. text.old.text ≡ text.new.text ++ last ∷ []) }
 {
     text.pop()
+}
+
+/// Returns the first character of `text`, or `None` if there is none.
+pub fn first_letter(text: &str) -> Option<char>
+    ensures item { result ≡ slice_get (chars text.now) 0 }
+    ensures text { MatchOption result (chars text.now ≡ []) (λ first. chars text.now ≡ first ∷ drop 1 (chars text.now)) }
+{
+    text.chars().next()
 }
 
 /// Returns the last character of `text`, or `None` if there is none.

@@ -3,7 +3,6 @@ ghost use Rattle.std.specs.Prelude.{◌≡◌, ◌<◌, Err, length};
 ghost use Rattle.arraystring.specs.Refusals.{OutOfBounds};
 ghost use Rattle.arraystring.specs.Text.{IsWellFormed};
 
-use arraystring::laws::well_formed_or_not;
 use arraystring::{ArrayString, Error};
 
 /// Reads a name of at most 16 bytes.
@@ -15,6 +14,5 @@ use arraystring::{ArrayString, Error};
 pub fn name_in(given: &[u8]) -> Result<ArrayString<16>, Error>
     ensures { result ≡ Err OutOfBounds → IsWellFormed given.now × (16 < length given.now) }
 {
-    well_formed_or_not(given);
     ArrayString::try_from_utf8(given)
 }

@@ -1,5 +1,5 @@
 //! Lines `key=value`: where a character first stands, and what is before and after it.
-ghost use Rattle.std.specs.Prelude.{◌≡◌, ◌<◌, ◌≤◌, ◌↔◌, ◌==◌, ◌∷◌, IsOk, IfOk, IfErr, MatchOption, chars, length};
+ghost use Rattle.std.specs.Prelude.{◌≡◌, ◌<◌, ◌≤◌, ◌↔◌, ◌==◌, ◌++◌, ◌∷◌, IsOk, IfOk, IfErr, IfSome, IfNone, MatchOption, chars, length};
 ghost use Rattle.std.specs.List.{before_first, after_first, position_or_len};
 ghost use Rattle.arraystring.specs.Refusals.{OutOfBounds};
 ghost use Rattle.arraystring.specs.Text.{size};
@@ -43,6 +43,26 @@ pub fn pair_of(line: &ArrayString<64>) -> Result<(ArrayString<20>, ArrayString<4
 {
     text_spelled(line);
     pair(line.as_str())
+}
+
+/// Splits a bounded line at its first `=`, or returns `None` if it has none.
+#[tactic(auto, using(arraystring::proofs::Rules::cuts))]
+pub fn parted<const N: usize>(line: &ArrayString<N>) -> Option<(ArrayString<N>, ArrayString<N>)>
+    ensures some { IfSome result (λ parts. (line.now.text ≡ parts.0.text ++ 61 ∷ parts.1.text)
+        × (parts.0.text ≡ before_first (λ c. c == 61) line.now.text)) }
+    ensures none { IfNone result (position_or_len (λ c. c == 61) line.now.text ≡ length line.now.text) }
+{
+    text_spelled(line);
+    let text = line.as_str();
+    let parts = text.split_once('=');
+    split_first(text, '=', parts);
+    match parts {
+        Some((name, rest)) => Some((
+            ArrayString::from_str_truncate(name),
+            ArrayString::from_str_truncate(rest),
+        )),
+        None => None,
+    }
 }
 
 /// Removes the first `=` and all that comes after it from `line`, and returns the removed text. If there

@@ -1,7 +1,7 @@
 //! Parts of a string, by ranges of byte indices, and what is left of a part that is taken out.
-ghost use Rattle.std.specs.Prelude.{◌≡◌, ◌≤◌, MatchOption, None, Some, chars};
+ghost use Rattle.std.specs.Prelude.{◌≡◌, ◌≤◌, MatchOption, None, Some, chars, true, false};
 ghost use Rattle.arraystring.specs.Edits.{draining, first_cause, ok_unless, part_in, text_of};
-ghost use Rattle.arraystring.specs.Text.{cut};
+ghost use Rattle.arraystring.specs.Text.{boundary, cut, front};
 
 use arraystring::laws::left_given;
 use arraystring::{ArrayString, Drain, Error};
@@ -12,6 +12,15 @@ pub fn part<const N: usize>(text: &ArrayString<N>, start: u8, end: u8) -> Option
         (λ found. part_in text.now.text start end ≡ Some (chars found.now)) }
 {
     text.get(start..end)
+}
+
+/// Returns the text before `end`, borrowed, or `None` if that is not a boundary.
+#[tactic(auto, using(arraystring::proofs::Rules::cursors))]
+pub fn prefix<const N: usize>(text: &ArrayString<N>, end: u8) -> Option<&str>
+    ensures { MatchOption result (boundary text.now.text end ≡ false)
+        (λ found. (boundary text.now.text end ≡ true) × (chars found.now ≡ front text.now.text end)) }
+{
+    text.get(0..end)
 }
 
 /// Drops the bytes from `start` to `end`.

@@ -1,20 +1,21 @@
 //! Each use, on values worked out by hand.
 use crate::columns::{bytes_shown, padded};
 use crate::commas::with_commas;
-use crate::cursor::{put, step_left};
+use crate::cursor::Line;
 use crate::entry::add_entry;
 use crate::greeting::greet;
 use crate::json::sent_and_read;
-use crate::letters::{last_letter, push_if_any_fits, push_is_cut, take_first, take_last};
+use crate::letters::{
+    first_letter, last_letter, push_if_any_fits, push_is_cut, take_first, take_last,
+};
 use crate::log_line::{Level, log_line};
 use crate::packet::name_in;
-use crate::pair::{pair, pair_of, split_value};
-use crate::parts::{drop_part, first_left, part};
+use crate::pair::{pair, pair_of, parted, split_value};
+use crate::parts::{drop_part, first_left, part, prefix};
 use crate::row::add_row;
 use crate::runs::{fits_small, push_and_pop};
 use crate::scores::{look_up, record};
 use crate::words::{add_both, lines, path};
-use arraystring::utils::is_char_boundary;
 use arraystring::{ArrayString, Error};
 use arraystring_run::Command;
 use std::alloc::Global;
@@ -218,6 +219,8 @@ fn last_letters_are_taken(rt: HostRuntime) {
     agree(&rt, last_letter("aé"), Some('é'));
     agree(&rt, last_letter("é🤔"), Some('🤔'));
     agree(&rt, last_letter(""), None);
+    agree(&rt, first_letter("éa"), Some('é'));
+    agree(&rt, first_letter(""), None);
 }
 
 #[test]
@@ -237,41 +240,67 @@ fn a_cut_is_told(rt: HostRuntime) {
     }
 }
 
-/// Puts a text at each place of a line, and steps from its end to its start.
+/// Puts a text and a character at each place of a line, and steps from its end to its start.
 #[test]
 fn a_cursor_stands_between_characters(rt: HostRuntime) {
     let whole = "aé€🤔b";
     for cursor in 0..=12u8 {
-        let mut line = ArrayString::from_str_truncate(whole);
-        match (whole.get(..cursor as usize), whole.get(cursor as usize..)) {
-            (Some(before), Some(after)) => {
-                agree(&rt, put(&mut line, cursor, "ñ"), Ok(cursor.wrapping_add(2)));
+        let text = ArrayString::<16>::from_str_truncate(whole);
+        let front = whole.get(..cursor as usize);
+        agree(&rt, prefix(&text, cursor), front);
+        match (Line::at(text, cursor), front) {
+            (Some(mut line), Some(front)) => {
+                agree(&rt, line.before(), front);
+                agree(&rt, line.put("ñ"), Ok(()));
+                agree(&rt, line.insert('€'), Ok(()));
+                // The line is full.
+                agree(&rt, line.put("b"), Err(Error::OutOfBounds));
+                agree(&rt, line.insert('b'), Err(Error::OutOfBounds));
+                agree(&rt, line.before().strip_prefix(front), Some("ñ€"));
                 agree(
                     &rt,
-                    line.as_str()
-                        .strip_prefix(before)
-                        .and_then(|rest| rest.strip_suffix(after)),
-                    Some("ñ"),
+                    line.as_str().strip_prefix(line.before()),
+                    whole.get(cursor as usize..),
                 );
             }
-            _ => {
-                agree(&rt, put(&mut line, cursor, "ñ").is_err(), true);
-                agree(&rt, line.as_str(), whole);
-            }
+            (line, front) => agree(&rt, line.is_some() || front.is_some(), false),
         }
     }
-    let line = ArrayString::from_str_truncate(whole);
-    for (cursor, place) in [
-        (11, Some(10)),
-        (10, Some(6)),
-        (6, Some(3)),
-        (3, Some(1)),
-        (1, Some(0)),
-        (0, None),
+    match Line::at(ArrayString::<16>::from_str_truncate(whole), 11) {
+        Some(mut line) => {
+            for (before, letter) in [
+                ("aé€🤔", Some('b')),
+                ("aé€", Some('🤔')),
+                ("aé", Some('€')),
+                ("a", Some('é')),
+                ("", Some('a')),
+                ("", None),
+            ] {
+                agree(&rt, line.left(), letter);
+                agree(&rt, line.before(), before);
+            }
+            agree(&rt, line.as_str(), whole);
+        }
+        None => agree(&rt, false, true),
+    }
+}
+
+/// Parts lines with one `=`, with several and with none.
+#[test]
+fn a_line_is_parted_at_its_first_sign(rt: HostRuntime) {
+    for (line, wanted) in [
+        ("key=a=b", Some(("key", "a=b"))),
+        ("=", Some(("", ""))),
+        ("é=€", Some(("é", "€"))),
+        ("key", None),
+        ("", None),
     ] {
-        match is_char_boundary(&line, cursor) {
-            Ok(()) => agree(&rt, step_left(&line, cursor), place),
-            Err(_) => agree(&rt, false, true),
+        match (parted(&ArrayString::<7>::from_str_truncate(line)), wanted) {
+            (Some((name, rest)), Some((before, after))) => {
+                agree(&rt, name.as_str(), before);
+                agree(&rt, rest.as_str(), after);
+            }
+            (parts, wanted) => agree(&rt, parts.is_some() || wanted.is_some(), false),
         }
     }
 }
