@@ -72,17 +72,6 @@ module _ {array_size : ℕ} {array : List ℕ} {p n : ℕ} (is : IsStored array_
       (stored-from-utf8 after (p + n) (length given) u refl long room there.here)
 
   module _ {start end : ℕ} (order : start ≤ end) (b : boundary v.text start ≡ true) (d : boundary v.text end ≡ true) where
-    -- the bytes from the boundary `end` on were moved to the boundary `start`
-    pub closed : {after : List ℕ}
-        → after ≡ take (p + start) array ++ (take (n - end) (drop (p + end) array) ++ drop (p + start + (n - end)) array)
-        → StoredAt array_size after p (start + (n - end)) (front v.text start ++ back v.text end)
-    closed {after} moved =
-        let within = opened-within is e end d in
-        let there = shifted array after (p + end) (p + start) (n - end) (omega arith) (omega arith) moved in
-        let long = there.long ∙ is.length in
-        joined (carried (kept start b) after p long (omega arith) (there.before p start (omega arith)))
-        (carried (dropped end d) after (p + start) long (omega arith) there.here)
-
     -- the text was moved to the offset q, and `given` was written into its gap
     module _ {given : List ℕ} (room : size v.text - (end - start) + size (chars given) ≤ cap array_size) (u : IsUtf8 given)
         {offset count len : ℕ} (at : offset ≡ p) (many : count ≡ n) (wide : len ≡ length given)
