@@ -9,7 +9,7 @@ import evidence
 from repository import read, sources
 
 # What moves bytes, or writes them over others: each `pub fn` of MODULE, and what std has.
-MODULE, OF_STD = "crates/arraystring_base/src/moves.rt", {"copy_within", "rotate_left", "rotate_right", "swap", "reverse"}
+MODULE, OF_STD = "crates/arraystring_base/src/moves.rt", {"copy_within", "copy_from_slice", "clone_from_slice", "rotate_left", "rotate_right", "swap", "reverse"}
 MOVES = {"shift", "shift_by_call", "write_over", "write_by_call"}
 
 

@@ -36,7 +36,7 @@ class Moves(TreeTest):
             (another, (CORE, SOURCE.format("shift(array, 1, 0, 1, &mut Steps::default())"))),
             (another, (CORE, SOURCE.format("shift(array, 1, 0, 1, &mut Steps { looked: 0, moved: 0 })"))),
             (f"{CORE}: hand_on is given a Steps and makes another\n", (CORE, END, given("shift(&mut Steps::new())"))),
-            *((by.format("pop_counted", it), (CORE, SOURCE.format(f"{it}(1)"))) for it in ("move_run", "copy_within", "swap", "rotate_left")),
+            *((by.format("pop_counted", it), (CORE, SOURCE.format(f"{it}(1)"))) for it in ("move_run", "copy_within", "copy_from_slice", "swap", "rotate_left")),
             (by.format("pop_counted", "move_new"), (moves.MODULE, END, "\npub fn move_new() {\n    1\n}\n"), (CORE, SOURCE.format("move_new(1)"))),
         )
         for body in ("shift(array, 1, 0, 1, steps); // move_run, Steps::new()", "shift_by_call(steps)", "write_over(1)", "write_by_call(1)"):
