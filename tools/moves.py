@@ -8,9 +8,12 @@ import re
 import evidence
 from repository import read, sources
 
-# What moves bytes, or writes them over others: each `pub fn` of MODULE, and what std has.
-MODULE, OF_STD = "crates/arraystring_base/src/moves.rt", {"copy_within", "copy_from_slice", "clone_from_slice", "rotate_left", "rotate_right", "swap", "reverse"}
-MOVES = {"shift", "shift_by_call", "write_over", "write_by_call"}
+# What moves bytes, or writes them over others: each `pub fn` of MODULE, and what a slice of std has.
+MODULE, MOVES = "crates/arraystring_base/src/moves.rt", {"shift", "write_over"}
+OF_STD = {
+    *("copy_within", "copy_from_slice", "clone_from_slice", "copy_to_slice", "swap", "swap_with_slice"),
+    *("rotate_left", "rotate_right", "reverse", "sort", "sort_unstable", "fill", "fill_with"),
+}
 
 
 def main(arguments, root):

@@ -20,7 +20,7 @@ impl ArrayString {{
 
 class Moves(TreeTest):
     FILES = {
-        moves.MODULE: "".join(f"pub fn {it}() {{\n    1\n}}\n\n" for it in ("move_run", "shift_by_call", "write_over", "write_by_call"))
+        moves.MODULE: "".join(f"pub fn {it}() {{\n    1\n}}\n\n" for it in ("move_run", "write_over"))
         + "pub fn shift(steps: &mut Steps) {\n    move_run(1)\n}\n",
         CORE: SOURCE.format("shift(array, 1, 0, 1, steps)"),
         "crates/arraystring/src/lib.rt": "",
@@ -36,9 +36,9 @@ class Moves(TreeTest):
             (another, (CORE, SOURCE.format("shift(array, 1, 0, 1, &mut Steps::default())"))),
             (another, (CORE, SOURCE.format("shift(array, 1, 0, 1, &mut Steps { looked: 0, moved: 0 })"))),
             (f"{CORE}: hand_on is given a Steps and makes another\n", (CORE, END, given("shift(&mut Steps::new())"))),
-            *((by.format("pop_counted", it), (CORE, SOURCE.format(f"{it}(1)"))) for it in ("move_run", "copy_within", "copy_from_slice", "swap", "rotate_left")),
+            *((by.format("pop_counted", it), (CORE, SOURCE.format(f"{it}(1)"))) for it in ("move_run", *sorted(moves.OF_STD))),
             (by.format("pop_counted", "move_new"), (moves.MODULE, END, "\npub fn move_new() {\n    1\n}\n"), (CORE, SOURCE.format("move_new(1)"))),
         )
-        for body in ("shift(array, 1, 0, 1, steps); // move_run, Steps::new()", "shift_by_call(steps)", "write_over(1)", "write_by_call(1)"):
+        for body in ("shift(array, 1, 0, 1, steps); // move_run, Steps::new()", "write_over(1)"):
             with self.changed((CORE, SOURCE.format(body))):
                 self.assertFalse(self.told(moves)[0])

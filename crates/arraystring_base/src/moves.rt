@@ -1,12 +1,11 @@
-//! The two moves of bytes: `shift`, inside an array, and `write_over`, of a given run into it. Each has a form for
-//! cold functions: `shift_by_call` and `write_by_call`. All that makes them fast is in this file.
+//! The two moves of bytes: `shift`, inside an array, and `write_over`, of a given run into it. All that makes them
+//! fast is in this file.
 //!
-//! Fewer than 16 bytes move as their first `K` and their last `K`, which may overlap, and both are read before the
-//! first is written. `memmove` moves short runs in this way too. A byte that both have is written twice, to one
-//! offset, and counts as one move. They are read as vectors, since those stay in registers; arrays of bytes would be
-//! put on the stack. A longer run is one call, of `move_bytes` or `write_bytes`: these take a slice, and so each
-//! stands once in a program. The forms for cold functions call them at any length: these functions run seldom, and
-//! in them the moves in place would only be more code.
+//! A run moves as its first `K` bytes and its last `K`, which may overlap, and both are read before the first is
+//! written. `memmove` moves short runs in this way too. A byte that both have is written twice, to one offset, and
+//! counts as one move. They are read as vectors, since those stay in registers; arrays of bytes would be put on the
+//! stack. `N` is a constant, so the compiler leaves out the sizes that an array of `N` bytes can't have. `write_over`
+//! writes 16 bytes or more by a call, of `write_bytes`, which takes a slice and so stands once in a program.
 ghost use Rattle.std.specs.Prelude.{◌≡◌, ◌+◌, ◌-◌, ◌^◌, ◌==◌, if◌then◌else◌, ◌≤◌, ◌<◌, ◌++◌, length, take, drop};
 
 use crate::steps::Steps;
@@ -40,32 +39,6 @@ pub fn shift<const N: usize>(
     }
 }
 
-/// Moves and counts as `shift` does, by one call at any length. It is for cold functions.
-///
-/// # Precondition
-///
-/// Both runs must lie in the array, and the count of moves plus `len` must be below 2^64.
-#[inline(always)]
-pub fn shift_by_call<const N: usize>(
-    array: &mut [u8; N],
-    from: usize,
-    to: usize,
-    len: usize,
-    steps: &mut Steps,
-)
-    requires source { from + len ≤ N }
-    requires target { to + len ≤ N }
-    requires countable { steps.old.moved + len < 2 ^ 64 }
-    ensures bytes { array.new ≡ take to array.old ++ (take len (drop from array.old) ++ drop (to + len) array.old) }
-    ensures moved { steps.new.moved ≡ steps.old.moved + (if from == to then 0 else len) }
-    ensures looked { steps.new.looked ≡ steps.old.looked }
-{
-    move_bytes(&mut array[..], from, to, len);
-    if from != to {
-        steps.count_moves(len);
-    }
-}
-
 /// Moves as `shift` does, and counts nothing. No test is made for more bytes than an array of `N` bytes can have.
 #[inline(always)]
 fn move_run<const N: usize>(array: &mut [u8; N], from: usize, to: usize, len: usize)
@@ -74,42 +47,29 @@ fn move_run<const N: usize>(array: &mut [u8; N], from: usize, to: usize, len: us
     ensures { array.new ≡ take to array.old ++ (take len (drop from array.old) ++ drop (to + len) array.old) }
 {
     let all = &mut array[..];
-    if len < 16 {
+    if N < 16 || len < 16 {
         move_short_run::<N>(all, from, to, len);
-    } else {
-        move_bytes(all, from, to, len);
-    }
-}
-
-/// Moves any number of bytes. It is not inlined: a program has one copy of it, and each use is a call.
-#[inline(never)]
-fn move_bytes(all: &mut [u8], from: usize, to: usize, len: usize)
-    requires source { from + len ≤ length all.old }
-    requires target { to + len ≤ length all.old }
-    ensures { all.new ≡ take to all.old ++ (take len (drop from all.old) ++ drop (to + len) all.old) }
-{
-    if len > 64 {
-        move_long_run(all, from, to, len);
-    } else if len > 32 {
-        move_ends::<32>(all, from, to, len);
-    } else if len >= 16 {
+    } else if N <= 32 || len <= 32 {
         move_ends::<16>(all, from, to, len);
     } else {
-        move_short_run::<16>(all, from, to, len);
+        move_long_run::<N>(all, from, to, len);
     }
 }
 
-/// Moves more than 64 bytes.
+/// Moves `len` bytes: more than 32, and at most `N`. The branches for sizes above `N` are left out.
 #[inline(always)]
-fn move_long_run(all: &mut [u8], from: usize, to: usize, len: usize)
+fn move_long_run<const N: usize>(all: &mut [u8], from: usize, to: usize, len: usize)
     requires source { from + len ≤ length all.old }
     requires target { to + len ≤ length all.old }
-    requires long { 64 < len }
+    requires most { len ≤ N }
+    requires long { 32 < len }
     ensures { all.new ≡ take to all.old ++ (take len (drop from all.old) ++ drop (to + len) all.old) }
 {
-    if len <= 128 {
+    if N <= 64 || len <= 64 {
+        move_ends::<32>(all, from, to, len);
+    } else if N <= 128 || len <= 128 {
         move_ends::<64>(all, from, to, len);
-    } else if len <= 256 {
+    } else if N <= 256 || len <= 256 {
         move_pairs::<64>(all, from, to, len);
     } else {
         all.copy_within(from..from + len, to);
@@ -183,24 +143,11 @@ pub fn write_over<const N: usize>(array: &mut [u8; N], at: usize, given: &[u8])
     ensures { array.new ≡ take at array.old ++ (given.now ++ drop (at + length given.now) array.old) }
 {
     let all = &mut array[..];
-    if given.len() < 16 {
+    if N < 16 || given.len() < 16 {
         write_short_run::<N>(all, at, given);
     } else {
         write_bytes(all, given, at);
     }
-}
-
-/// Writes as `write_over` does, by one call at any length. It is for cold functions.
-///
-/// # Precondition
-///
-/// `given` must fit into the array from there.
-#[inline(always)]
-pub fn write_by_call<const N: usize>(array: &mut [u8; N], at: usize, given: &[u8])
-    requires { at + length given.now ≤ N }
-    ensures { array.new ≡ take at array.old ++ (given.now ++ drop (at + length given.now) array.old) }
-{
-    write_bytes(&mut array[..], given, at);
 }
 
 /// Writes any number of bytes. The proved build never inlines it, so its code stands there once. The parameters are in

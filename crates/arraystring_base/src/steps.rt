@@ -4,7 +4,7 @@ ghost use Rattle.std.specs.Prelude.{◌≡◌, ◌+◌, ◌-◌, ◌^◌, ◌<�
 use std::marker::Model;
 
 /// Most programs need no counter. A `Steps` counts the looks and the moves of calls that end in `_counted`.
-/// A look is one call of `look`. A move is one byte that `shift` or `shift_by_call` takes to another offset.
+/// A look is one call of `look`. A move is one byte that `shift` takes to another offset.
 /// Bytes that a call reads without `look` are not counted.
 ///
 /// # Examples

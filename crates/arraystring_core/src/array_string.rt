@@ -4,8 +4,9 @@
 //!
 //! - `traits` has its impls of traits;
 //! - `unchecked` and `counted` have calls that most programs do without;
-//! - `checks` has the tests of the rows, `splice` and `append` put bytes into its array or take them out, and
-//!   `remove` shortens its text.
+//! - `checks` has the tests of the rows;
+//! - `splice` replaces a part of the text, `append` appends what the text has to move for, and `remove` takes out
+//!   a part, a front or an end.
 //!
 //! # How a string lies in its array
 //!

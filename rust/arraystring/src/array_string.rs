@@ -5,8 +5,9 @@
 //!
 //! - `traits` has its impls of traits;
 //! - `unchecked` has calls that leave a test to the caller;
-//! - `checks` has the tests of the rows, `splice` and `append` put bytes into its array or take them out, and
-//!   `remove` shortens its text.
+//! - `checks` has the tests of the rows;
+//! - `splice` replaces a part of the text, `append` appends what the text has to move for, and `remove` takes out
+//!   a part, a front or an end.
 //!
 //! # How a string lies in its array
 //!

@@ -6,7 +6,8 @@
 //! first is written. `memmove` moves short runs in this way too. They are read as vectors, since those stay in
 //! registers; arrays of bytes would be put on the stack. A longer run is one call, of `memmove` or `memcpy`, in
 //! `move_bytes` and `write_bytes`. The forms for cold functions make this call at any length: these functions run
-//! seldom, and in them the moves in place would only be more code.
+//! seldom, and in them the moves in place would only be more code. The sources have no such forms, and no call of
+//! `memmove`: there longer runs move in place, too.
 
 use crate::simd::Simd;
 
@@ -68,7 +69,7 @@ pub(crate) unsafe fn shift_by_call<const N: usize>(array: &mut [u8; N], from: us
 /// - `to + len <= N`
 unsafe fn move_run<const N: usize>(array: &mut [u8; N], from: usize, to: usize, len: usize) {
     let all = &mut array[..];
-    if len < 16 {
+    if N < 16 || len < 16 {
         // SAFETY: `from + len <= all.len()`; `to + len <= all.len()`; `len <= N`; `len < 16`: by this function's
         // `# Safety` and the test above, since `len` is at most `N`.
         unsafe { move_short_run::<N>(all, from, to, len) };
@@ -151,7 +152,7 @@ unsafe fn move_ends<const K: usize>(all: &mut [u8], from: usize, to: usize, len:
 /// - `at + given.len() <= N`
 pub(crate) unsafe fn write_over<const N: usize>(array: &mut [u8; N], at: usize, given: &[u8]) {
     let all = &mut array[..];
-    if given.len() < 16 {
+    if N < 16 || given.len() < 16 {
         // SAFETY: `at + given.len() <= all.len()`; `given.len() <= N`; `given.len() < 16`: by this function's
         // `# Safety` and the test above, since `given.len()` is at most `N`.
         unsafe { write_short_run::<N>(all, at, given) };

@@ -8,7 +8,7 @@ ghost use Rattle.arraystring_core.specs.Taken.{Takes, joined_pieces};
 
 use crate::ArrayString;
 use arraystring_base::error::OutOfBounds;
-use arraystring_base::utils::{Steps, encode, shift_by_call, write_by_call};
+use arraystring_base::utils::{Steps, encode, shift, write_over};
 
 impl<const N: usize> ArrayString<N> {
     /// Whether there is room for `ch` after `len` bytes. ASCII has a test of its own, which the
@@ -36,7 +36,7 @@ impl<const N: usize> ArrayString<N> {
         if !Self::has_room(size, ch) {
             return Err(OutOfBounds);
         }
-        shift_by_call(&mut self.array, start, 0, size, &mut Steps::new());
+        shift(&mut self.array, start, 0, size, &mut Steps::new());
         let width = encode(ch, &mut self.array, size);
         self.start = 0;
         self.size += width as u8;
@@ -57,8 +57,8 @@ impl<const N: usize> ArrayString<N> {
         }
         self.start = 0;
         self.size += string.len() as u8;
-        shift_by_call(&mut self.array, from, 0, size, &mut Steps::new());
-        write_by_call(&mut self.array, size, string.as_bytes());
+        shift(&mut self.array, from, 0, size, &mut Steps::new());
+        write_over(&mut self.array, size, string.as_bytes());
         Ok(())
     }
 

@@ -13,11 +13,11 @@ returns-then-not-has_room g c =
 pub invariant_of-self : goal.invariant_of-self
 invariant_of-self g c =
     (char-appended_at_front c.self.invariant c.self.view_is c.args.ch (search rules) c.encode-width.ensures.width
-    (c.if-not-has_room.ensures.0 refl) c.shift_by_call.ensures.bytes c.encode-width.ensures.bytes).in_array
+    (c.if-not-has_room.ensures.0 refl) c.shift.ensures.bytes c.encode-width.ensures.bytes).in_array
 
 pub returns : goal.returns
 returns g c =
     let room = c.if-not-has_room.ensures.0 refl in
     makes-addition _ (omega (arith, room, opened-size c.self.invariant c.self.view_is))
     (char-appended_at_front c.self.invariant c.self.view_is c.args.ch (search rules) c.encode-width.ensures.width room
-    c.shift_by_call.ensures.bytes c.encode-width.ensures.bytes).shown
+    c.shift.ensures.bytes c.encode-width.ensures.bytes).shown

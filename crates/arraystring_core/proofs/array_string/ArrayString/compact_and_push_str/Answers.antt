@@ -13,12 +13,12 @@ returns-then-size-string g c =
 pub invariant_of-self : goal.invariant_of-self
 invariant_of-self g c =
     let room : c.self.inside.size + length c.args.string.now ≤ cap g.row.N = omega arith in
-    (appended_at_front c.self.invariant c.self.view_is c.utf8.string room c.shift_by_call.ensures.bytes
-    (rw c.as_bytes.ensures.value at c.write_by_call.ensures)).in_array
+    (appended_at_front c.self.invariant c.self.view_is c.utf8.string room c.shift.ensures.bytes
+    (rw c.as_bytes.ensures.value at c.write_over.ensures)).in_array
 
 pub returns : goal.returns
 returns g c =
     let room : c.self.inside.size + length c.args.string.now ≤ cap g.row.N = omega arith in
     makes-addition _ (omega (arith, opened-size c.self.invariant c.self.view_is, size-borrowed c.utf8.string))
-    (appended_at_front c.self.invariant c.self.view_is c.utf8.string room c.shift_by_call.ensures.bytes
-    (rw c.as_bytes.ensures.value at c.write_by_call.ensures)).shown
+    (appended_at_front c.self.invariant c.self.view_is c.utf8.string room c.shift.ensures.bytes
+    (rw c.as_bytes.ensures.value at c.write_over.ensures)).shown
