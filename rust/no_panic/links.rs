@@ -251,7 +251,7 @@ fn others(others: &mut Others) {
         utf8_from_std: core::str::from_utf8(v.values.bytes).map_err(Utf8::from);
         error_from_utf16: char::decode_utf16(v.values.units.iter().copied()).next().map(|it| it.map_err(Error::from));
         utf16_from_std: char::decode_utf16(v.values.units.iter().copied()).next().map(|it| it.map_err(Utf16::from));
-        errors_debug: write!(Out(0), "{:?}{:?}", v.error, v.errors.0);
+        errors_debug: write!(Out(0), "{:?}{:?}{:?}{:?}", v.error, v.errors.0, v.errors.1, v.errors.2);
         errors_display: write!(Out(0), "{}{}{}{}", v.error, v.errors.0, v.errors.1, v.errors.2);
         errors_source: core::error::Error::source(&v.error).is_some();
         errors_hash: (v.error.hash(&mut Sum(0)), v.errors.hash(&mut Sum(0)));
@@ -263,6 +263,7 @@ fn others(others: &mut Others) {
         drain_next: (v.drain.next(), v.drain.size_hint(), v.drain.nth(v.values.index));
         drain_next_back: (v.drain.next_back(), v.drain.nth_back(v.values.index));
         drain_count: (v.drain.clone().count(), v.drain.clone().last(), v.drain.clone().map(u32::from).max());
+        drain_rev: v.drain.clone().rev().map(u32::from).max();
         drain_hash: v.drain.hash(&mut Sum(0));
         drain_cmp: (Ord::cmp(&v.drain, &v.other), v.drain < v.other, v.drain == v.other);
         unit: (v.unit.clone(), v.unit == Unit16::Char(v.values.ch));

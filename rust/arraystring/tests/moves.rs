@@ -280,7 +280,7 @@ fn what_was_a_fault() {
 }
 
 /// The columns of the table of what compiles and does something else.
-const SILENT: &str = "| Code | arrayvec | heapless, not run | `String` | Here | Write this for the same effect |";
+const SILENT: &str = "| Code | arrayvec | heapless, not run | `String` | Here | Write here |";
 const STRING: usize = 2;
 const HERE: usize = 3;
 const INSTEAD: usize = 4;

@@ -49,8 +49,7 @@ impl Elsewhere for Name {}
 
 #[test]
 fn what_compiles_in_both_leaves_another_text() {
-    let mut table =
-        Table::below("| Code | arrayvec | heapless, not run | `String` | Here | Write this for the same effect |");
+    let mut table = Table::below("| Code | arrayvec | heapless, not run | `String` | Here | Write here |");
     let t = ArrayString::<200>::from(&"m".repeat(150)).expect("it fits");
     let mut s = Name::from("ab").expect("it fits");
     leaves!(table, ARRAYVEC, s.push_str("cde"), |()| s);

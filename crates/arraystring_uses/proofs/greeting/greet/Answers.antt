@@ -5,7 +5,7 @@ use Rattle.arraystring.proofs.AdditionLaws.{addition_of_cut-cuts, insertion_at_s
 use Rattle.arraystring.proofs.CharacterLaws.{chars-ascii, width-one}
 use Rattle.arraystring_uses.proofs.greeting.greet.Goals as goal
 
--- the text is `@` and the name, and the cut of it with the message behind
+-- before `push_str` the text is `@` and the name; then it is the cut of that and the message
 pub returns-clause-text : goal.returns-clause-text
 returns-clause-text c =
     let put = insertion_at_start-made _ 20 c.in_ok-try_insert_str.ensures in
