@@ -10,10 +10,7 @@ from repository import read, sources
 
 # What moves bytes, or writes them over others: each `pub fn` of MODULE, and what a slice of std has.
 MODULE, MOVES = "crates/arraystring_base/src/moves.rt", {"shift", "write_over"}
-OF_STD = {
-    *("copy_within", "copy_from_slice", "clone_from_slice", "copy_to_slice", "swap", "swap_with_slice"),
-    *("rotate_left", "rotate_right", "reverse", "sort", "sort_unstable", "fill", "fill_with"),
-}
+OF_STD = {"copy_within", "copy_from_slice", "clone_from_slice", "copy_to_slice", "swap", "swap_with_slice", "rotate_left", "rotate_right", "reverse"}
 
 
 def main(arguments, root):

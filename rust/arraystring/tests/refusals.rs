@@ -5,7 +5,7 @@ use std::any::type_name;
 use std::fmt::Write;
 use std::fs;
 
-use arraystring::{ArrayString, Error, try_format};
+use arraystring::{ArrayString, Error, OutOfBounds, try_format};
 
 /// Most strings here hold `ab`, which fills them.
 type Two = ArrayString<2>;
@@ -132,6 +132,12 @@ fn what_the_page_says_cuts_leaves_what_fits() {
     for (call, left) in cuts() {
         assert_eq!(left, "ab", "`{call}`");
     }
+    // (the page says below the table what becomes of a character, and of one argument of `write!`)
+    assert_eq!(ArrayString::<1>::from('é'), "");
+    assert_eq!(ArrayString::<1>::try_from_chars(['é']), Err(OutOfBounds));
+    let (mut line, number) = (Two::new(), -12_i32);
+    assert!(write!(line, "{number}").is_err());
+    assert_eq!(line, "-");
 }
 
 #[test]
