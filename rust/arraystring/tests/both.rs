@@ -238,3 +238,32 @@ fn each_call_that_makes_a_string_has_a_row() {
     // (`new` is a part of a row, and `capacity` is no string)
     assert_eq!(calls.difference(&rows).collect::<Vec<_>>(), [&"capacity", &"new"]);
 }
+
+/// Who makes a string and drops it is warned. (Where nothing is warned of, an expectation is left, which is denied here.)
+#[test]
+#[deny(unfulfilled_lint_expectations)]
+fn what_is_made_is_to_be_used() {
+    macro_rules! is_to_be_used {
+        ($($made:expr),*) => {$(
+            #[expect(unused_must_use, reason = "that is what is tried")]
+            {
+                $made;
+            }
+        )*};
+    }
+    macro_rules! of_both {
+        ($($type:ty)*) => {$(
+            is_to_be_used!(
+                <$type>::from_str_truncate("a"),
+                <$type>::from_utf8_lossy("a"),
+                <$type>::from_utf16_lossy(units("a")),
+                // SAFETY: both have room for a byte.
+                unsafe { <$type>::from_str_unchecked("a") },
+                // SAFETY: as above, and the byte is UTF-8.
+                unsafe { <$type>::from_utf8_unchecked("a") }
+            );
+        )*};
+    }
+    of_both!(ArrayString<4> CacheString);
+    is_to_be_used!(ArrayString::<4>::new().as_mut_str());
+}

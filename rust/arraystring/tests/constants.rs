@@ -122,3 +122,19 @@ fn the_capacity_is_that_of_the_type() {
     assert_eq!((of_any::<2>().as_str(), of_any::<300>().as_str()), ("ab", "ab"));
     assert_eq!(arraystring::arraystring!("a") + "b", of_any::<2>());
 }
+
+/// A program may have a module of its own that is named as a crate of the macros.
+mod beside_other_names {
+    mod core {}
+    mod std {}
+    mod alloc {}
+    mod arraystring {}
+
+    use ::arraystring::{ArrayString, arraystring, try_format};
+
+    #[test]
+    fn the_macros_name_what_they_call_by_its_crate() {
+        let made: ArrayString<8> = try_format!("{}-{:02}", "ab", 7).expect("room");
+        assert_eq!((made.as_str(), made), ("ab-07", arraystring!("ab-07")));
+    }
+}

@@ -40,28 +40,30 @@ pub struct Ruled {
 }
 
 impl Ruled {
-    /// Whether a source only calls its counted form, as `pop` does.
+    /// Whether a source only calls its counted form, as `pop` does, with its own parameters.
     fn only_counts(&self) -> bool {
         let name = self.item.path.rsplit("::").next().unwrap_or("");
-        let (head, body) = self.printed.split_at(self.printed.iter().position(|token| token.is("{")).unwrap_or(0));
+        let (head, body) = self.tokens.split_at(self.tokens.iter().position(|token| token.is("{")).unwrap_or(0));
         let is_named = |pair: &&[Token]| pair[1].is(":") && pair[0].text.starts_with(char::is_lowercase);
-        let names = head.windows(2).filter(is_named).map(|pair| &*pair[0].text);
-        let called = body.iter().filter(|token| !token.is_one_of(&["self", ".", ",", ";"])).map(|token| &*token.text);
-        let counted = format!("{name}_counted");
-        let is_counting = self.item.tokens.iter().any(|token| *token.text == *counted);
-        is_counting && called.eq(["{", name, "("].into_iter().chain(names).chain([")", "}"]))
+        let names: Vec<&str> = head.windows(2).filter(is_named).map(|pair| &*pair[0].text).collect();
+        let this = if head.iter().any(|token| token.is("self")) { "self." } else { "" };
+        let called: String = body.iter().map(|token| &*token.text).collect();
+        let is_counting = self.item.tokens.iter().any(|token| *token.text == *format!("{name}_counted"));
+        is_counting && called.replace(";}", "}") == format!("{{{this}{name}({})}}", names.join(","))
     }
 }
 
 /// Reads the sources.
 pub fn sources(tree: &Tree, rules: &Rules) -> Result<Vec<Ruled>, Fault> {
+    let is_source = |name: &str| SOURCES.iter().any(|folder| name.starts_with(folder));
+    let has = |text: &str| tree.iter().any(|(name, source)| is_source(name) && source.contains(text));
     let mut all: Vec<Ruled> = Vec::new();
-    for (name, text) in tree.iter().filter(|(name, _)| SOURCES.iter().any(|folder| name.starts_with(folder))) {
+    for (name, text) in tree.iter().filter(|(name, _)| is_source(name)) {
         for mut item in items(name, text)? {
-            let is_counted = item.path.ends_with("_counted");
-            item.path = item.path.trim_end_matches("_counted").to_string();
+            let is_counted = item.path.ends_with("_counted") && item.tokens.iter().any(|token| token.is("fn"));
+            item.path = if is_counted { item.path.trim_end_matches("_counted").to_string() } else { item.path };
             item.contract.retain(|clause| !clause.contains("steps."));
-            let printed = rules.as_rust(&item.tokens);
+            let printed = rules.as_rust(&item.tokens, &|name| has(&format!("fn {name}")));
             all.push(Ruled { tokens: rules.of_both(&printed), item, printed, is_counted });
         }
     }
@@ -130,10 +132,7 @@ struct Comparison<'a> {
 
 /// Compares a tree.
 pub fn compare(tree: &Tree) -> Report {
-    match compared(tree) {
-        Ok(report) => report,
-        Err(fault) => Report { faults: vec![fault], ..Report::default() },
-    }
+    compared(tree).unwrap_or_else(|fault| Report { faults: vec![fault], ..Report::default() })
 }
 
 fn compared(tree: &Tree) -> Result<Report, Fault> {
@@ -219,7 +218,11 @@ impl Comparison<'_> {
         let mut all = like.iter().map(|at| &self.sources[*at]);
         let is_one = all.clone().all(|other| other.tokens == self.sources[like[0]].tokens);
         let said = all.find(|source| !source.is_counted).unwrap_or(&self.sources[like[0]]);
-        let requires = said.item.contract.iter().any(|clause| clause.starts_with("requires"));
+        // (What `next` requires may be a ghost of its `impl`: `can_next`.)
+        let head = path.rsplit_once("::").map_or("", |(head, _)| head);
+        let around = self.sources.iter().filter(|other| other.item.path == head);
+        let mut clauses = around.chain(Some(said)).flat_map(|other| &other.item.contract);
+        let requires = clauses.any(|clause| clause.starts_with("requires") || clause.starts_with("can_"));
         let is_function = |part: &[Token]| part[1].is("fn") && part[2].kind == Kind::Word;
         let is_unsafe = rust.item.tokens.windows(3).any(|part| part[0].is("unsafe") && is_function(part));
         if let Some(what) = docs::compare(&said.item, &rust.item) {
@@ -256,12 +259,10 @@ impl Comparison<'_> {
 
     /// What no item of Rust was like, and the entries that fitted nothing.
     fn rest(&mut self) {
-        for at in 0..self.sources.len() {
+        let left: Vec<usize> = (0..self.sources.len()).filter(|at| !self.found.contains(at)).collect();
+        for at in left {
             let (file, path) = (self.sources[at].item.file.clone(), self.sources[at].item.path.clone());
             let is_alone = |says: &Says| *says == Says::OnlyInTheSource;
-            if self.found.contains(&at) {
-                continue;
-            }
             if self.take_entry(&path, is_alone).is_some() || self.take_entry(&file, is_alone).is_some() {
                 self.report.only_in_the_source += 1;
             } else {

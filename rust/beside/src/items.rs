@@ -30,7 +30,9 @@ const OF_A_FILE: &[&str] = &["#![deny(", "#![doc = ", "#![no_std]", "#![cfg_attr
 pub fn items(file: &str, text: &str) -> Result<Vec<Item>, Fault> {
     let mut reader = Reader { file, items: Vec::new() };
     let (all, is_rust) = (tokens(file, text)?, file.ends_with(".rs"));
-    if let Some(at) = all.iter().position(|token| is_rust && token.is_one_of(REFUSED)) {
+    // (`#[path = ".."]`, also behind a condition)
+    let is_path = |pair: &[Token]| pair[0].is("path") && pair[1].is("=");
+    if let Some(at) = all.windows(2).position(|pair| is_path(pair) || is_rust && pair[0].is_one_of(REFUSED)) {
         return Err(reader.fault(&all[at..], &format!("`{}` is refused in Rust", all[at].text)));
     }
     let mut rest = &all[..];
@@ -163,9 +165,6 @@ impl Reader<'_> {
         let end = self.end(rest, &[";", "{"])?;
         let condition = words(&front.attributes);
         let is_test = condition.starts_with("#[cfg(test)]") || condition.starts_with("#[cfg(all(test,");
-        if front.attributes.iter().any(|token| token.is("path")) {
-            return Err(self.fault(rest, "a module in a file of another name"));
-        }
         if rest[end - 1].is("}") && !is_test {
             if condition.contains("cfg") {
                 return Err(self.fault(rest, "a module under a condition, which has to stand at each of its items"));

@@ -57,8 +57,8 @@ impl Token {
 
 /// The signs of more than one character, the longest first. `>>` is two, since it may end generics: a `> >` is nothing else.
 const SIGNS: &[&str] = &[
-    "<<=", "...", "..=", "::", "->", "=>", "==", "!=", "<=", ">=", "&&", "||", "+=", "-=", "*=", "/=", "%=", "^=",
-    "&=", "|=", "<<", "..",
+    "<<=", ">>=", "...", "..=", "::", "->", "=>", "==", "!=", "<=", ">=", "&&", "||", "+=", "-=", "*=", "/=", "%=",
+    "^=", "&=", "|=", "<<", "..",
 ];
 
 /// The tokens of a file. Its brackets are closed in their order.

@@ -135,10 +135,14 @@ impl Rules {
         Rules { source: rules(SOURCE), both: rules(BOTH), rust: rules(RUST), each: rules(EACH) }
     }
 
-    /// A source as it would stand in Rust. `pop_counted` is `pop`.
-    pub fn as_rust(&self, tokens: &[Token]) -> Vec<Token> {
-        let name = |token: &Token| Token { text: token.text.trim_end_matches("_counted").into(), ..token.clone() };
-        apply_all(&self.source, tokens.iter().map(name).collect())
+    /// A source as it would stand in Rust. `pop_counted` is `pop`, where it is a function that the sources have.
+    pub fn as_rust(&self, tokens: &[Token], is_function: &dyn Fn(&str) -> bool) -> Vec<Token> {
+        let is_next = |at: usize| tokens.get(at + 1).is_some_and(|next| next.is_one_of(&["(", "::"]));
+        let is_name = |at: usize| is_function(&tokens[at].text) && (is_next(at) || at > 0 && tokens[at - 1].is("fn"));
+        let plain = |at: usize| tokens[at].text.strip_suffix("_counted").filter(|_| is_name(at));
+        let name = |at: usize| plain(at).map_or(tokens[at].text.clone(), |plain| plain.into());
+        let named = (0..tokens.len()).map(|at| Token { text: name(at), ..tokens[at].clone() });
+        apply_all(&self.source, named.collect())
     }
 
     /// What is compared of a source that stands as in Rust.
@@ -294,7 +298,8 @@ fn is_chain(value: &[Token]) -> bool {
 pub fn runs_code(tokens: &[Token], around: &[Token]) -> bool {
     let is_word = |token: &Token| token.is_one_of(&["dyn", "impl", "Formatter", "Arguments", "trait", "macro_rules"]);
     let is_pointer = |pair: &[Token]| pair[0].is("fn") && pair[1].is("(");
-    // Behind the name of a function, or behind `impl`.
+    // Behind the name of a function, or behind `impl`. One with an attribute counts as a type.
+    let is_type = |first: &Token| first.kind != Kind::Lifetime && !first.is("const");
     let has_type = |tokens: &[Token], keyword: &str, names: usize| {
         let mut parts = (0..tokens.len()).filter(|at| tokens[*at].is(keyword));
         parts.any(|at| generics(&tokens[(at + 1 + names).min(tokens.len())..]).any(is_type))
@@ -310,9 +315,4 @@ fn generics(tokens: &[Token]) -> impl Iterator<Item = &Token> {
     let has_some = tokens.first().is_some_and(|token| token.is("<"));
     let whole = tokens.split(|token| token.is(">")).next().filter(|_| has_some).unwrap_or(&[]);
     whole.split(|token| token.is_one_of(&["<", ","])).filter_map(|generic| generic.first())
-}
-
-/// Whether a generic that begins with a token is no lifetime and no constant. One with an attribute counts as a type.
-fn is_type(first: &Token) -> bool {
-    first.kind != Kind::Lifetime && !first.is("const")
 }

@@ -82,16 +82,28 @@ fn the_counter_goes() {
         ("fn f(a: u8, mut steps: Steps) { g(a, *steps, &mut steps, Steps::new(),) }", "fn f(a: u8) { g(a) }"),
         ("fn f() { look(a.b, c + 1, steps) }", "fn f() { a.b[c + 1] }"),
         ("fn f() { look(*a, c, steps) }", "fn f() { (*a)[c] }"),
-        ("fn f() { f_counted(&mut Steps::new()) } fn f_counted() { g_counted() }", "fn f() { g() }"),
+        ("fn f() { f_counted(&mut Steps::new()) } fn f_counted() { f_counted() }", "fn f() { f() }"),
         (
-            "impl A { fn f(a: u8) { self.f_counted(a, &mut Steps::new()); } fn f_counted(a: u8) { b } }",
-            "impl A { fn f(a: u8) { b } }",
+            "fn f_counted() { f_counted(a.f_counted, f_counted - size_counted()) }",
+            "fn f() { f(a.f_counted, f_counted - size_counted()) }",
+        ),
+        (
+            "impl A { fn f(&self, a: u8) { self.f_counted(a, &mut Steps::new()); } fn f_counted(&self, a: u8) { b } }",
+            "impl A { fn f(&self, a: u8) { b } }",
         ),
     ]);
     differ(&[
         ("fn f() { look(*a, c, steps) }", "fn f() { *a[c] }"),
         ("fn f(a: u8) { f_counted(b, &mut Steps::new()) } fn f_counted(a: u8) { c }", "fn f(a: u8) { c }"),
         ("fn f() { g() } fn f_counted() { h() }", "fn f() { g() }"),
+        ("fn f() { size - size_counted }", "fn f() { size - size }"),
+        ("fn f_counted() { a.f_counted }", "fn f() { a.f }"),
+        ("struct A_counted; fn f() {}", "struct A; fn f() {}"),
+        ("fn f(a: u8) { f_counted(self.a, &mut Steps::new()) } fn f_counted(a: u8) { c }", "fn f(a: u8) { c }"),
+        (
+            "fn f(a: u8, b: u8) { f_counted(b, a, &mut Steps::new()) } fn f_counted(a: u8, b: u8) { c }",
+            "fn f(a: u8, b: u8) { c }",
+        ),
         (
             "fn f(&self) { self.f_counted(&mut Steps::new()) } fn f_counted(&mut self) { g() }",
             "fn f(&mut self) { g() }",
@@ -154,6 +166,11 @@ fn unsafe_blocks_and_functions_go() {
         ("fn f() { g() }", "fn f() { unsafe { g(); } }"),
     ]);
     tells(&tree("fn f() requires { a } {}", "fn f() {}", ""), "a.rs:2: `f` is no `unsafe fn`, and its source requires");
+    let next = [
+        "impl A for B { ghost can_next = { a }; fn next() { c[0] } }",
+        "impl A for B { fn next() { *unsafe { get_unchecked!(c, 0) } } }",
+    ];
+    tells(&tree(next[0], next[1], ""), "`B as A::next` is no `unsafe fn`, and its source requires");
 }
 
 #[test]
@@ -210,8 +227,17 @@ fn a_formatter_has_no_type_of_its_own_and_what_is_required_is_no_step() {
         ("fn f(c: u8) -> u8 { g() }", "unsafe fn f(c: u8) -> u8 { required_of_each!(c fits Self::capacity()); g() }"),
         ("fn f(a: &str) {}", "unsafe fn f<S: AsRef<str>>(a: S) { let a = a.as_ref(); required!(a.len() < 4); }"),
     ]);
-    for test in ["{ a = b; true }", "is_ok(&mut a)", "a.pop().is_ok()", "a.pop::<1>()", "a?", "g!(a)", "(a.len)(b)(c)"]
-    {
+    for test in [
+        "{ a = b; true }",
+        "a >>= 1",
+        "a <<= 1",
+        "is_ok(&mut a)",
+        "a.pop().is_ok()",
+        "a.pop::<1>()",
+        "a?",
+        "g!(a)",
+        "(a.len)(b)(c)",
+    ] {
         differ(&[("fn f() {}", &format!("unsafe fn f() {{ required!({test}); }}"))]);
     }
     differ(&[
@@ -234,7 +260,8 @@ fn what_no_file_of_rust_has_is_refused() {
         ("fn g() ensures { a } {}", "`ensures` is refused in Rust"),
         ("impl Model for A { fn g() {} }", "`Model` is refused in Rust"),
         ("include!(\"g\");", "`include` is refused in Rust"),
-        ("#[path = \"g.rs\"] mod a;", "a module in a file of another name"),
+        ("#[path = \"g.rs\"] mod a;", "`path` is refused in Rust"),
+        ("fn g() { #[cfg_attr(all(), path = \"g.rs\")] mod a; }", "`path` is refused in Rust"),
         ("#![cfg(windows)]", "an attribute of a whole file that is not known"),
         ("impl A { #![cfg(windows)] fn g() {} }", "no item is known that begins with `[`"),
         ("mod a { #![cfg(windows)] fn g() {} }", "no item is known that begins with `[`"),
@@ -438,8 +465,7 @@ fn each_token_is_what_it_is() {
         ".",
         "0.1",
         "a",
-        ">",
-        ">=",
+        ">>=",
         "b",
         "'\"'",
         "é",
@@ -465,7 +491,7 @@ fn a_source_is_printed_as_it_would_stand_in_rust() {
     let source = "fn f(a: u8, steps: &mut Steps) -> u8\n    requires { b }\n{\n    // What is looked at.\n    let c = look(d, a - 1, steps);\n    prove!(c < a);\n    g_counted(c, steps)\n}";
     let rules = Rules::new();
     let printed: String = rules
-        .as_rust(&items("", source).expect("items")[0].tokens)
+        .as_rust(&items("", source).expect("items")[0].tokens, &|_| true)
         .iter()
         .flat_map(|token| [token.gap.to_string(), token.text.to_string()])
         .collect();
@@ -552,7 +578,11 @@ fn changed(text: &str, random: &mut Random) -> Changed {
 fn read_items(name: &str, text: &str, rules: &Rules) -> BTreeMap<String, (Vec<String>, Vec<String>)> {
     let text_of = |tokens: Vec<Token>| tokens.into_iter().map(|token| token.text.to_string()).collect();
     let ruled = |item: &Item| {
-        if name.starts_with(RUST) { rules.of_rust(&item.tokens) } else { rules.of_both(&rules.as_rust(&item.tokens)) }
+        if name.starts_with(RUST) {
+            rules.of_rust(&item.tokens)
+        } else {
+            rules.of_both(&rules.as_rust(&item.tokens, &|_| true))
+        }
     };
     let all = items(name, text).expect("items");
     all.iter()
@@ -637,7 +667,7 @@ fn any_text_is_read_or_refused() {
         });
         for item in items("a", &text).unwrap_or_default() {
             rules.of_rust(&item.tokens);
-            rules.of_both(&rules.as_rust(&item.tokens));
+            rules.of_both(&rules.as_rust(&item.tokens, &|_| true));
         }
         compare(&tree(&text, &text, &text));
     }

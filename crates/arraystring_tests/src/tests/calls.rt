@@ -14,7 +14,7 @@
 //!
 //! A range is written as in Rust, or as two bounds in brackets: `(` and `)` exclude an index, `[`
 //! and `]` include it. With `~` before them, it is of a type that does not say its bounds, and
-//! `exhausted` is an inclusive range that was iterated to its end. `slice` has no row with `..=`.
+//! `exhausted` is an inclusive range that was iterated to its end.
 ghost use Rattle.std.specs.Prelude.{◌≤◌};
 
 use super::call_list::{index_calls, range_calls, whole_calls};
@@ -327,6 +327,21 @@ fn at_index<R: Abort + AllocGlobal, const N: usize>(
     true
 }
 
+/// Makes the call of a row that wants a part of the text, and asserts what it returns.
+macro_rules! part {
+    ($rt:ident $row:ident $text:ident.$call:ident $range:expr) => {
+        if $text.get($range).is_none() {
+            returned($rt, $row, None::<&str>);
+        } else if $call == "slice" {
+            returned($rt, $row, $text.slice($range));
+        } else if $call == "make_ascii_uppercase_in" {
+            returned($rt, $row, $text.make_ascii_uppercase_in($range));
+        } else {
+            returned($rt, $row, $text.make_ascii_lowercase_in($range));
+        }
+    };
+}
+
 /// The calls on a range.
 fn in_range<R: Abort + AllocGlobal, const N: usize>(
     rt: &R,
@@ -347,27 +362,29 @@ fn in_range<R: Abort + AllocGlobal, const N: usize>(
         if sign == '~' {
             return of_range(rt, text, call, row, Opaque { first, last });
         }
-        if call != "slice" {
-            return of_range(rt, text, call, row, (first, last));
+        if wants_a_part(call) {
+            part!(rt row text.call (first, last));
+            return true;
         }
-        match text.get((first, last)) {
-            Some(_) => returned(rt, row, Some(text.slice((first, last)))),
-            None => returned(rt, row, None::<&str>),
-        }
+        return of_range(rt, text, call, row, (first, last));
+    }
+    if wants_a_part(call) {
+        part_in_rust_range(rt, text, call, row, start, end);
         return true;
     }
-    match call {
-        "slice" | "make_ascii_uppercase_in" | "make_ascii_lowercase_in" => {
-            part(rt, text, call, row, start, end);
-            true
-        }
-        _ => in_rust_range(rt, text, call, row, start, end),
-    }
+    in_rust_range(rt, text, call, row, start, end)
 }
 
-/// The calls that want a part of the text, on a range of Rust: `slice`, and those that turn letters
-/// to upper case and to lower case. They are made if `get` finds a part.
-fn part<R: Abort + AllocGlobal, const N: usize>(
+/// Whether a call wants a part of the text, so that it is made only if `get` finds one.
+fn wants_a_part(call: &str) -> bool {
+    matches!(
+        call,
+        "slice" | "make_ascii_uppercase_in" | "make_ascii_lowercase_in"
+    )
+}
+
+/// The calls that want a part of the text, on a range of Rust with these ends.
+fn part_in_rust_range<R: Abort + AllocGlobal, const N: usize>(
     rt: &R,
     text: &mut ArrayString<N>,
     call: &str,
@@ -376,27 +393,14 @@ fn part<R: Abort + AllocGlobal, const N: usize>(
     end: &str,
 ) {
     let (first, last) = (index(rt, start), index(rt, end));
-    if end.is_empty() {
-        if text.get(..).is_some() {
-            return returned(rt, row, Some(text.slice(..)));
-        }
-    } else if end.starts_with('=') {
-        if text.get(first..=last).is_some() {
-            match call {
-                "make_ascii_uppercase_in" => text.make_ascii_uppercase_in(first..=last),
-                _ => text.make_ascii_lowercase_in(first..=last),
-            }
-            return returned(rt, row, ());
-        }
-    } else if text.get(first..last).is_some() {
-        match call {
-            "slice" => return returned(rt, row, Some(text.slice(first..last))),
-            "make_ascii_uppercase_in" => text.make_ascii_uppercase_in(first..last),
-            _ => text.make_ascii_lowercase_in(first..last),
-        }
-        return returned(rt, row, ());
+    match (start.is_empty(), end.is_empty(), end.starts_with('=')) {
+        (true, true, _) => part!(rt row text.call ..),
+        (false, true, _) => part!(rt row text.call first..),
+        (true, false, true) => part!(rt row text.call ..=last),
+        (true, false, false) => part!(rt row text.call ..last),
+        (false, false, true) => part!(rt row text.call first..=last),
+        (false, false, false) => part!(rt row text.call first..last),
     }
-    returned(rt, row, None::<&str>);
 }
 
 /// The calls on a range of Rust with these ends.

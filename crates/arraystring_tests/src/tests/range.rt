@@ -40,6 +40,24 @@ fn ranges(rt: HostRuntime) {
                | slice | (8..)  | | None   | ABCD🤔
                | get   | [4..3) | | None   | ABCD🤔
                | slice | [4..3) | | None   | ABCD🤔
+        ABCD🤔 | slice | 3..    | | D🤔    | ABCD🤔
+               | slice | ..3    | | ABC    | ABCD🤔
+               | slice | 1..3   | | BC     | ABCD🤔
+               | slice | 1..=3  | | BCD    | ABCD🤔
+               | slice | ..=3   | | ABCD   | ABCD🤔
+               | slice | 4..=7  | | 🤔     | ABCD🤔
+               | slice | 3..=2  | |        | ABCD🤔
+               | slice | 3..=1  | | None   | ABCD🤔
+               | slice | 4..=6  | | None   | ABCD🤔
+               | slice | 5..=7  | | None   | ABCD🤔
+               | slice | ..=8   | | None   | ABCD🤔
+               | slice | 8..8   | |        | ABCD🤔
+               | slice | 8..=8  | | None   | ABCD🤔
+               | slice | (7..)  | |        | ABCD🤔
+               | slice | (3..7] | | 🤔     | ABCD🤔
+               | slice | (3..6] | | None   | ABCD🤔
+               | slice | (5..8) | | None   | ABCD🤔
+               | slice | (2..2) | | None   | ABCD🤔
         # 4 | letters change case in a range
         abcd | make_ascii_uppercase_in | 1..=2 | | ok   | aBCd
         abcd | make_ascii_lowercase_in | 1..=2 | | ok   | abcd
@@ -47,6 +65,25 @@ fn ranges(rt: HostRuntime) {
         abcd | make_ascii_lowercase_in | 0..=3 | | ok   | abcd
         abcd | make_ascii_uppercase_in | 0..=4 | | None | abcd
         abcd | make_ascii_lowercase_in | 0..=4 | | None | abcd
+        # 4 | bounds of each kind
+        abcd | make_ascii_uppercase_in                         | ..     | | ok   | ABCD
+             | make_ascii_lowercase_in                         | (..)   | | ok   | abcd
+        abcd | make_ascii_uppercase_in                         | 2..    | | ok   | abCD
+             | make_ascii_lowercase_in                         | (2..)  | | ok   | abCd
+        abcd | make_ascii_uppercase_in                         | ..=1   | | ok   | ABcd
+             | make_ascii_lowercase_in                         | (..0]  | | ok   | aBcd
+        abcd | make_ascii_uppercase_in                         | (0..2] | | ok   | aBCd
+             | make_ascii_lowercase_in                         | [1..2) | | ok   | abCd
+        abcd | make_ascii_uppercase_in                         | (0..3) | | ok   | aBCd
+             | make_ascii_lowercase_in                         | (1..3] | | ok   | aBcd
+        abcd | make_ascii_uppercase_in make_ascii_lowercase_in | 2..=1  | | ok   | abcd
+             | make_ascii_uppercase_in make_ascii_lowercase_in | 2..=0  | | None | abcd
+             | make_ascii_uppercase_in make_ascii_lowercase_in | (2..2] | | ok   | abcd
+             | make_ascii_uppercase_in make_ascii_lowercase_in | (2..2) | | None | abcd
+             | make_ascii_uppercase_in make_ascii_lowercase_in | (3..)  | | ok   | abcd
+             | make_ascii_uppercase_in make_ascii_lowercase_in | (4..)  | | None | abcd
+             | make_ascii_uppercase_in make_ascii_lowercase_in | (..4]  | | None | abcd
+             | make_ascii_uppercase_in make_ascii_lowercase_in | 0..255 | | None | abcd
         # 23 | letters change case in a range
         abcd   | make_ascii_uppercase_in | 1..=2 | | ok   | aBCd
         abcd   | make_ascii_lowercase_in | 1..=2 | | ok   | abcd
@@ -59,6 +96,12 @@ fn ranges(rt: HostRuntime) {
         aZéZaé | make_ascii_lowercase_in | 4..=5 | | ok   | aZézaé
         aZéZaé | make_ascii_uppercase_in | 1..=2 | | None | aZéZaé
         aZéZaé | make_ascii_lowercase_in | 1..=2 | | None | aZéZaé
+        aZéZaé | make_ascii_uppercase_in | (3..7] | | ok   | aZéZAé
+        aZéZaé | make_ascii_lowercase_in | (0..3] | | ok   | azéZaé
+        aZéZaé | make_ascii_uppercase_in | (4..6) | | ok   | aZéZAé
+        aZéZaé | make_ascii_lowercase_in | (1..5) | | ok   | aZézaé
+        aZéZaé | make_ascii_uppercase_in | (2..5) | | None | aZéZaé
+        aZéZaé | make_ascii_lowercase_in | (0..2] | | None | aZéZaé
         # 23 | parts are drained
         ABCD🤔 | drain | ..3  | | ABC         | D🤔
                | drain | 3..  | | Utf8        | D🤔
@@ -131,6 +174,36 @@ fn ranges(rt: HostRuntime) {
               | drain         | 0..=255   |       | 255 x       |
         255 x | replace_range | 0..=255   | x     | ok          | x
         new   | replace_range | 0..0      | 256 x | OutOfBounds |
+        # 255 | the last indices of a part
+        255 x | slice                                           | 0..255     | | 255 x | 255 x
+              | slice                                           | ..255      | | 255 x | 255 x
+              | slice                                           | 0..=254    | | 255 x | 255 x
+              | slice                                           | [0..255)   | | 255 x | 255 x
+              | slice                                           | (..254]    | | 255 x | 255 x
+              | slice                                           | 255..      | |       | 255 x
+              | slice                                           | 255..255   | |       | 255 x
+              | slice                                           | 255..=254  | |       | 255 x
+              | slice                                           | (254..255) | |       | 255 x
+              | slice                                           | 0..=255    | | None  | 255 x
+              | slice                                           | 255..=255  | | None  | 255 x
+              | slice                                           | (254..255] | | None  | 255 x
+              | slice                                           | (255..)    | | None  | 255 x
+              | slice                                           | (255..255) | | None  | 255 x
+              | slice                                           | (255..255] | | None  | 255 x
+              | make_ascii_uppercase_in make_ascii_lowercase_in | 255..      | | ok    | 255 x
+              | make_ascii_uppercase_in make_ascii_lowercase_in | 255..255   | | ok    | 255 x
+              | make_ascii_uppercase_in make_ascii_lowercase_in | 255..=254  | | ok    | 255 x
+              | make_ascii_uppercase_in make_ascii_lowercase_in | (254..255) | | ok    | 255 x
+              | make_ascii_uppercase_in make_ascii_lowercase_in | 0..=255    | | None  | 255 x
+              | make_ascii_uppercase_in make_ascii_lowercase_in | 255..=255  | | None  | 255 x
+              | make_ascii_uppercase_in make_ascii_lowercase_in | (254..255] | | None  | 255 x
+              | make_ascii_uppercase_in make_ascii_lowercase_in | (255..)    | | None  | 255 x
+              | make_ascii_uppercase_in make_ascii_lowercase_in | (255..255] | | None  | 255 x
+              | make_ascii_uppercase_in                         | 0..255     | | ok    | XXXXXXXXXXXXXXXXXXXXXXXXXXXXXXXXXXXXXXXXXXXXXXXXXXXXXXXXXXXXXXXXXXXXXXXXXXXXXXXXXXXXXXXXXXXXXXXXXXXXXXXXXXXXXXXXXXXXXXXXXXXXXXXXXXXXXXXXXXXXXXXXXXXXXXXXXXXXXXXXXXXXXXXXXXXXXXXXXXXXXXXXXXXXXXXXXXXXXXXXXXXXXXXXXXXXXXXXXXXXXXXXXXXXXXXXXXXXXXXXXXXXXXXXXXXXXXX
+              | make_ascii_lowercase_in                         | 0..=254    | | ok    | 255 x
+        again | make_ascii_lowercase_in                         | ..255      | | ok    | 255 x
+        again | make_ascii_lowercase_in                         | (..254]    | | ok    | 255 x
+        again | make_ascii_lowercase_in                         | [0..255)   | | ok    | 255 x
         # 300 | the last indices
         255 x | replace_range | 255.. | x | OutOfBounds | 255 x
         # 0 | a string of no bytes

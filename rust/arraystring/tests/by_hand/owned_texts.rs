@@ -8,7 +8,7 @@ use std::{ffi::OsStr, path::Path};
 
 use arraystring::{ArrayString, CacheString};
 
-use crate::inputs::{GIVEN, at_capacities, behind, capacity, edges, letters, some_offsets, texts_of};
+use crate::inputs::{GIVEN, Told, at_capacities, behind, capacity, edges, hints, letters, some_offsets, texts_of};
 
 /// Asserts what is copied and lent of a string of a text.
 macro_rules! is_copied {
@@ -112,20 +112,35 @@ fn a_string_is_beside_a_cow() {
     }
 }
 
+/// Asserts what is collected and extended of strings, whatever is told of their number: it may be false, and too large to reckon with.
+fn are_joined<S, I: Iterator<Item = S>>(strings: impl Fn() -> I, count: usize, wanted: &str)
+where
+    String: FromIterator<S> + Extend<S>,
+    Box<str>: FromIterator<S>,
+    Cow<'static, str>: FromIterator<S>,
+{
+    for hint in hints(count) {
+        macro_rules! told {
+            () => {
+                Told { items: strings(), hint, taken: &mut 0 }
+            };
+        }
+        let mut extended = String::from("~");
+        extended.extend(told!());
+        assert!(extended[1..] == *wanted && told!().collect::<String>() == wanted, "{count} {hint:?}");
+        assert!(
+            *told!().collect::<Box<str>>() == *wanted && told!().collect::<Cow<str>>() == wanted,
+            "{count} {hint:?}"
+        );
+    }
+}
+
 /// More strings than a byte counts are collected, and those behind as well as the first ones.
 #[test]
 fn strings_are_collected_whatever_their_number() {
     for count in (0..=8).chain(250..=260).chain([511, 512, 513, 1000, 70_000]) {
         let texts: Vec<String> = (0..count).map(|at| (at % 10).to_string()).collect();
-        let wanted = texts.concat();
-        let strings = || texts.iter().map(|text| ArrayString::<4>::from(text.as_str()));
-        let cached = || texts.iter().map(|text| CacheString::from(text.as_str()));
-        assert!(strings().collect::<String>() == wanted && cached().collect::<String>() == wanted, "{count}");
-        assert!(*strings().collect::<Box<str>>() == *wanted && *cached().collect::<Box<str>>() == *wanted, "{count}");
-        assert!(strings().collect::<Cow<str>>() == wanted && cached().collect::<Cow<str>>() == wanted, "{count}");
-        let (mut one, mut other) = (String::from("~"), String::from("~"));
-        one.extend(strings());
-        other.extend(cached());
-        assert!(one[1..] == wanted && other == one, "{count}");
+        are_joined(|| texts.iter().map(|text| ArrayString::<4>::from(text.as_str())), count, &texts.concat());
+        are_joined(|| texts.iter().map(|text| CacheString::from(text.as_str())), count, &texts.concat());
     }
 }

@@ -27,10 +27,11 @@ pub const MOST: usize = 255;
 /// The lengths of what is given: to more than twice what any string takes.
 pub const GIVEN: std::ops::RangeInclusive<usize> = 0..=520;
 
-/// Characters of each width, the least and the greatest of each, and some between: among them white space, and the mark that some
-/// programs drop in front of a text.
-pub const CHARS: [char; 13] = [
+/// Characters of each width, the least and the greatest of each, and some between: among them white space, the end of a line, and the
+/// mark that some programs drop in front of a text.
+pub const CHARS: [char; 14] = [
     '\0',
+    '\n',
     'a',
     ' ',
     'b',
@@ -117,11 +118,12 @@ pub fn hash_of<T: Hash + ?Sized>(value: &T) -> u64 {
 }
 
 /// What an iterator of so many items may tell of their number: the truth, nothing, too few, too many, and what cannot be.
-pub fn hints(count: usize) -> [(usize, Option<usize>); 8] {
+pub fn hints(count: usize) -> [(usize, Option<usize>); 9] {
     [
         (count, Some(count)),
         (0, None),
         (0, Some(0)),
+        (0, Some(usize::MAX)),
         (count / 2, Some(count / 2)),
         (1, Some(1)),
         (count + 300, Some(count + 300)),
