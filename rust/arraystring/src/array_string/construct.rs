@@ -3,8 +3,8 @@
 
 use crate::ArrayString;
 use crate::access::str;
-use crate::array_string::fill::try_fill;
 use crate::error::{Error, OutOfBounds, Utf8};
+use crate::moves::write_by_call;
 use crate::utf8::{read_utf8, truncate_str};
 
 /// Strings made from texts, characters and bytes.
@@ -63,19 +63,18 @@ impl<const N: usize> ArrayString<N> {
     ///
     /// </details>
     #[doc(alias = "from_str")]
+    #[expect(clippy::cast_possible_truncation, reason = "by the test above it is at most the capacity")]
     #[inline]
     pub fn try_from_str<S: AsRef<str>>(string: S) -> Result<Self, OutOfBounds> {
         let string = string.as_ref();
-        // One path for both outcomes, so that the string is copied into the result once.
-        let mut array = [0; N];
-        let (refused, size) = try_fill(&mut array, string.as_bytes());
-        // FIELDS: `try_fill` returns a size of at most the capacity, and has written a text of it in front of the
-        // array, or it returns 0.
-        let mut result = Ok(ArrayString { array, start: 0, size });
-        if refused {
-            result = Err(OutOfBounds);
+        if string.len() > Self::capacity() as usize {
+            return Err(OutOfBounds);
         }
-        result
+        let mut array = [0; N];
+        // SAFETY: `string.as_bytes().len() <= N`: by the test above, and the capacity is at most `N`.
+        unsafe { write_by_call(&mut array, 0, string.as_bytes()) };
+        // FIELDS: `string` lies in front of the array, and its size is at most the capacity by the test above.
+        Ok(ArrayString { array, start: 0, size: string.len() as u8 })
     }
 
     /// Creates a string from the longest prefix of whole characters of `string` that fits.
