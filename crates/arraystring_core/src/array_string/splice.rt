@@ -72,6 +72,7 @@ impl<const N: usize> ArrayString<N> {
     /// Puts `ch` at a boundary, as `splice` does with a text. The new text must fit. The UTF-8 of `ch` is written straight
     /// into the array if there is room behind the text. By a text of four bytes `try_insert` would take some ten
     /// instructions more.
+    #[tactic(auto, using(crate::proofs::StoredLaws::within))]
     #[inline(always)]
     pub(super) fn splice_char(&mut self, at: usize, ch: char)
         requires boundary { IsTrue (boundary self.old.text at) }

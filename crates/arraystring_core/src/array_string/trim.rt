@@ -1,6 +1,5 @@
 //! Trimming at both ends.
-ghost use Rattle.std.specs.Prelude.{◌≡◌, ◌+◌, ◌-◌, ◌*◌, ◌^◌, ◌≤◌, ℕ, Bool, IsTrue, min, Ok, length};
-ghost use Rattle.arraystring_base.specs.Text.{back, boundary};
+ghost use Rattle.std.specs.Prelude.{◌≡◌, ◌+◌, ◌-◌, ◌*◌, ◌^◌, ◌≤◌, ℕ, Bool, min, Ok, length};
 ghost use Rattle.arraystring_core.specs.Retain.{ReturnsAs};
 ghost use Rattle.arraystring_core.specs.Edits.{Makes, trimming, is_space, is_white_space, without_leading, without_trailing};
 
@@ -52,51 +51,6 @@ impl<const N: usize> ArrayString<N> {
     /// Drops the characters at the start for which `drops` returns true, up to the first for which
     /// it does not.
     pub(super) fn drop_leading<F: Fn(char) -> bool + Drop>(&mut self, drops: F)
-        requires callable { F.IsAlwaysCallable drops }
-        ensures { (passes : ℕ → Bool) → ReturnsAs F.post drops passes → self.new.text ≡ without_leading passes self.old.text }
-    {
-        if !self.drop_leading_ascii(&drops) {
-            self.drop_leading_decoded(drops);
-        }
-    }
-
-    /// Drops the characters of ASCII at the start for which `drops` returns true. Returns true if it
-    /// does not for the one after them, which is of ASCII too.
-    #[inline(always)]
-    fn drop_leading_ascii<F: Fn(char) -> bool>(&mut self, drops: &F) -> bool
-        requires callable { F.IsAlwaysCallable drops.now }
-        ensures text { (passes : ℕ → Bool) → ReturnsAs F.post drops.now passes
-            → without_leading passes self.new.text ≡ without_leading passes self.old.text }
-        ensures done { IsTrue result → (passes : ℕ → Bool) → ReturnsAs F.post drops.now passes
-            → without_leading passes self.new.text ≡ self.new.text }
-    {
-        let bytes = self.as_bytes();
-        let mut run = 0;
-        while run < bytes.len() && bytes[run] < 0x80 {
-            if !drops(bytes[run] as char) {
-                self.drop_run(run);
-                return true;
-            }
-            run += 1;
-        }
-        self.drop_run(run);
-        false
-    }
-
-    /// Drops the part before a boundary. Writes nothing if there is none.
-    #[tactic(auto, using(arraystring_base::proofs::BoundaryLaws::parts))]
-    #[inline(always)]
-    fn drop_run(&mut self, end: usize)
-        requires { IsTrue (boundary self.old.text end) }
-        ensures { self.new.text ≡ back self.old.text end }
-    {
-        if end > 0 {
-            self.drop_front(end);
-        }
-    }
-
-    /// `drop_leading` by the decoder alone.
-    fn drop_leading_decoded<F: Fn(char) -> bool + Drop>(&mut self, drops: F)
         requires callable { F.IsAlwaysCallable drops }
         ensures { (passes : ℕ → Bool) → ReturnsAs F.post drops passes → self.new.text ≡ without_leading passes self.old.text }
     {

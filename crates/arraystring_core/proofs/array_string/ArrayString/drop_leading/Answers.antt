@@ -6,8 +6,8 @@ use Rattle.arraystring_base.proofs.TextLaws.{width-is, width-bounds, chars-bytes
 use Rattle.arraystring_base.proofs.BoundaryLaws.{boundary-is, back-is}
 use Rattle.arraystring_core.specs.Edits.{without_leading}
 use Rattle.arraystring_core.proofs.TrimLemmas.{without_leading-passes, without_leading-stops}
-use Rattle.arraystring_core.proofs.array_string.ArrayString.drop_leading_decoded.Goals as goal
-use Rattle.arraystring_core.proofs.array_string.ArrayString.drop_leading_decoded.Goals.{in-Some+then-not-drops, in_default}
+use Rattle.arraystring_core.proofs.array_string.ArrayString.drop_leading.Goals as goal
+use Rattle.arraystring_core.proofs.array_string.ArrayString.drop_leading.Goals.{in-Some+then-not-drops, in_default}
 
 -- a text that begins with the bytes of a character
 module _ (text : List ℕ) {borrowed : List ℕ} (rest : List ℕ) (ch : ℕ) (u : IsUtf8 borrowed)
