@@ -129,6 +129,7 @@ impl<const N: usize> ArrayString<N> {
     /// right after it.
     #[inline]
     fn add_units(&mut self, units: &[u16]) -> Option<Unit16> {
+        let _ = &self.array; // gives the prover that the text fits
         for item in Units::new(units) {
             match item {
                 Unit16::Char(ch) => match self.try_push(ch) {
