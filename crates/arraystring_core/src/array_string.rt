@@ -3,7 +3,7 @@
 //! The modules below have its other calls:
 //!
 //! - `traits` has its impls of traits;
-//! - `unchecked` and `counted` have calls that most programs do without;
+//! - `unchecked` has the calls that leave a test to the caller, of which most programs need none;
 //! - `checks` has the tests of the rows;
 //! - `splice` replaces a part of the text, `append` appends what the text has to move for, and `remove` takes out
 //!   a part, a front or an end.
@@ -51,9 +51,7 @@ mod ascii;
 mod borrowed_range;
 mod checks;
 mod construct;
-mod counted;
 mod drained_range;
-mod fill;
 mod insert;
 mod push;
 mod remove;

@@ -8,10 +8,9 @@ ghost use Rattle.arraystring_core.specs.Construct.{IsWholeOrRefused};
 ghost use Rattle.arraystring_core.specs.Taken.{Takes, Gives, joined, joined_pieces, piece_text};
 
 use crate::ArrayString;
-use crate::array_string::fill::try_fill;
 use crate::well_formed::read_utf8;
 use arraystring_base::error::{Error, OutOfBounds, Utf8};
-use arraystring_base::utils::truncate_str;
+use arraystring_base::utils::{truncate_str, write_over};
 use std::str;
 
 impl<const N: usize> ArrayString<N> {
@@ -23,18 +22,16 @@ impl<const N: usize> ArrayString<N> {
     pub fn try_from_str(string: &str) -> Result<Self, OutOfBounds>
         ensures { IsWholeOrRefused (chars string.now) (cap N) (from_out_of_bounds result) }
     {
-        // One path for both outcomes, so that the string is copied into the result once.
+        if string.len() > Self::capacity() as usize {
+            return Err(OutOfBounds);
+        }
         let mut array = [0; N];
-        let (refused, size) = try_fill(&mut array, string.as_bytes());
-        let mut result = Ok(ArrayString {
+        write_over(&mut array, 0, string.as_bytes());
+        Ok(ArrayString {
             array,
             start: 0,
-            size,
-        });
-        if refused {
-            result = Err(OutOfBounds);
-        }
-        result
+            size: string.len() as u8,
+        })
     }
 
     /// Creates a string from the longest prefix of whole characters of `string` that fits.

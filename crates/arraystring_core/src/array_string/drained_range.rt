@@ -29,19 +29,43 @@ impl<const N: usize> ArrayString<N> {
         ensures { OfReturnedBounds R.has_bounds R.start_bound R.end_bound range (λ start end. let t = self.old.text in
             Makes (draining t (saturated_start start) (saturated_end end (size t))) t (with_left result) self.new.text) }
     {
-        self.drain_through(range, &mut Steps::new(), &mut Drain::default())
+        self.drain_counted(range, &mut Steps::new())
     }
 
-    /// Drains the part in the range. What is removed goes through `removed`, which is the caller's: the compiler copies a local
-    /// of this function once more.
+    /// Drains as `drain` does, and counts in `steps` the bytes that it moves.
+    ///
+    /// It moves at most as many bytes as the part after the range has. If the range is not empty, it
+    /// moves at least as many as the shorter of two parts has: the part before the range and the part
+    /// after it. If the range begins at index 0, or if the call is refused, it moves none.
+    ///
+    /// # Errors
+    ///
+    /// Returns the errors of `drain`, in the same order.
+    ///
+    /// # Precondition
+    ///
+    /// Both counts of `steps` must be at most 2^63.
+    ///
+    /// # Examples
+    ///
+    /// ```
+    /// let mut string = ArrayString::<8>::from("abcdef");
+    /// let mut steps = Steps::new();
+    /// assert!(string.drain_counted(..2, &mut steps).is_ok());
+    /// assert_eq!((string.as_str(), steps.moved()), ("cdef", 0)); // nothing moves at the start
+    /// assert!(string.drain_counted(1..2, &mut steps).is_ok());
+    /// assert!(string.as_str() == "cef" && (1..=2).contains(&steps.moved()));
+    /// ```
     #[inline(always)]
-    pub(super) fn drain_through<R: RangeBounds<u8> + Drop>(
+    pub fn drain_counted<R: RangeBounds<u8> + Drop>(
         &mut self,
         range: R,
         steps: &mut Steps,
-        removed: &mut Drain<N>,
     ) -> Result<Drain<N>, Error>
-        requires { steps.old.moved ≤ 2 ^ 63 }
+        requires looks { steps.old.looked ≤ 2 ^ 63 }
+        requires moves { steps.old.moved ≤ 2 ^ 63 }
+        // The edit, and then the moves: none if the range begins at 0; at most the bytes after the range; if
+        // the range is not empty, at least the bytes before it or those after it, whichever are fewer.
         ensures edit { OfReturnedBounds R.has_bounds R.start_bound R.end_bound range (λ start end.
             let t = self.old.text in let from = saturated_start start in let to = saturated_end end (size t) in
             Makes (draining t from to) t (with_left result) self.new.text
@@ -54,8 +78,8 @@ impl<const N: usize> ArrayString<N> {
     {
         let (from, to) = saturating_ends(range, self.len());
         self.check_part(from, to)?;
-        *removed = Drain::new(self.array, self.start + from, to - from);
+        let removed = Drain::new(self.array, self.start + from, to - from);
         self.remove_range(from as usize, to as usize, steps);
-        Ok(*removed)
+        Ok(removed)
     }
 }

@@ -17,6 +17,41 @@ impl<const N: usize> ArrayString<N> {
         self.trim_counted(&mut Steps::new());
     }
 
+    /// Trims as `trim` does, and counts in `steps` its looks at the end of the text.
+    ///
+    /// It looks at each character that it removes there, and at the character before them, if there is
+    /// one. Each of these characters costs one to four looks. Looks at the start of the text are not
+    /// counted. It moves no byte.
+    ///
+    /// # Precondition
+    ///
+    /// Both counts of `steps` must be at most 2^63.
+    ///
+    /// # Examples
+    ///
+    /// ```
+    /// let mut string = ArrayString::<8>::from("  a ");
+    /// let mut steps = Steps::new();
+    /// string.trim_counted(&mut steps);
+    /// assert_eq!((string.as_str(), steps.moved()), ("a", 0));
+    /// assert!((2..=8).contains(&steps.looked())); // the space at the end, and `a`
+    /// ```
+    pub fn trim_counted(&mut self, steps: &mut Steps)
+        requires looks { steps.old.looked ≤ 2 ^ 63 }
+        requires moves { steps.old.moved ≤ 2 ^ 63 }
+        ensures edit { Makes (trimming is_white_space self.old.text) self.old.text (Ok result) self.new.text }
+        ensures moved { steps.new.moved ≡ steps.old.moved }
+        ensures looked { steps.new.looked
+            ≤ steps.old.looked + 4 * (length self.old.text - length (without_trailing is_white_space self.old.text) + 1) }
+        ensures least { steps.old.looked + min (length self.old.text)
+            (length self.old.text - length (without_trailing is_white_space self.old.text) + 1)
+            ≤ steps.new.looked }
+        ensures counted { steps.old.looked ≤ steps.new.looked }
+    {
+        self.drop_trailing(is_white_space, steps);
+        self.drop_leading(is_white_space);
+    }
+
     /// Removes all spaces (U+0020) at both ends, and nothing else.
     pub fn trim_spaces(&mut self)
         ensures { Makes (trimming is_space self.old.text) self.old.text (Ok result) self.new.text }
