@@ -1,5 +1,4 @@
-// Proved sources: crates/arraystring_core/src/array_string/drained_range.rt,
-// crates/arraystring_core/src/array_string/counted.rt
+// Proved sources: crates/arraystring_core/src/array_string/drained_range.rt
 //! The part of a text in a range of bytes, taken out as a `Drain`.
 
 use crate::error::Error;

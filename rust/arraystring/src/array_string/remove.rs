@@ -1,5 +1,4 @@
-// Proved sources: crates/arraystring_core/src/array_string/remove.rt,
-// crates/arraystring_core/src/array_string/counted.rt
+// Proved sources: crates/arraystring_core/src/array_string/remove.rt
 //! What is removed from a string: a character at the end or at an index, the text from an index on, all of
 //! it. The private calls remove a part, a front or an end of the text.
 

@@ -1,5 +1,4 @@
-// Proved sources: crates/arraystring_core/src/array_string/replaced_range.rt,
-// crates/arraystring_core/src/array_string/counted.rt
+// Proved sources: crates/arraystring_core/src/array_string/replaced_range.rt
 //! The part of a text in a range of bytes, replaced by another text.
 
 use crate::ArrayString;

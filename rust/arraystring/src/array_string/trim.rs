@@ -1,4 +1,4 @@
-// Proved sources: crates/arraystring_core/src/array_string/trim.rt, crates/arraystring_core/src/array_string/counted.rt
+// Proved sources: crates/arraystring_core/src/array_string/trim.rt
 //! Trimming at both ends.
 
 use crate::ArrayString;
