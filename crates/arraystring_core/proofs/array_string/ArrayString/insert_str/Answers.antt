@@ -25,4 +25,4 @@ returns g c =
     let left : c.capacity.result - c.len.result ≡ cap g.row.N - size t = omega arith in
     let row = insertion_of_cut t i (chars c.args.string.now) (cap g.row.N) in
     makes row _ _ _ (no_cause row.tests c.in_ok-check_index.ensures) refl
-    (c.splice.ensures.text ∙ ap (λ l. front t i ++ (l ++ back t i)) (rw left at added))
+    (c.splice.ensures.replaced.text ∙ ap (λ l. front t i ++ (l ++ back t i)) (rw left at added))
