@@ -1,12 +1,12 @@
 // Proved sources: crates/arraystring_base/src/moves.rt
-//! The two moves of bytes: `shift`, inside an array, and `write_over`, of a given run into it. Each has a form that is
-//! one call at any length: `shift_by_call` and `write_by_call`. All that makes them fast is in this file.
+//! The two moves of bytes: `shift`, inside an array, and `write_over`, of a given run into it. Each has a form for
+//! cold functions: `shift_by_call` and `write_by_call`. All that makes them fast is in this file.
 //!
 //! Fewer than 16 bytes move as their first `K` and their last `K`, which may overlap, and both are read before the
 //! first is written. `memmove` moves short runs in this way too. They are read as vectors, since those stay in
 //! registers; arrays of bytes would be put on the stack. A longer run is one call, of `memmove` or `memcpy`, in
-//! `move_bytes` and `write_bytes`. Cold functions make this call at any length: they run seldom, and in them the
-//! moves in place would only be more code. `try_from_str` does, too, and takes less by it. The sources have no such forms, and no call of
+//! `move_bytes` and `write_bytes`. The forms for cold functions make this call at any length: these functions run
+//! seldom, and in them the moves in place would only be more code. The sources have no such forms, and no call of
 //! `memmove`: there longer runs move in place, too.
 
 use crate::simd::Simd;
@@ -162,7 +162,8 @@ pub(crate) unsafe fn write_over<const N: usize>(array: &mut [u8; N], at: usize, 
     }
 }
 
-/// Writes as `write_over` does, by one call at any length. It is for cold functions and for `try_from_str`.
+/// Writes as `write_over` does, by one call at any length. It is for cold functions, and for `try_from_str`, which
+/// takes fewer instructions by it.
 ///
 /// # Safety
 ///

@@ -4,25 +4,52 @@
 
 use core::marker::PhantomData;
 
-/// `K` bytes.
+/// `K` bytes, of which there are at most 64. Few are held as they are, and many as words of 16 bytes, which the compiler keeps in
+/// registers where an array of bytes would go through the stack.
 pub(crate) struct Simd<T, const K: usize> {
     bytes: [u8; K],
+    words: [u128; 4],
     lanes: PhantomData<[T; K]>,
 }
 
 impl<const K: usize> Simd<u8, K> {
+    /// Whether the bytes are held as words.
+    const IN_WORDS: bool = K % 16 == 0;
+
     /// The first `K` bytes of a slice. It panics where there are fewer.
     #[inline(always)]
     pub(crate) fn from_slice(slice: &[u8]) -> Self {
-        let Some(given) = slice.first_chunk() else { too_short() };
-        Simd { bytes: *given, lanes: PhantomData }
+        const { assert!(K <= 64) };
+        let Some(given) = slice.first_chunk::<K>() else { too_short() };
+        if !Self::IN_WORDS {
+            return Simd { bytes: *given, words: [0; 4], lanes: PhantomData };
+        }
+        // One by one, since a loop would stay one where code is made small.
+        let word = |at: usize| match given.get(16 * at..).and_then(<[u8]>::first_chunk) {
+            Some(bytes) => u128::from_ne_bytes(*bytes),
+            None => 0,
+        };
+        let words = [word(0), word(1), word(2), word(3)];
+        Simd { bytes: [0; K], words, lanes: PhantomData }
     }
 
     /// Writes over the first `K` bytes of a slice. It panics where there are fewer.
     #[inline(always)]
     pub(crate) fn copy_to_slice(self, slice: &mut [u8]) {
-        let Some(target) = slice.first_chunk_mut() else { too_short() };
-        *target = self.bytes;
+        let Some(target) = slice.first_chunk_mut::<K>() else { too_short() };
+        if !Self::IN_WORDS {
+            *target = self.bytes;
+            return;
+        }
+        let mut write = |at: usize| {
+            if let Some(bytes) = target.get_mut(16 * at..).and_then(<[u8]>::first_chunk_mut) {
+                *bytes = self.words[at].to_ne_bytes();
+            }
+        };
+        write(0);
+        write(1);
+        write(2);
+        write(3);
     }
 }
 
