@@ -1,5 +1,5 @@
 -- Runs of bytes that are moved and written.
-use Rattle.std.proofs.Common.{◌≡◌, ℕ, ◌+◌, ◌≤◌, List, ◌++◌, length, take, drop, sym, ap, ◌∙◌, arith, refl, take-take, take_at, length-take-le, length-drop, length-append, append_assoc}
+use Rattle.std.proofs.Common.{◌≡◌, ℕ, ◌+◌, ◌≤◌, List, ◌++◌, length, take, drop, sym, ap, ◌∙◌, arith, take-take, take_at, length-take-le, length-drop, length-append, append_assoc}
 use Rattle.std.proofs.lemmas.List.{drop-take, drop_at, take-append-le}
 use Rattle.std.proofs.lemmas.Slice.{drop-append-drop}
 

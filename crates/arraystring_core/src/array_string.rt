@@ -4,7 +4,7 @@
 //!
 //! - `traits` has its impls of traits;
 //! - `unchecked` has the calls that leave a test to the caller, of which most programs need none;
-//! - `checks` has the tests of the rows;
+//! - `boundary` has the test for a boundary, and `checks` those of the rows;
 //! - `splice` replaces a part of the text, `append` appends what the text has to move for, and `remove` takes out
 //!   a part, a front or an end.
 //!
@@ -49,6 +49,7 @@ use std::str;
 mod append;
 mod ascii;
 mod borrowed_range;
+mod boundary;
 mod checks;
 mod construct;
 mod drained_range;
@@ -62,6 +63,8 @@ mod traits;
 mod trim;
 mod unchecked;
 mod utf16;
+
+pub use boundary::is_char_boundary;
 
 /// A string of at most `N` bytes of UTF-8, and at most 255, stored inline. Sizes, indices and the
 /// capacity count bytes of UTF-8.

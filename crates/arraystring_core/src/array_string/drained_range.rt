@@ -26,8 +26,10 @@ impl<const N: usize> ArrayString<N> {
     /// - `Err(Error::Utf8)` if the end of the range is inside a character.
     #[inline(always)]
     pub fn drain<R: RangeBounds<u8> + Drop>(&mut self, range: R) -> Result<Drain<N>, Error>
-        ensures { OfReturnedBounds R.has_bounds R.start_bound R.end_bound range (λ start end. let t = self.old.text in
-            Makes (draining t (saturated_start start) (saturated_end end (size t))) t (with_left result) self.new.text) }
+        ensures { OfReturnedBounds R.has_bounds R.start_bound R.end_bound range (λ start end.
+            let t = self.old.text in
+            Makes (draining t (saturated_start start) (saturated_end end (size t)))
+            t (with_left result) self.new.text) }
     {
         self.drain_counted(range, &mut Steps::new())
     }
@@ -67,11 +69,13 @@ impl<const N: usize> ArrayString<N> {
         // The edit, and then the moves: none if the range begins at 0; at most the bytes after the range; if
         // the range is not empty, at least the bytes before it or those after it, whichever are fewer.
         ensures edit { OfReturnedBounds R.has_bounds R.start_bound R.end_bound range (λ start end.
-            let t = self.old.text in let from = saturated_start start in let to = saturated_end end (size t) in
+            let t = self.old.text in
+            let from = saturated_start start in let to = saturated_end end (size t) in
             Makes (draining t from to) t (with_left result) self.new.text
             × (from ≡ 0 → steps.new.moved ≡ steps.old.moved)
             × (steps.new.moved ≤ steps.old.moved + (size t - to))
-            × OnOk result (from ≢ to → steps.old.moved + min from (size t - to) ≤ steps.new.moved)) }
+            × OnOk result (from ≢ to
+            → steps.old.moved + min from (size t - to) ≤ steps.new.moved)) }
         ensures refused { OnErr result (steps.new.moved ≡ steps.old.moved) }
         ensures counted { steps.old.moved ≤ steps.new.moved }
         ensures looked { steps.new.looked ≡ steps.old.looked }

@@ -18,7 +18,8 @@ impl<const N: usize> ArrayString<N> {
     /// - `Err(Error::OutOfBounds)` if `ch` does not fit;
     /// - `Err(Error::Utf8)` if the index is inside a character.
     pub fn try_insert(&mut self, index: u8, ch: char) -> Result<(), Error>
-        ensures { Makes (insertion self.old.text index (ch ∷ []) (cap N)) self.old.text result self.new.text }
+        ensures { Makes (insertion self.old.text index (ch ∷ []) (cap N))
+            self.old.text result self.new.text }
     {
         self.check_insertion(index, ch.len_utf8())?;
         self.splice_char(index as usize, ch);
@@ -35,7 +36,8 @@ impl<const N: usize> ArrayString<N> {
     /// - `Err(Error::OutOfBounds)` if not all of `string` fits;
     /// - `Err(Error::Utf8)` if the index is inside a character.
     pub fn try_insert_str(&mut self, index: u8, string: &str) -> Result<(), Error>
-        ensures { Makes (insertion self.old.text index (chars string.now) (cap N)) self.old.text result self.new.text }
+        ensures { Makes (insertion self.old.text index (chars string.now) (cap N))
+            self.old.text result self.new.text }
     {
         self.try_insert_str_counted(index, string, &mut Steps::new())
     }
@@ -71,7 +73,8 @@ impl<const N: usize> ArrayString<N> {
     ) -> Result<(), Error>
         requires looks { steps.old.looked ≤ 2 ^ 63 }
         requires moves { steps.old.moved ≤ 2 ^ 63 }
-        ensures edit { Makes (insertion self.old.text index (chars string.now) (cap N)) self.old.text result self.new.text }
+        ensures edit { Makes (insertion self.old.text index (chars string.now) (cap N))
+            self.old.text result self.new.text }
         ensures refused { OnErr result (steps.new.moved ≡ steps.old.moved) }
         ensures most { steps.new.moved ≤ steps.old.moved + size self.old.text }
         ensures least { OnOk result (chars string.now ≢ []
@@ -95,7 +98,8 @@ impl<const N: usize> ArrayString<N> {
     /// - `Err(Error::OutOfBounds)` if the index is past the text;
     /// - `Err(Error::Utf8)` if the index is inside a character.
     pub fn insert_str(&mut self, index: u8, string: &str) -> Result<(), Error>
-        ensures { Makes (insertion_of_cut self.old.text index (chars string.now) (cap N)) self.old.text result self.new.text }
+        ensures { Makes (insertion_of_cut self.old.text index (chars string.now) (cap N))
+            self.old.text result self.new.text }
     {
         self.check_index(index)?;
         let room = Self::capacity() - self.len();

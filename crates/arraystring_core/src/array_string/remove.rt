@@ -15,7 +15,8 @@ impl<const N: usize> ArrayString<N> {
     ///
     /// Returns `Err(Utf8)` if the index `size` is inside a character. The text is then unchanged.
     pub fn truncate(&mut self, size: u8) -> Result<(), Utf8>
-        ensures { Makes (truncation self.old.text size) self.old.text (from_utf8_error result) self.new.text }
+        ensures { Makes (truncation self.old.text size)
+            self.old.text (from_utf8_error result) self.new.text }
     {
         if size >= self.len() {
             return Ok(());
@@ -52,7 +53,8 @@ impl<const N: usize> ArrayString<N> {
     pub fn pop_counted(&mut self, steps: &mut Steps) -> Option<char>
         requires looks { steps.old.looked ≤ 2 ^ 63 }
         requires moves { steps.old.moved ≤ 2 ^ 63 }
-        ensures edit { Makes (popping self.old.text) self.old.text (Ok result) self.new.text }
+        ensures edit { Makes (popping self.old.text)
+            self.old.text (Ok result) self.new.text }
         ensures looked { steps.new.looked ≤ steps.old.looked + 4 }
         ensures least { IfSome result (λ _. steps.old.looked < steps.new.looked) }
         ensures counted { steps.old.looked ≤ steps.new.looked }
@@ -104,12 +106,15 @@ impl<const N: usize> ArrayString<N> {
     pub fn remove_counted(&mut self, index: u8, steps: &mut Steps) -> Result<char, Error>
         requires looks { steps.old.looked ≤ 2 ^ 63 }
         requires moves { steps.old.moved ≤ 2 ^ 63 }
-        ensures edit { Makes (removal self.old.text index) self.old.text result self.new.text }
+        ensures edit { Makes (removal self.old.text index)
+            self.old.text result self.new.text }
         ensures refused { OnErr result (steps.new.moved ≡ steps.old.moved) }
         ensures free { index ≡ 0 → steps.new.moved ≡ steps.old.moved }
-        ensures tail_alone { IfOk result (λ ch. steps.new.moved ≤ steps.old.moved + (size self.old.text - (index + width ch))) }
+        ensures tail_alone { IfOk result
+            (λ ch. steps.new.moved ≤ steps.old.moved + (size self.old.text - (index + width ch))) }
         ensures least { IfOk result (λ ch.
-            steps.old.moved + min index (size self.old.text - (index + width ch)) ≤ steps.new.moved) }
+            steps.old.moved + min index (size self.old.text - (index + width ch))
+            ≤ steps.new.moved) }
         ensures counted { steps.old.moved ≤ steps.new.moved }
         ensures looked { steps.new.looked ≡ steps.old.looked }
     {
@@ -154,7 +159,8 @@ impl<const N: usize> ArrayString<N> {
         ensures text { self.new.text ≡ front self.old.text start ++ back self.old.text end }
         ensures free { start ≡ 0 → steps.new.moved ≡ steps.old.moved }
         ensures tail_alone { steps.new.moved ≤ steps.old.moved + (size self.old.text - end) }
-        ensures least { start ≢ end → steps.old.moved + min start (size self.old.text - end) ≤ steps.new.moved }
+        ensures least { start ≢ end
+            → steps.old.moved + min start (size self.old.text - end) ≤ steps.new.moved }
         ensures counted { steps.old.moved ≤ steps.new.moved }
         ensures looked { steps.new.looked ≡ steps.old.looked }
     {

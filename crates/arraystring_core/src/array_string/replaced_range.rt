@@ -27,8 +27,10 @@ impl<const N: usize> ArrayString<N> {
         range: R,
         with: &str,
     ) -> Result<(), Error>
-        ensures { OfReturnedBounds R.has_bounds R.start_bound R.end_bound range (λ start end. let t = self.old.text in
-            Makes (replacement t (saturated_start start) (saturated_end end (size t)) (chars with.now) (cap N))
+        ensures { OfReturnedBounds R.has_bounds R.start_bound R.end_bound range (λ start end.
+            let t = self.old.text in
+            Makes (replacement t (saturated_start start) (saturated_end end (size t))
+            (chars with.now) (cap N))
             t result self.new.text) }
     {
         self.replace_range_counted(range, with, &mut Steps::new())
@@ -73,7 +75,8 @@ impl<const N: usize> ArrayString<N> {
             let given = chars with.now in
             Makes (replacement t from to given (cap N)) t result self.new.text
             × (size given ≤ to - from → steps.new.moved ≤ steps.old.moved + (size t - to))
-            × OnOk result (to ≢ from + size given → steps.old.moved + min from (size t - to) ≤ steps.new.moved)) }
+            × OnOk result (to ≢ from + size given
+            → steps.old.moved + min from (size t - to) ≤ steps.new.moved)) }
         ensures refused { OnErr result (steps.new.moved ≡ steps.old.moved) }
         ensures most { steps.new.moved ≤ steps.old.moved + size self.old.text }
         ensures counted { steps.old.moved ≤ steps.new.moved }
@@ -92,7 +95,8 @@ impl<const N: usize> ArrayString<N> {
         steps: &mut Steps,
     ) -> Result<(), Error>
         requires { steps.old.moved ≤ 2 ^ 63 }
-        ensures edit { Makes (replacement self.old.text start end (chars with.now) (cap N)) self.old.text result self.new.text }
+        ensures edit { Makes (replacement self.old.text start end (chars with.now) (cap N))
+            self.old.text result self.new.text }
         ensures refused { OnErr result (steps.new.moved ≡ steps.old.moved) }
         ensures tail_alone { size (chars with.now) ≤ end - start
             → steps.new.moved ≤ steps.old.moved + (size self.old.text - end) }

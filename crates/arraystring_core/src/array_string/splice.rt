@@ -25,7 +25,7 @@ impl<const N: usize> ArrayString<N> {
     {
         let (offset, size) = (self.start as usize, self.size as usize);
         let (len, tail) = (given.len(), size - end);
-        // (That the text grows follows from the first test. It is there for the compiler, which drops both if nothing is given.)
+        // The text grows by the first test. Tested again, this branch is left out where nothing is given.
         if offset + (start + (len + tail)) > Self::capacity() as usize && len > end - start {
             return self.compact_and_splice(start, end, given, steps);
         }

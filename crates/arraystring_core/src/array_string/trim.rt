@@ -12,7 +12,8 @@ impl<const N: usize> ArrayString<N> {
     /// what has the property White_Space of the Unicode Standard: the characters for which
     /// `char::is_whitespace` returns true.
     pub fn trim(&mut self)
-        ensures { Makes (trimming is_white_space self.old.text) self.old.text (Ok result) self.new.text }
+        ensures { Makes (trimming is_white_space self.old.text)
+            self.old.text (Ok result) self.new.text }
     {
         self.trim_counted(&mut Steps::new());
     }
@@ -39,10 +40,11 @@ impl<const N: usize> ArrayString<N> {
     pub fn trim_counted(&mut self, steps: &mut Steps)
         requires looks { steps.old.looked ≤ 2 ^ 63 }
         requires moves { steps.old.moved ≤ 2 ^ 63 }
-        ensures edit { Makes (trimming is_white_space self.old.text) self.old.text (Ok result) self.new.text }
+        ensures edit { Makes (trimming is_white_space self.old.text)
+            self.old.text (Ok result) self.new.text }
         ensures moved { steps.new.moved ≡ steps.old.moved }
-        ensures looked { steps.new.looked
-            ≤ steps.old.looked + 4 * (length self.old.text - length (without_trailing is_white_space self.old.text) + 1) }
+        ensures looked { steps.new.looked ≤ steps.old.looked + 4 * (length self.old.text
+            - length (without_trailing is_white_space self.old.text) + 1) }
         ensures least { steps.old.looked + min (length self.old.text)
             (length self.old.text - length (without_trailing is_white_space self.old.text) + 1)
             ≤ steps.new.looked }
@@ -69,12 +71,14 @@ impl<const N: usize> ArrayString<N> {
         ensures text { (passes : ℕ → Bool) → ReturnsAs F.post drops passes
             → self.new.text ≡ without_trailing passes self.old.text }
         ensures moved { steps.new.moved ≡ steps.old.moved }
-        ensures looked { steps.new.looked ≤ steps.old.looked + 4 * (length self.old.text - length self.new.text + 1) }
-        ensures least { steps.old.looked + min (length self.old.text) (length self.old.text - length self.new.text + 1)
+        ensures looked { steps.new.looked
+            ≤ steps.old.looked + 4 * (length self.old.text - length self.new.text + 1) }
+        ensures least { steps.old.looked
+            + min (length self.old.text) (length self.old.text - length self.new.text + 1)
             ≤ steps.new.looked }
         ensures counted { steps.old.looked ≤ steps.new.looked }
     {
-        text_fits(self);
+        text_fits(self); // gives the prover that no count passes its greatest value
         while let Some((start, ch)) = last_char(self.as_str(), steps) {
             if !drops(ch) {
                 break;
@@ -87,7 +91,8 @@ impl<const N: usize> ArrayString<N> {
     /// it does not.
     pub(super) fn drop_leading<F: Fn(char) -> bool + Drop>(&mut self, drops: F)
         requires callable { F.IsAlwaysCallable drops }
-        ensures { (passes : ℕ → Bool) → ReturnsAs F.post drops passes → self.new.text ≡ without_leading passes self.old.text }
+        ensures { (passes : ℕ → Bool) → ReturnsAs F.post drops passes
+            → self.new.text ≡ without_leading passes self.old.text }
     {
         while let Some(ch) = self.as_str().chars().next() {
             if !drops(ch) {

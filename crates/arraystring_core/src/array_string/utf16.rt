@@ -22,7 +22,8 @@ impl<const N: usize> ArrayString<N> {
     /// - `Err(Error::Utf16)` if it is a lone surrogate;
     /// - `Err(Error::OutOfBounds)` if it is a character that does not fit.
     pub fn try_from_utf16(units: &[u16]) -> Result<Self, Error>
-        ensures { (items : List Unit16) → IsReading units.now items → GivesWhole (first_stop items (cap N)) result }
+        ensures { (items : List Unit16) → IsReading units.now items
+            → GivesWhole (first_stop items (cap N)) result }
     {
         let mut made = Self::new();
         match made.add_units(units) {
@@ -41,7 +42,8 @@ impl<const N: usize> ArrayString<N> {
     /// Returns `Err(Utf16)` if a lone surrogate comes right after that prefix, even if the string
     /// is full.
     pub fn from_utf16(units: &[u16]) -> Result<Self, Utf16>
-        ensures { (items : List Unit16) → IsReading units.now items → GivesPrefix (first_stop items (cap N)) result }
+        ensures { (items : List Unit16) → IsReading units.now items
+            → GivesPrefix (first_stop items (cap N)) result }
     {
         let mut made = Self::new();
         if let Some(Unit16::Lone(_)) = made.add_units(units) {
@@ -53,7 +55,8 @@ impl<const N: usize> ArrayString<N> {
     /// Creates a string from the longest prefix of the characters of `units` that fits. Each lone
     /// surrogate is read as U+FFFD, which takes three bytes.
     pub fn from_utf16_lossy(units: &[u16]) -> Self
-        ensures { (items : List Unit16) → IsReading units.now items → result.text ≡ cut (lossy_text items) (cap N) }
+        ensures { (items : List Unit16) → IsReading units.now items
+            → result.text ≡ cut (lossy_text items) (cap N) }
     {
         only_reading(units);
         let mut made = Self::new();
@@ -74,7 +77,6 @@ impl<const N: usize> ArrayString<N> {
             → first_stop items (cap N) ≡ stop_at result self.new.text }
     {
         only_reading(units);
-        let _ = &self.array; // gives the prover that the text fits
         for item in Units::new(units) {
             match item {
                 Unit16::Char(ch) => match self.try_push(ch) {
