@@ -261,7 +261,8 @@ unsafe fn encode_wide(ch: char, all: &mut [u8], at: usize) -> usize {
 /// <details><summary>Contract</summary>
 ///
 /// ```text
-/// ensures { MatchResult result (λ string. (string.now ≡ given.now) × IsUtf8 given.now) (λ _. ¬ (IsUtf8 given.now)) }
+/// ensures { MatchResult result (λ string. (string.now ≡ given.now) × IsUtf8 given.now)
+///     (λ _. ¬ (IsUtf8 given.now)) }
 /// ```
 ///
 /// [How to read a contract](crate::contracts)

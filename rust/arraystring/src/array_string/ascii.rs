@@ -91,13 +91,16 @@ impl<const N: usize> ArrayString<N> {
     ///
     /// ```text
     /// requires known { R.has_bounds range }
-    /// requires order { start_index (R.start_bound range) ≤ end_index (R.end_bound range) (size self.old.text) }
+    /// requires order { start_index (R.start_bound range)
+    ///     ≤ end_index (R.end_bound range) (size self.old.text) }
     /// requires start { IsTrue (boundary self.old.text (start_index (R.start_bound range))) }
-    /// requires end { IsTrue (boundary self.old.text (end_index (R.end_bound range) (size self.old.text))) }
+    /// requires end { IsTrue (boundary self.old.text
+    ///     (end_index (R.end_bound range) (size self.old.text))) }
     /// ensures { let t = self.old.text in
     ///     let start = start_index (R.start_bound range) in
     ///     let end = end_index (R.end_bound range) (size t) in
-    ///     self.new.text ≡ front t start ++ (map to_ascii_uppercase (part t start end) ++ back t end) }
+    ///     self.new.text
+    ///     ≡ front t start ++ (map to_ascii_uppercase (part t start end) ++ back t end) }
     /// ```
     ///
     /// [How to read a contract](crate::contracts)
@@ -134,13 +137,16 @@ impl<const N: usize> ArrayString<N> {
     ///
     /// ```text
     /// requires known { R.has_bounds range }
-    /// requires order { start_index (R.start_bound range) ≤ end_index (R.end_bound range) (size self.old.text) }
+    /// requires order { start_index (R.start_bound range)
+    ///     ≤ end_index (R.end_bound range) (size self.old.text) }
     /// requires start { IsTrue (boundary self.old.text (start_index (R.start_bound range))) }
-    /// requires end { IsTrue (boundary self.old.text (end_index (R.end_bound range) (size self.old.text))) }
+    /// requires end { IsTrue (boundary self.old.text
+    ///     (end_index (R.end_bound range) (size self.old.text))) }
     /// ensures { let t = self.old.text in
     ///     let start = start_index (R.start_bound range) in
     ///     let end = end_index (R.end_bound range) (size t) in
-    ///     self.new.text ≡ front t start ++ (map to_ascii_lowercase (part t start end) ++ back t end) }
+    ///     self.new.text
+    ///     ≡ front t start ++ (map to_ascii_lowercase (part t start end) ++ back t end) }
     /// ```
     ///
     /// [How to read a contract](crate::contracts)

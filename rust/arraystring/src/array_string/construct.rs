@@ -130,11 +130,13 @@ impl<const N: usize> ArrayString<N> {
     /// <details><summary>Contract</summary>
     ///
     /// ```text
-    /// requires { IsFiniteIterable I.into_iter_gives I.IntoIter.can_next I.IntoIter.remaining pieces }
+    /// requires { IsFiniteIterable I.into_iter_gives I.IntoIter.can_next
+    ///     I.IntoIter.remaining pieces }
     /// ensures taken { (taken : List (Bor (List ℕ)))
     ///     × Takes I.into_iter_gives I.IntoIter.next_gives joined_pieces pieces (cap N) taken
     ///     × IsWholeOrRefused (joined_pieces taken) (cap N) (from_out_of_bounds result) }
-    /// ensures whole { (all : List (List ℕ)) → Gives I.into_iter_gives I.IntoIter.next_gives piece_text pieces all
+    /// ensures whole { (all : List (List ℕ))
+    ///     → Gives I.into_iter_gives I.IntoIter.next_gives piece_text pieces all
     ///     → IsWholeOrRefused (joined all) (cap N) (from_out_of_bounds result) }
     /// ```
     ///
@@ -166,11 +168,13 @@ impl<const N: usize> ArrayString<N> {
     /// <details><summary>Contract</summary>
     ///
     /// ```text
-    /// requires { IsFiniteIterable I.into_iter_gives I.IntoIter.can_next I.IntoIter.remaining pieces }
+    /// requires { IsFiniteIterable I.into_iter_gives I.IntoIter.can_next
+    ///     I.IntoIter.remaining pieces }
     /// ensures taken { (taken : List (Bor (List ℕ)))
     ///     × Takes I.into_iter_gives I.IntoIter.next_gives joined_pieces pieces (cap N) taken
     ///     × (result.text ≡ cut (joined_pieces taken) (cap N)) }
-    /// ensures whole { (all : List (List ℕ)) → Gives I.into_iter_gives I.IntoIter.next_gives piece_text pieces all
+    /// ensures whole { (all : List (List ℕ))
+    ///     → Gives I.into_iter_gives I.IntoIter.next_gives piece_text pieces all
     ///     → result.text ≡ cut (joined all) (cap N) }
     /// ```
     ///
@@ -206,10 +210,13 @@ impl<const N: usize> ArrayString<N> {
     /// <details><summary>Contract</summary>
     ///
     /// ```text
-    /// requires { IsFiniteIterable I.into_iter_gives I.IntoIter.can_next I.IntoIter.remaining characters }
-    /// ensures taken { (taken : List ℕ) × Takes I.into_iter_gives I.IntoIter.next_gives (λ cs. cs) characters (cap N) taken
+    /// requires { IsFiniteIterable I.into_iter_gives I.IntoIter.can_next
+    ///     I.IntoIter.remaining characters }
+    /// ensures taken { (taken : List ℕ)
+    ///     × Takes I.into_iter_gives I.IntoIter.next_gives (λ cs. cs) characters (cap N) taken
     ///     × IsWholeOrRefused taken (cap N) (from_out_of_bounds result) }
-    /// ensures whole { (all : List ℕ) → Gives I.into_iter_gives I.IntoIter.next_gives (λ c. c) characters all
+    /// ensures whole { (all : List ℕ)
+    ///     → Gives I.into_iter_gives I.IntoIter.next_gives (λ c. c) characters all
     ///     → IsWholeOrRefused all (cap N) (from_out_of_bounds result) }
     /// ```
     ///
@@ -241,10 +248,13 @@ impl<const N: usize> ArrayString<N> {
     /// <details><summary>Contract</summary>
     ///
     /// ```text
-    /// requires { IsFiniteIterable I.into_iter_gives I.IntoIter.can_next I.IntoIter.remaining characters }
-    /// ensures taken { (taken : List ℕ) × Takes I.into_iter_gives I.IntoIter.next_gives (λ cs. cs) characters (cap N) taken
+    /// requires { IsFiniteIterable I.into_iter_gives I.IntoIter.can_next
+    ///     I.IntoIter.remaining characters }
+    /// ensures taken { (taken : List ℕ)
+    ///     × Takes I.into_iter_gives I.IntoIter.next_gives (λ cs. cs) characters (cap N) taken
     ///     × (result.text ≡ cut taken (cap N)) }
-    /// ensures whole { (all : List ℕ) → Gives I.into_iter_gives I.IntoIter.next_gives (λ c. c) characters all
+    /// ensures whole { (all : List ℕ)
+    ///     → Gives I.into_iter_gives I.IntoIter.next_gives (λ c. c) characters all
     ///     → result.text ≡ cut all (cap N) }
     /// ```
     ///
@@ -284,7 +294,8 @@ impl<const N: usize> ArrayString<N> {
     /// ```text
     /// ensures malformed { ¬ (IsWellFormed given.now) → result ≡ Err Error.Utf8 }
     /// ensures too_large { result ≡ Err Error.OutOfBounds → IsWellFormed given.now }
-    /// ensures whole { (t : List ℕ) → IsText t → bytes t ≡ given.now → IsWholeOrRefused t (cap N) result }
+    /// ensures whole { (t : List ℕ) → IsText t → bytes t ≡ given.now
+    ///     → IsWholeOrRefused t (cap N) result }
     /// ensures bytes { IfOk result (λ made. bytes made.text ≡ given.now) }
     /// ensures text { IfOk result (λ made. IsText made.text) }
     /// ```
@@ -328,7 +339,8 @@ impl<const N: usize> ArrayString<N> {
     ///
     /// ```text
     /// ensures well_formed { IsOk result ↔ IsWellFormed given.now }
-    /// ensures cut { (t : List ℕ) → IsText t → bytes t ≡ given.now → IfOk result (λ made. made.text ≡ cut t (cap N)) }
+    /// ensures cut { (t : List ℕ) → IsText t → bytes t ≡ given.now
+    ///     → IfOk result (λ made. made.text ≡ cut t (cap N)) }
     /// ensures text { IfOk result (λ made. IsText made.text) }
     /// ```
     ///

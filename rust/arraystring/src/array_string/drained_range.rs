@@ -36,8 +36,10 @@ impl<const N: usize> ArrayString<N> {
     /// <details><summary>Contract</summary>
     ///
     /// ```text
-    /// ensures { OfReturnedBounds R.has_bounds R.start_bound R.end_bound range (λ start end. let t = self.old.text in
-    ///     Makes (draining t (saturated_start start) (saturated_end end (size t))) t (with_left result) self.new.text) }
+    /// ensures { OfReturnedBounds R.has_bounds R.start_bound R.end_bound range (λ start end.
+    ///     let t = self.old.text in
+    ///     Makes (draining t (saturated_start start) (saturated_end end (size t)))
+    ///     t (with_left result) self.new.text) }
     /// ```
     ///
     /// [How to read a contract](crate::contracts)

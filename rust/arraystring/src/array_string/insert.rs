@@ -33,7 +33,8 @@ impl<const N: usize> ArrayString<N> {
     /// <details><summary>Contract</summary>
     ///
     /// ```text
-    /// ensures { Makes (insertion self.old.text index (ch ∷ []) (cap N)) self.old.text result self.new.text }
+    /// ensures { Makes (insertion self.old.text index (ch ∷ []) (cap N))
+    ///     self.old.text result self.new.text }
     /// ```
     ///
     /// [How to read a contract](crate::contracts)
@@ -75,7 +76,8 @@ impl<const N: usize> ArrayString<N> {
     /// <details><summary>Contract</summary>
     ///
     /// ```text
-    /// ensures { Makes (insertion self.old.text index (chars string.now) (cap N)) self.old.text result self.new.text }
+    /// ensures { Makes (insertion self.old.text index (chars string.now) (cap N))
+    ///     self.old.text result self.new.text }
     /// ```
     ///
     /// [How to read a contract](crate::contracts)
@@ -117,7 +119,8 @@ impl<const N: usize> ArrayString<N> {
     /// <details><summary>Contract</summary>
     ///
     /// ```text
-    /// ensures { Makes (insertion_of_cut self.old.text index (chars string.now) (cap N)) self.old.text result self.new.text }
+    /// ensures { Makes (insertion_of_cut self.old.text index (chars string.now) (cap N))
+    ///     self.old.text result self.new.text }
     /// ```
     ///
     /// [How to read a contract](crate::contracts)

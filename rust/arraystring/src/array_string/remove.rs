@@ -31,7 +31,8 @@ impl<const N: usize> ArrayString<N> {
     /// <details><summary>Contract</summary>
     ///
     /// ```text
-    /// ensures { Makes (truncation self.old.text size) self.old.text (from_utf8_error result) self.new.text }
+    /// ensures { Makes (truncation self.old.text size)
+    ///     self.old.text (from_utf8_error result) self.new.text }
     /// ```
     ///
     /// [How to read a contract](crate::contracts)

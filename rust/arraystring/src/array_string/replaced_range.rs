@@ -36,8 +36,10 @@ impl<const N: usize> ArrayString<N> {
     /// <details><summary>Contract</summary>
     ///
     /// ```text
-    /// ensures { OfReturnedBounds R.has_bounds R.start_bound R.end_bound range (λ start end. let t = self.old.text in
-    ///     Makes (replacement t (saturated_start start) (saturated_end end (size t)) (chars with.now) (cap N))
+    /// ensures { OfReturnedBounds R.has_bounds R.start_bound R.end_bound range (λ start end.
+    ///     let t = self.old.text in
+    ///     Makes (replacement t (saturated_start start) (saturated_end end (size t))
+    ///     (chars with.now) (cap N))
     ///     t result self.new.text) }
     /// ```
     ///

@@ -23,7 +23,8 @@ impl<const N: usize> ArrayString<N> {
     /// <details><summary>Contract</summary>
     ///
     /// ```text
-    /// ensures { Makes (trimming is_white_space self.old.text) self.old.text (Ok result) self.new.text }
+    /// ensures { Makes (trimming is_white_space self.old.text)
+    ///     self.old.text (Ok result) self.new.text }
     /// ```
     ///
     /// [How to read a contract](crate::contracts)

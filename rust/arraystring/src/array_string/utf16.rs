@@ -32,7 +32,8 @@ impl<const N: usize> ArrayString<N> {
     /// <details><summary>Contract</summary>
     ///
     /// ```text
-    /// ensures { (items : List Unit16) → IsReading units.now items → GivesWhole (first_stop items (cap N)) result }
+    /// ensures { (items : List Unit16) → IsReading units.now items
+    ///     → GivesWhole (first_stop items (cap N)) result }
     /// ```
     ///
     /// [How to read a contract](crate::contracts)
@@ -73,7 +74,8 @@ impl<const N: usize> ArrayString<N> {
     /// <details><summary>Contract</summary>
     ///
     /// ```text
-    /// ensures { (items : List Unit16) → IsReading units.now items → GivesPrefix (first_stop items (cap N)) result }
+    /// ensures { (items : List Unit16) → IsReading units.now items
+    ///     → GivesPrefix (first_stop items (cap N)) result }
     /// ```
     ///
     /// [How to read a contract](crate::contracts)
@@ -105,7 +107,8 @@ impl<const N: usize> ArrayString<N> {
     /// <details><summary>Contract</summary>
     ///
     /// ```text
-    /// ensures { (items : List Unit16) → IsReading units.now items → result.text ≡ cut (lossy_text items) (cap N) }
+    /// ensures { (items : List Unit16) → IsReading units.now items
+    ///     → result.text ≡ cut (lossy_text items) (cap N) }
     /// ```
     ///
     /// [How to read a contract](crate::contracts)
@@ -129,7 +132,6 @@ impl<const N: usize> ArrayString<N> {
     /// right after it.
     #[inline]
     fn add_units(&mut self, units: &[u16]) -> Option<Unit16> {
-        let _ = &self.array; // gives the prover that the text fits
         for item in Units::new(units) {
             match item {
                 Unit16::Char(ch) => match self.try_push(ch) {
