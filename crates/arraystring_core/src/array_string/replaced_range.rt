@@ -75,8 +75,8 @@ impl<const N: usize> ArrayString<N> {
             let given = chars with.now in
             Makes (replacement t from to given (cap N)) t result self.new.text
             × (size given ≤ to - from → steps.new.moved ≤ steps.old.moved + (size t - to))
-            × OnOk result (to ≢ from + size given
-            → steps.old.moved + min from (size t - to) ≤ steps.new.moved)) }
+            × OnOk result
+            (to ≢ from + size given → steps.old.moved + min from (size t - to) ≤ steps.new.moved)) }
         ensures refused { OnErr result (steps.new.moved ≡ steps.old.moved) }
         ensures most { steps.new.moved ≤ steps.old.moved + size self.old.text }
         ensures counted { steps.old.moved ≤ steps.new.moved }
