@@ -4,7 +4,7 @@ ghost use Rattle.std.specs.List.{before_first, after_first, position_or_len};
 ghost use Rattle.arraystring.specs.Refusals.{OutOfBounds};
 ghost use Rattle.arraystring.specs.Text.{size};
 
-use arraystring::laws::{found_first, split_first, text_fits, text_spelled};
+use arraystring::laws::{found_first, split_first, text_fits};
 use arraystring::{ArrayString, Error};
 
 /// Splits `line` at its first `=` into what is before it and what is after it.
@@ -41,7 +41,6 @@ pub fn pair_of(line: &ArrayString<64>) -> Result<(ArrayString<20>, ArrayString<4
         × (size (after_first (λ c. c == 61) line.now.text) ≤ 40)) }
     ensures refused { IfErr result (λ error. error ≡ OutOfBounds) }
 {
-    text_spelled(line);
     pair(line.as_str())
 }
 
@@ -52,7 +51,6 @@ pub fn parted<const N: usize>(line: &ArrayString<N>) -> Option<(ArrayString<N>, 
         × (parts.0.text ≡ before_first (λ c. c == 61) line.now.text)) }
     ensures none { IfNone result (position_or_len (λ c. c == 61) line.now.text ≡ length line.now.text) }
 {
-    text_spelled(line);
     let text = line.as_str();
     let parts = text.split_once('=');
     split_first(text, '=', parts);
@@ -74,7 +72,6 @@ pub fn split_value(line: &mut ArrayString<64>) -> Option<ArrayString<64>>
         × (rest.text ≡ 61 ∷ after_first (λ c. c == 61) line.old.text)) }
 {
     text_fits(line);
-    text_spelled(line);
     let text = line.as_str();
     let place = text.find('=');
     found_first(text, '=', place);
