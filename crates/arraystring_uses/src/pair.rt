@@ -1,9 +1,10 @@
 //! Lines `key=value`: where a character first stands, and what is before and after it.
-ghost use Rattle.std.specs.Prelude.{◌≡◌, ◌<◌, ◌≤◌, ◌↔◌, ◌==◌, ◌++◌, ◌∷◌, IsOk, IfOk, IfErr, IfSome, IfNone, MatchOption, chars, length};
+ghost use Rattle.std.specs.Prelude.{◌≡◌, ◌<◌, ◌≤◌, ◌↔◌, ◌==◌, ◌++◌, ◌∷◌, IsOk, IsOkAnd, IfOk, IfErr, IfSome, IfNone, MatchOption, chars, length};
 ghost use Rattle.std.specs.List.{before_first, after_first, position_or_len};
 ghost use Rattle.arraystring.specs.Refusals.{OutOfBounds};
 ghost use Rattle.arraystring.specs.Text.{size};
 
+use crate::entry::add_entry;
 use arraystring::laws::{found_first, split_first, text_fits};
 use arraystring::{ArrayString, Error};
 
@@ -44,23 +45,23 @@ pub fn pair_of(line: &ArrayString<64>) -> Result<(ArrayString<20>, ArrayString<4
     pair(line.as_str())
 }
 
-/// Splits a bounded line at its first `=`, or returns `None` if it has none.
-#[tactic(auto, using(arraystring::proofs::Rules::cuts))]
-pub fn parted<const N: usize>(line: &ArrayString<N>) -> Option<(ArrayString<N>, ArrayString<N>)>
-    ensures some { IfSome result (λ parts. (line.now.text ≡ parts.0.text ++ 61 ∷ parts.1.text)
-        × (parts.0.text ≡ before_first (λ c. c == 61) line.now.text)) }
-    ensures none { IfNone result (position_or_len (λ c. c == 61) line.now.text ≡ length line.now.text) }
+/// Writes an entry, and reads it. If `key` has no `=`, that gives both back.
+///
+/// # Errors
+///
+/// Those of `pair`.
+#[tactic(auto, using(arraystring::proofs::Rules::joins, arraystring::proofs::Rules::sizes))]
+pub fn sent(
+    key: &ArrayString<20>,
+    value: &ArrayString<40>,
+) -> Result<(ArrayString<20>, ArrayString<40>), Error>
+    ensures back { position_or_len (λ c. c == 61) key.now.text ≡ length key.now.text
+        → IsOkAnd result (λ pair. (pair.0.text ≡ key.now.text) × (pair.1.text ≡ value.now.text)) }
 {
-    let text = line.as_str();
-    let parts = text.split_once('=');
-    split_first(text, '=', parts);
-    match parts {
-        Some((name, rest)) => Some((
-            ArrayString::from_str_truncate(name),
-            ArrayString::from_str_truncate(rest),
-        )),
-        None => None,
-    }
+    let mut line = ArrayString::<64>::new();
+    add_entry(&mut line, key.as_str(), value.as_str())?;
+    let pair = pair_of(&line)?;
+    Ok(pair)
 }
 
 /// Removes the first `=` and all that comes after it from `line`, and returns the removed text. If there
