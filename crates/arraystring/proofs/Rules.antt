@@ -10,7 +10,7 @@ use Rattle.arraystring.proofs.AdditionLaws.{addition-made, addition-refused, add
 use Rattle.arraystring.proofs.BoundaryLaws.{front-fits, boundary-start, boundary-at_end, boundary-behind_given, boundary-behind_char, boundary-before_char, part-start, part_in-front}
 use Rattle.arraystring.proofs.CharacterLaws.{width-one, chars-ascii, size-repeated}
 use Rattle.arraystring.proofs.LoopLaws.{taken-item, taken-chars, pieces-push}
-use Rattle.arraystring.proofs.SplitLaws.{joined-split}
+use Rattle.arraystring.proofs.SplitLaws.{joined-found}
 use Rattle.arraystring.proofs.RemovalLaws.{popping-made, removal-made}
 
 -- appends, each whole or refused, one after the other
@@ -50,4 +50,4 @@ pub ruleset characters = (taken-chars, pieces-push)
 pub ruleset cut_pieces = (addition-char_cuts, cut-past, cut-past_part, cut-all)
 
 -- a text that is put together at a character, and split there again
-pub ruleset joins = (joined-split)
+pub ruleset joins = (joined-found)

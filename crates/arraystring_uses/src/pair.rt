@@ -1,10 +1,10 @@
 //! Lines `key=value`: where a character first stands, and what is before and after it.
 ghost use Rattle.std.specs.Prelude.{◌≡◌, ◌<◌, ◌≤◌, ◌↔◌, ◌==◌, ◌++◌, ◌∷◌, IsOk, IsOkAnd, IfOk, IfErr, IfSome, IfNone, MatchOption, chars, length};
 ghost use Rattle.std.specs.List.{before_first, after_first, position_or_len};
+ghost use Rattle.arraystring.specs.Construct.{IsWholeOrRefused};
 ghost use Rattle.arraystring.specs.Refusals.{OutOfBounds};
 ghost use Rattle.arraystring.specs.Text.{size};
 
-use crate::entry::add_entry;
 use arraystring::laws::{found_first, split_first, text_fits};
 use arraystring::{ArrayString, Error};
 
@@ -45,23 +45,37 @@ pub fn pair_of(line: &ArrayString<64>) -> Result<(ArrayString<20>, ArrayString<4
     pair(line.as_str())
 }
 
-/// Writes an entry, and reads it. If `key` has no `=`, that gives both back.
+/// Returns the line of a pair.
 ///
 /// # Errors
 ///
-/// Those of `pair`.
-#[tactic(auto, using(arraystring::proofs::Rules::joins, arraystring::proofs::Rules::sizes))]
-pub fn sent(
+/// Returns `Err(Error::OutOfBounds)` if it does not fit.
+#[tactic(auto, using(arraystring::proofs::Rules::additions))]
+pub fn line_of(key: &str, value: &str) -> Result<ArrayString<64>, Error>
+    ensures { IsWholeOrRefused (chars key.now ++ 61 ∷ chars value.now) 64 result }
+{
+    let mut line = ArrayString::try_from_str(key)?;
+    line.try_push('=')?;
+    line.try_push_str(value)?;
+    text_fits(&line);
+    Ok(line)
+}
+
+/// Makes the line of a pair, and splits it again. If `key` has no `=`, that gives the pair back.
+///
+/// # Errors
+///
+/// Those of `line_of` and `pair`.
+#[tactic(auto, using(arraystring::proofs::Rules::sizes, arraystring::proofs::Rules::joins))]
+pub fn there_and_back(
     key: &ArrayString<20>,
     value: &ArrayString<40>,
 ) -> Result<(ArrayString<20>, ArrayString<40>), Error>
     ensures back { position_or_len (λ c. c == 61) key.now.text ≡ length key.now.text
         → IsOkAnd result (λ pair. (pair.0.text ≡ key.now.text) × (pair.1.text ≡ value.now.text)) }
 {
-    let mut line = ArrayString::<64>::new();
-    add_entry(&mut line, key.as_str(), value.as_str())?;
-    let pair = pair_of(&line)?;
-    Ok(pair)
+    let line = line_of(key.as_str(), value.as_str())?;
+    pair_of(&line)
 }
 
 /// Removes the first `=` and all that comes after it from `line`, and returns the removed text. If there
