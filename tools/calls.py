@@ -1,6 +1,6 @@
 """Fails where a call has no test, or does not stand on the page that lists the calls.
 
-Each public call of `ArrayString` is made by a test of `arraystring_tests`, and stands in CALLING.md. What ends in `_counted` needs no
+Each public call of `ArrayString` is made by a test of `arraystring_tests`, and stands in CALLS.md. What ends in `_counted` needs no
 row there, since one sentence of that page speaks of all of them. The list there has no call that is gone. Each law that a caller calls is called by a test. Each command of a
 script stands on the page of commands. A comment is no test, nor are the files that make the calls of a table: a row has to.
 """
@@ -11,7 +11,7 @@ from repository import inline_code, read, section
 # Which make the calls of tables.
 MAKERS = ("call_list.rt", "calls.rt")
 TESTS = "crates/arraystring_tests/src/tests"
-CALLING, SCRIPTS = "crates/arraystring/CALLING.md", "docs/scripts.md"
+CALLS, SCRIPTS = "crates/arraystring/CALLS.md", "docs/scripts.md"
 # Which the list of calls has from std.
 OF_STD = {"into"}
 
@@ -24,17 +24,17 @@ def names_in(root, form, *files):
 def main(arguments, root):
     calls = names_in(root, r"(?m)^    pub (?:const )?fn (\w+)", "crates/arraystring_core/src/array_string*.rt",
                      "crates/arraystring_core/src/array_string/*.rt", "crates/arraystring_core/src/integration.rt")
-    laws = names_in(root, r"(?m)^pub fn (\w+)", "crates/arraystring_base/src/laws.rt", "crates/arraystring_core/src/laws.rt")
+    laws = names_in(root, r"(?m)^pub fn (\w+)", *(f"crates/{it}/src/laws.rt" for it in ("arraystring_base", "arraystring_core", "arraystring")))
     commands = names_in(root, r'"(\w+)"(?= =>| \|| if)', "crates/arraystring_run/src/line.rt")
     tests = "".join(read(it) for it in sorted((root / TESTS).glob("*.rt")) if it.name not in MAKERS)
     tested = set(re.findall(r"\w+", re.sub(r"//.*", "", tests)))
-    listed = set(re.findall(r"\b(\w+)\(", " ".join(inline_code(section(read(root / CALLING), "The calls")))))
+    listed = set(re.findall(r"\b(\w+)\(", " ".join(inline_code(section(read(root / CALLS), "The calls")))))
     rows = set(re.findall(r"\w+", " ".join(inline_code(read(root / SCRIPTS)))))
     listed |= {it for it in calls if it.endswith("_counted")}
     faults = [f"{path}: {name} does not stand in {place}"
-              for names, place, has in ((calls, TESTS, tested), (calls, CALLING, listed), (laws, TESTS, tested), (commands, SCRIPTS, rows))
+              for names, place, has in ((calls, TESTS, tested), (calls, CALLS, listed), (laws, TESTS, tested), (commands, SCRIPTS, rows))
               for name, path in names.items() if name not in has]
     functions = names_in(root, r"\bfn (\w+)", "crates/*/src/**/*.rt")
-    faults += [f"{CALLING}: no source has {name}" for name in sorted(listed - set(functions) - OF_STD)]
+    faults += [f"{CALLS}: no source has {name}" for name in sorted(listed - set(functions) - OF_STD)]
     print("\n".join(faults) or f"{len(calls)} calls, {len(laws)} laws and {len(commands)} commands have a test or a row")
     return bool(faults) or not (calls and laws and commands)

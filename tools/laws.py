@@ -1,11 +1,12 @@
-"""Fails where a page for callers names a law that they can't cite, and at a lemma that nothing names.
+"""Fails where a page for callers names a law that they can't cite, and at a lemma that no source and no proof names.
 
 Callers of a crate cite what is `pub` in the modules that the file proofs/Lib.antt of the crate passes on, its own or another
 crate's. A page, which is a Markdown file of a crate, names laws in its inline code: in LAWS.md each name with a dash is one, on
 another page each that begins a piece of code, and an answer of a proof is none. It may name several at once: `front-` and `back-`
 with `start t` and `end t` are `front-start`, `front-end`, `back-start` and `back-end`.
 
-A lemma stands in a file of proofs/, and not in the folder of a function. `rt` proves each, also one that nothing names.
+A lemma stands in a file of proofs/, and not in the folder of a function. `rt` proves each, also one that nothing names. A law
+that callers can cite needs no name here; a lemma does, and a page that names it is no use of it.
 """
 import re
 from collections import Counter
@@ -53,10 +54,10 @@ def main(arguments, root):
     folders = [root / "crates" / crate / part for crate in crates(root) for part in ("src", "specs", "proofs")]
     files = [file for it in folders for file in sorted(it.rglob("*.*t"))]
     words = Counter(word for it in files for word in re.findall(NAME, re.sub(r"(?m)^\s*(--|//).*$|::", " ", read(it))))
-    words += Counter(name for it in root.glob("crates/*/*.md") for name in names_of(read(it)))
+    for_callers = {name for crate in crates(root) if (root / "crates" / crate / "LAWS.md").is_file() for name in passed_on(root, crate)}
     lemmas = [(file, *it.group(2, 0)) for file in files if file.match("crates/*/proofs/*.antt") for it in ITEM.finditer(read(file))]
     for file, name, text in lemmas:
-        if words[name] <= re.findall(NAME, text).count(name):
+        if name not in for_callers and words[name] <= re.findall(NAME, text).count(name):
             faults.append(f"{file.relative_to(root)}: nothing names {name}")
     print("\n".join(faults) or f"{len(lemmas)} lemmas and laws are named, and pages name laws that are there")
     return bool(faults) or not lemmas

@@ -15,25 +15,26 @@ class Calls(TreeTest):
         "crates/arraystring_core/src/integration.rt": CALL.format("pop_counted"),
         "crates/arraystring_base/src/laws.rt": "pub fn parts() {\n}\n",
         "crates/arraystring_core/src/laws.rt": "pub use arraystring_base::laws::parts;\n\npub fn popped() {\n}\n",
+        "crates/arraystring/src/laws.rt": "pub use arraystring_core::laws::popped;\n\npub fn given() {\n}\n",
         LINE: COMMANDS,
         f"{calls.TESTS}/remove.rt": '"\nab | pop pop_counted | | | b | a\n"\n',
-        f"{calls.TESTS}/more.rt": "fn more() {\n    text.len();\n    parts();\n    popped();\n}\n",
+        f"{calls.TESTS}/more.rt": "fn more() {\n    text.len();\n    parts();\n    popped();\n    given();\n}\n",
         f"{calls.TESTS}/calls.rt": "",
-        calls.CALLING: "## The calls\n\n|`pop()`|`popping t`|\n|`len()`, `size()`|`size t`|\n\n## Others\n\n`trim()`\n",
+        calls.CALLS: "## The calls\n\n|`pop()`|`popping t`|\n|`len()`, `size()`|`size t`|\n\n## Others\n\n`trim()`\n",
         calls.SCRIPTS: "|`pop`|\n|`len`, `size`|\n|`get A B`|\n",
     }
 
     def test_each_has_a_test_and_a_row(self):
-        self.assertEqual(self.told(calls), (False, "3 calls, 2 laws and 4 commands have a test or a row\n"))
-        tests, page, trim = f"does not stand in {calls.TESTS}", f"does not stand in {calls.CALLING}", (f"{STRING}/trim.rt", CALL.format("trim"))
+        self.assertEqual(self.told(calls), (False, "3 calls, 3 laws and 4 commands have a test or a row\n"))
+        tests, page, trim = f"does not stand in {calls.TESTS}", f"does not stand in {calls.CALLS}", (f"{STRING}/trim.rt", CALL.format("trim"))
         row = (f"{calls.TESTS}/remove.rt", "pop pop", "pop trim pop")
         self.assert_finds(
             calls,
             # (a new call has neither; a row elsewhere on the page is none)
             (f"{STRING}/trim.rt: trim {tests}\n{STRING}/trim.rt: trim {page}\n", trim),
             (f"{STRING}/trim.rt: trim {page}\n", trim, row),
-            (f"{STRING}/remove.rt: pop {page}", (calls.CALLING, r"`pop\(\)`", "`pop`")),
-            (f"{calls.CALLING}: no source has trim\n", (calls.CALLING, r"`len\(\)`", "`len()`, `into()`, `trim()`")),
+            (f"{STRING}/remove.rt: pop {page}", (calls.CALLS, r"`pop\(\)`", "`pop`")),
+            (f"{calls.CALLS}: no source has trim\n", (calls.CALLS, r"`len\(\)`", "`len()`, `into()`, `trim()`")),
             (f"pop_counted {tests}", (f"{calls.TESTS}/remove.rt", " pop_counted", "")),
             # (what makes the calls of tables makes each, and a comment makes none)
             (f"pop {tests}", (f"{calls.TESTS}/remove.rt", "pop ", ""), (f"{calls.TESTS}/calls.rt", "pop()\n")),
@@ -41,6 +42,7 @@ class Calls(TreeTest):
             (f"len {tests}", (f"{calls.TESTS}/more.rt", "    text.len", "    // text.len")),
             (f"crates/arraystring_core/src/laws.rt: popped {tests}", (f"{calls.TESTS}/more.rt", "    popped.*\n", "")),
             (f"crates/arraystring_base/src/laws.rt: parts {tests}", (f"{calls.TESTS}/more.rt", "    parts.*\n", "")),
+            (f"crates/arraystring/src/laws.rt: given {tests}", (f"{calls.TESTS}/more.rt", "    given.*\n", "")),
             *((f"{LINE}: {it} does not stand in {calls.SCRIPTS}", (calls.SCRIPTS, rf"`{it}\b", "`other")) for it in ("pop", "len", "size", "get")),
         )
 

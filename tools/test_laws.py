@@ -72,6 +72,9 @@ class Laws(TreeTest):
             (NOTHING("step"), (FILE, "= step n", "= refl")),
         )
         for cites in ((f"{FOLDER}/src/lib.rt", r"\A", "#[tactic(auto, using(crate::proofs::HalfLemmas::half_odd))]\n"),
-                      (ROWS, "= front-start", "= half_odd"), (PAGE, END, "`half_odd`\n")):
+                      (ROWS, "= front-start", "= half_odd"), (LIB, "\\Amod", "pub mod")):
             with self.changed((FILE, END, ODD.replace("half-odd", "half_odd")), cites):
                 self.assertFalse(self.told(laws)[0], cites)
+        # (a page is no use)
+        with self.changed((FILE, END, ODD.replace("half-odd", "half_odd")), (PAGE, END, "`half_odd`\n")):
+            self.assertIn(NOTHING("half_odd"), self.told(laws)[1])

@@ -3,15 +3,16 @@
 -- when it is which `Err` (`-past`, `-over`, `-inside`). A law takes what its row takes after the text, and then facts.
 -- After an `Ok` no test of the row holds, and an `Err` is that of the first that does. `grind` reads each test as the comparison
 -- that it makes, one after the other; where a test asks for a boundary, the law that says whether it holds stands beside.
-use Rattle.std.proofs.Common.{◌≡◌, ◌↔◌, ℕ, ◌+◌, ◌-◌, ◌<◌, ◌≤◌, ◌⊎◌, List, [], ◌++◌, arith, true, false, refl, Result, Ok, Err}
+use Rattle.std.proofs.Common.{◌≡◌, ◌↔◌, ℕ, ◌+◌, ◌-◌, ◌<◌, ◌≤◌, ◌⊎◌, List, [], ◌∷◌, ◌++◌, arith, true, false, refl, Result, Ok, Err}
 use Rattle.std.proofs.lemmas.Bool.Decides.{nat_tests}
+use Rattle.std.proofs.lemmas.List.{append-nil}
 use Rattle.std.specs.Prelude.{nat_lt}
 use Rattle.arraystring_base.specs.Text.{size, cut, front, back, boundary}
 use Rattle.arraystring_base.proofs.CutLaws.{cut-all, cut-fits, cut-past_part}
 use Rattle.arraystring_base.proofs.BoundaryLaws.{boundary-within, front-start, back-start, boundary-is}
 use Rattle.arraystring_base.specs.declared.error.Error.{Error}
 use Rattle.arraystring_base.specs.declared.error.Error.TheVariants.{Utf8, OutOfBounds}
-use Rattle.arraystring_core.specs.Edits.{Past, Room, Inside, Makes, addition, addition_of_cut, insertion, insertion_of_cut}
+use Rattle.arraystring_core.specs.Edits.{Past, Room, Inside, Makes, text_of, addition, addition_of_cut, insertion, insertion_of_cut}
 use Rattle.arraystring_core.proofs.EditLaws.{addition-no_cause, addition-room, inside-so}
 pub use Rattle.arraystring_core.proofs.EditLaws.{addition-made, addition-refused}
 use Rattle.arraystring.proofs.TestLaws.{inside-failed, index-held}
@@ -40,6 +41,10 @@ module _ {t : List ℕ} (given : List ℕ) (n : ℕ) {new : List ℕ} {result : 
   -- the text after is the cut of both, if the text before fits
   pub addition_of_cut-cuts : size t ≤ n → Makes (addition_of_cut t given n) t result new → new ≡ cut (t ++ given) n
   addition_of_cut-cuts fits m = rw (cut-past_part t given n fits) (edit-makes refl m).1
+
+-- a character that is added whole or refused is cut: the text after is the cut of both, if the text before fits
+pub addition-char_cuts : (t : List ℕ) (ch n : ℕ) → size t ≤ n → cut (t ++ ch ∷ []) n ≡ text_of (addition t (ch ∷ []) n) t
+addition-char_cuts t ch n fits = grind (arith, nat_tests, append-nil t, cut-past_part t (ch ∷ []) n fits)
 
 -- less than all of it is added exactly if all of it does not fit
 pub addition_of_cut-less : (t given : List ℕ) (n : ℕ) → size t ≤ n

@@ -12,6 +12,7 @@ pub mod RemovalLaws
 pub mod RangeEditLaws
 pub mod MapLaws
 pub mod LoopLaws
+pub mod SplitLaws
 pub mod CharacterLaws
 pub mod WellFormedLaws
 pub mod Rules

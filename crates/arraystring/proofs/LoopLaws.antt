@@ -1,9 +1,14 @@
 -- Laws of a loop that makes a text: it appends a piece for each item of an iterator or of a slice, or one character many times.
-use Rattle.std.proofs.Common.{◌≡◌, ℕ, ◌+◌, ◌*◌, ◌<◌, ◌≤◌, List, [], ◌∷◌, ◌++◌, ap, subst, sym, refl, ◌∙◌, arith, map, flat_map, length, take, get_or, replicate, zero, suc, Option, Some, None}
+use Rattle.std.proofs.Common.{◌≡◌, ℕ, ◌+◌, ◌*◌, ◌<◌, ◌≤◌, List, [], ◌∷◌, ◌++◌, ap, subst, sym, refl, ◌∙◌, arith, map, flat_map, length, take, get_or, replicate, zero, suc, Option, Some, None, IsUtf8, MatchOption, append_assoc, chars}
 use Rattle.std.proofs.lemmas.Iterator.{YieldsList}
 use Rattle.std.proofs.lemmas.Grind.{flat_map-append}
+use Rattle.std.proofs.lemmas.List.{append-nil}
+use Rattle.std.proofs.lemmas.Str.{chars_past_char, IsUtf8-past_char}
 use Rattle.std.proofs.lemmas.List.Folds.{flat_map-map}
 use Rattle.std.proofs.iter.Yields.{gives_left, gives_Drains}
+use Rattle.std.proofs.iter.TextItems.{spells}
+use Rattle.std.specs.List.{slice_get}
+use Rattle.std.specs.declared.str.Chars.{Chars}
 use Rattle.std.specs.Iterator.{AlwaysYields, Yields}
 use Rattle.arraystring_base.specs.Text.{size, width}
 use Rattle.arraystring_base.proofs.TextLaws.{size-append}
@@ -66,6 +71,45 @@ pub taken-item : {A : Type 0} (piece : A → List ℕ) (xs : List A) (i : ℕ) �
     × ((past : A) → size (flat_map piece (take i xs)) + size (piece (get_or xs i past)) ≤ size (flat_map piece xs))
     × ((next : A) × (size (flat_map piece (take i xs)) + size (piece next) ≤ size (flat_map piece xs)))
 taken-item piece xs i below = (refl, taken-more piece xs i below, taken-next piece xs i below)
+
+-- the characters of a text `s`, of which a loop has taken `xs`, and `t` is left: they are `xs` and those of `t`
+pub chars-left : (s t : Chars) (xs : List ℕ) → IsUtf8 s.rest.now → Yields spells s xs t → chars s.rest.now ≡ xs ++ chars t.rest.now
+chars-left s t [] u y = ap (λ (k : Chars). chars k.rest.now) y
+chars-left s t (x ∷ xs) u y =
+    let later = IsUtf8-past_char s.rest.now y.0.rest.now x u y.1.0 in
+    chars_past_char s.rest.now y.0.rest.now x u y.1.0 ∙ ap (λ l. x ∷ l) (chars-left y.0 t xs later y.2)
+
+-- when a character is left, the pieces so far, its own and more are all; when none is left, the pieces so far are
+pub chars-turn : (piece : ℕ → List ℕ) (s t : Chars) (xs : List ℕ) → IsUtf8 s.rest.now → Yields spells s xs t
+    → MatchOption (slice_get (chars t.rest.now) 0) (flat_map piece xs ≡ flat_map piece (chars s.rest.now))
+    (λ x. (size (flat_map piece xs) + size (piece x) ≤ size (flat_map piece (chars s.rest.now)))
+    × ((more : List ℕ) × (flat_map piece (chars s.rest.now) ≡ (flat_map piece xs ++ piece x) ++ more)))
+chars-turn piece s t xs u y = go (chars t.rest.now) (chars-left s t xs u y)
+  where
+    go : (left : List ℕ) → chars s.rest.now ≡ xs ++ left
+        → MatchOption (slice_get left 0) (flat_map piece xs ≡ flat_map piece (chars s.rest.now))
+        (λ x. (size (flat_map piece xs) + size (piece x) ≤ size (flat_map piece (chars s.rest.now)))
+        × ((more : List ℕ) × (flat_map piece (chars s.rest.now) ≡ (flat_map piece xs ++ piece x) ++ more)))
+    go [] is = ap (flat_map piece) (sym (append-nil xs) ∙ sym is)
+    go (x ∷ left) is =
+        let whole = ap (flat_map piece) is ∙ flat_map-append piece xs (x ∷ left) ∙ sym (append_assoc (flat_map piece xs) (piece x) (flat_map piece left)) in
+        let sizes = ap size whole in (
+          omega (arith, sizes, size-append (flat_map piece xs ++ piece x) (flat_map piece left), size-append (flat_map piece xs) (piece x)),
+          (flat_map piece left, whole),
+        )
+
+-- in the form that `grind` finds: it looks for the pieces so far, for what is left, and for the text
+pub taken-chars : (piece : ℕ → List ℕ) (xs : List ℕ) → (flat_map piece xs ≡ flat_map piece xs)
+    × ((t : Chars) → (chars t.rest.now ≡ chars t.rest.now)
+    × ((s : Chars) → IsUtf8 s.rest.now → Yields spells s xs t
+    → MatchOption (slice_get (chars t.rest.now) 0) (flat_map piece xs ≡ flat_map piece (chars s.rest.now))
+    (λ x. (size (flat_map piece xs) + size (piece x) ≤ size (flat_map piece (chars s.rest.now)))
+    × ((more : List ℕ) × (flat_map piece (chars s.rest.now) ≡ (flat_map piece xs ++ piece x) ++ more)))))
+taken-chars piece xs = (refl, λ t. (refl, λ s u y. chars-turn piece s t xs u y))
+
+-- the pieces of one more
+pub pieces-push : (piece : ℕ → List ℕ) (xs : List ℕ) (x : ℕ) → flat_map piece (xs ++ x ∷ []) ≡ flat_map piece xs ++ piece x
+pieces-push piece xs x = flat_map-append piece xs (x ∷ []) ∙ ap (λ l. flat_map piece xs ++ l) (append-nil (piece x))
 
 -- a character many times takes its width as often
 pub size-replicate : (n c : ℕ) → size (replicate n c) ≡ n * width c

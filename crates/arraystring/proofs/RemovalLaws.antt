@@ -3,17 +3,16 @@
 -- when it is which `Err` (`-past`, `-inside`). A law takes what its row takes after the text, and then facts.
 -- After an `Ok` no test of the row holds, and an `Err` is that of the first that does. `grind` reads each test as the comparison
 -- that it makes, one after the other; where a test asks for a boundary, the law that says whether it holds stands beside.
-use Rattle.std.proofs.Common.{◌≡◌, ℕ, ◌<◌, ◌≤◌, ◌⊎◌, List, [], ◌∷◌, ◌++◌, ap, sym, ◌∙◌, arith, true, false, Bool, refl, Option, Some, None, MatchOption, Result, Ok, Err, map, drop}
+use Rattle.std.proofs.Common.{◌≡◌, ℕ, ◌<◌, ◌≤◌, ◌⊎◌, List, [], ◌∷◌, ◌++◌, ap, sym, ◌∙◌, arith, true, false, refl, Option, Some, None, MatchOption, Result, Ok, Err, drop}
 use Rattle.std.proofs.lemmas.Bool.{lt-leb, leb-false}
 use Rattle.std.proofs.lemmas.Bool.Decides.{nat_tests}
 use Rattle.std.specs.Prelude.{slice_index}
-use Rattle.std.specs.Char.{to_ascii_uppercase, to_ascii_lowercase}
 use Rattle.arraystring_base.specs.Text.{size, front, back, boundary}
 use Rattle.arraystring_base.proofs.TextLaws.{width-bounds, empty-size}
 use Rattle.arraystring_base.proofs.BoundaryLaws.{back-size, back-start, front-start, boundary-is, boundary-within}
 use Rattle.arraystring_base.specs.declared.error.Error.{Error}
 use Rattle.arraystring_base.specs.declared.error.Error.TheVariants.{Utf8, OutOfBounds}
-use Rattle.arraystring_core.specs.Edits.{Past, Inside, Makes, popping, truncation, trimming, removal, clearing, split, uppercase, lowercase, last_of, all_but_last, without_leading, without_trailing}
+use Rattle.arraystring_core.specs.Edits.{Past, Inside, Makes, popping, truncation, removal, split, last_of, all_but_last}
 use Rattle.arraystring_core.proofs.EditLaws.{inside-not, inside-so}
 use Rattle.arraystring.proofs.TestLaws.{inside-failed, inside-fails, index-held}
 use Rattle.arraystring.proofs.EditLaws.{edit-made, edit-makes, edit-refuses, edit-none_held, edit-first_held}
@@ -31,10 +30,6 @@ none-of (a ∷ b ∷ t) e = absurd (cc (none-of (b ∷ t) e))
 
 -- the last character is taken
 module _ {t new : List ℕ} where
-  -- a pop returns the last character, and leaves those before it
-  pub popping-makes : {result : Result (Option ℕ) Error} → Makes (popping t) t result new → (result ≡ Ok (last_of t)) × (new ≡ all_but_last t)
-  popping-makes m = edit-makes refl m
-
   -- the text was what is left of it, and then the result
   pub popping-some : {c : ℕ} → Makes (popping t) t (Ok (Some c)) new → t ≡ new ++ c ∷ []
   popping-some {c} m = rw m.ok (last-of t c (edit-made m).1)
@@ -68,25 +63,6 @@ module _ {t : List ℕ} (i : ℕ) {new : List ℕ} {result : Result (Unit {0}) E
   -- an index inside a character is refused
   pub truncation-inside : i ≤ size t → boundary t i ≡ false → Makes (truncation t i) t result new → (result ≡ Err Utf8) × (new ≡ t)
   truncation-inside within b m = edit-refuses {cause = Inside} (grind (arith, nat_tests, inside-so t i within b)) m
-
--- the characters at both ends that pass are dropped
-pub trimming-makes : {t new : List ℕ} (passes : ℕ → Bool) {result : Result (Unit {0}) Error} → Makes (trimming passes t) t result new
-    → (result ≡ Ok tt) × (new ≡ without_leading passes (without_trailing passes t))
-trimming-makes passes m = edit-makes refl m
-
--- all is dropped
-pub clearing-makes : {t new : List ℕ} {result : Result (Unit {0}) Error} → Makes clearing t result new → (result ≡ Ok tt) × (new ≡ [])
-clearing-makes m = edit-makes refl m
-
--- letters of ASCII change their case
-pub uppercase-makes : {t new : List ℕ} {result : Result (Unit {0}) Error} → Makes (uppercase t) t result new
-    → (result ≡ Ok tt) × (new ≡ map to_ascii_uppercase t)
-uppercase-makes m = edit-makes refl m
-
--- and the other way round
-pub lowercase-makes : {t new : List ℕ} {result : Result (Unit {0}) Error} → Makes (lowercase t) t result new
-    → (result ≡ Ok tt) × (new ≡ map to_ascii_lowercase t)
-lowercase-makes m = edit-makes refl m
 
 -- the character that begins at `i` is taken out
 module _ {t : List ℕ} (i : ℕ) {new : List ℕ} where

@@ -3,13 +3,14 @@
 -- A row of an edit opens by itself: what a goal lacks is what its tests ask. So each set is small, as `grind` has limits.
 use Rattle.std.proofs.Common.{append_assoc}
 use Rattle.std.proofs.lemmas.Bool.Decides.{nat_tests}
-use Rattle.arraystring_base.proofs.TextLaws.{size-append, size-is, size-borrowed, empty-size, width-bounds, width-is, chars-bytes}
-use Rattle.arraystring_base.proofs.CutLaws.{cut-all, cut-fits}
+use Rattle.arraystring_base.proofs.TextLaws.{size-append, size-is, size-borrowed, empty-size, width-bounds, width-is}
+use Rattle.arraystring_base.proofs.CutLaws.{cut-all, cut-fits, cut-past, cut-past_part}
 use Rattle.arraystring_base.proofs.BoundaryLaws.{front-start, back-start}
-use Rattle.arraystring.proofs.AdditionLaws.{addition-made, addition-refused, addition_of_cut-makes, addition_of_cut-cuts}
+use Rattle.arraystring.proofs.AdditionLaws.{addition-made, addition-refused, addition_of_cut-makes, addition_of_cut-cuts, addition-char_cuts}
 use Rattle.arraystring.proofs.BoundaryLaws.{front-fits, boundary-start, boundary-at_end, boundary-behind_given, boundary-behind_char, boundary-before_char, part-start, part_in-front}
 use Rattle.arraystring.proofs.CharacterLaws.{width-one, chars-ascii, size-repeated}
-use Rattle.arraystring.proofs.LoopLaws.{taken-item}
+use Rattle.arraystring.proofs.LoopLaws.{taken-item, taken-chars, pieces-push}
+use Rattle.arraystring.proofs.SplitLaws.{joined-found}
 use Rattle.arraystring.proofs.RemovalLaws.{popping-made, removal-made}
 
 -- appends, each whole or refused, one after the other
@@ -22,7 +23,7 @@ pub ruleset cuts = (addition_of_cut-makes, addition_of_cut-cuts, cut-all, cut-fi
 pub ruleset insertions = (boundary-at_end, boundary-behind_given, front-fits, nat_tests)
 
 -- a place between two characters: the text before it, and the places behind and before a character
-pub ruleset cursors = (boundary-behind_given, boundary-behind_char, boundary-before_char, boundary-start, front-fits, part-start, part_in-front, width-is, chars-bytes, nat_tests)
+pub ruleset cursors = (boundary-behind_given, boundary-behind_char, boundary-before_char, boundary-start, front-fits, part-start, part_in-front, width-is, nat_tests)
 
 -- removals: of the last character, of the one at an index
 pub ruleset removals = (boundary-at_end, popping-made, removal-made)
@@ -41,3 +42,12 @@ pub ruleset literals = (chars-ascii, width-one, size-repeated)
 
 -- a loop over a slice, which appends a piece for each item
 pub ruleset slices = (taken-item)
+
+-- a loop over the characters of a text, which appends a piece for each
+pub ruleset characters = (taken-chars, pieces-push)
+
+-- pieces one after the other, of which what fits is kept: by `push_str`, or a character by `try_push`
+pub ruleset cut_pieces = (addition-char_cuts, cut-past, cut-past_part, cut-all)
+
+-- a text that is put together at a character, and split there again
+pub ruleset joins = (joined-found)

@@ -1,6 +1,6 @@
 -- Laws of the tests that an edit makes in turn (specs/Edits).
 use Rattle.std.proofs.Common.{◌≡◌, ℕ, ◌<◌, ◌≤◌, ◌⊎◌, List, [], ◌∷◌, arith, true, false, inl, inr, Some}
-use Rattle.std.proofs.lemmas.Bool.{ltb-true, ltb-false, cases_Bool}
+use Rattle.std.proofs.lemmas.Bool.{cases_Bool}
 use Rattle.std.proofs.lemmas.Bool.Decides.{nat_tests}
 use Rattle.arraystring_base.specs.Text.{size, boundary}
 use Rattle.arraystring_base.specs.declared.error.Error.{Error}
@@ -16,18 +16,6 @@ first-holds (test ∷ rest) found e = elim (cases_Bool test.holds) [
   | inl holds ↦ inl (holds, cc (rw holds at e))
   | inr fails ↦ inr (fails, first-holds rest found (rw fails at e))
 ]
-
--- each test in words: an index that is not past the text
-pub past-failed : (t : List ℕ) (i : ℕ) → (past t i).holds ≡ false → i ≤ size t
-past-failed t i = ltb-false (size t) i
-
--- an index that is past it
-pub past-held : (t : List ℕ) (i : ℕ) → (past t i).holds ≡ true → size t < i
-past-held t i = ltb-true (size t) i
-
--- an index inside a character is no boundary: `inside` asks for an index that is below the size, and no boundary
-pub inside-held : (t : List ℕ) (i : ℕ) → (inside t i).holds ≡ true → (i < size t) × (boundary t i ≡ false)
-inside-held t i holds = grind (arith, nat_tests)
 
 -- a boundary, or an index past the text, is not inside a character: it lacks one of the two
 pub inside-fails : (t : List ℕ) (i : ℕ) → (i ≤ size t → boundary t i ≡ true) → (inside t i).holds ≡ false

@@ -120,16 +120,6 @@ module _ {bs : List ℕ} (u : IsUtf8 bs) (c : ℕ) where
   find-first None found = none-position found
   find-first (Some i) found = split-at (split found.1) i (size-before found.1)
 
-  -- each by itself
-  module _ {r : Option ℕ} (found : MatchOption r (FindsChar c bs None) (MatchBeginsAt (FindsChar c) bs)) where
-    pub find-some : {i : ℕ} → r ≡ Some i
-        → (i < size (chars bs)) × (boundary (chars bs) i ≡ true) × (front (chars bs) i ≡ before_first (λ d. d == c) (chars bs))
-        × (back (chars bs) i ≡ c ∷ after_first (λ d. d == c) (chars bs))
-    find-some is = rw is at (find-first r found)
-
-    pub find-none : r ≡ None → position_or_len (λ d. d == c) (chars bs) ≡ length (chars bs)
-    find-none is = rw is at (find-first r found)
-
   -- `split_once`: where it gives two parts, they stand before and after the first c; where it gives none, no c is in the text
   pub split_once-first : (r : Option (Bor (List ℕ) × Bor (List ℕ)))
       → MatchOption r (FindsChar c bs None) (λ x. SplitsAroundMatch (FindsChar c) bs x.0.now x.1.now)
@@ -143,19 +133,6 @@ module _ {bs : List ℕ} (u : IsUtf8 bs) (c : ℕ) where
       let is = split found.2 in
       rw (found.3, found.4, chars-before found.2, chars-after found.2)
       (split-inside is, split-before is, split-after is, is.parts, is.none_before)
-
-  -- each by itself
-  module _ {r : Option (Bor (List ℕ) × Bor (List ℕ))}
-      (found : MatchOption r (FindsChar c bs None) (λ x. SplitsAroundMatch (FindsChar c) bs x.0.now x.1.now)) where
-    pub split_once-some : {x : Bor (List ℕ) × Bor (List ℕ)} → r ≡ Some x
-        → (position_or_len (λ d. d == c) (chars bs) < length (chars bs))
-        × (chars x.0.now ≡ before_first (λ d. d == c) (chars bs))
-        × (chars x.1.now ≡ after_first (λ d. d == c) (chars bs)) × (chars bs ≡ chars x.0.now ++ c ∷ chars x.1.now)
-        × NonePass (λ d. d == c) (chars x.0.now)
-    split_once-some is = rw is at (split_once-first r found)
-
-    pub split_once-none : r ≡ None → position_or_len (λ d. d == c) (chars bs) ≡ length (chars bs)
-    split_once-none is = rw is at (split_once-first r found)
 
 -- what stands before the first character that passes has none that does
 pub before_first-none : (p : ℕ → Bool) (t : List ℕ) → NonePass p (before_first p t)

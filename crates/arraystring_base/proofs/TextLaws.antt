@@ -1,12 +1,12 @@
 -- Laws of texts and their bytes.
-use Rattle.std.proofs.Common.{◌≡◌, ℕ, ◌+◌, ◌/◌, ◌<◌, ◌≤◌, List, [], ◌∷◌, ◌++◌, length, drop, refl, sym, ap, ◌∙◌, arith, IsUtf8, IsCharBoundary, chars, nat_eq, encode_utf8_all, true, length-append, append_assoc}
+use Rattle.std.proofs.Common.{◌≡◌, ℕ, ◌+◌, ◌<◌, ◌≤◌, List, [], ◌∷◌, ◌++◌, length, drop, refl, sym, ap, ◌∙◌, arith, IsUtf8, IsCharBoundary, chars, nat_eq, encode_utf8_all, true, length-append, append_assoc}
 use Rattle.std.proofs.lemmas.Bool.{and_parts}
 use Rattle.std.proofs.lemmas.Bool.Decides.{same_from_decides, nat_tests}
 use Rattle.std.proofs.lemmas.Str.{encodes-chars, encodes_same, length-encode, len_utf8_bounds, IsCharBoundary-past_char, scalars-chars}
 use Rattle.std.proofs.Math.Utf8.{scalars, scalar, scalar_cases}
 use Rattle.std.specs.Char.{len_utf8, encode_utf8}
 use Rattle.std.specs.Cmp.Lexicographic.{pointwise, bytes_decides}
-use Rattle.arraystring_base.specs.Text.{IsScalarValue, IsText, IsWellFormed, width, utf8, continuation, size, bytes}
+use Rattle.arraystring_base.specs.Text.{IsScalarValue, IsText, IsWellFormed, width, utf8, size, bytes}
 
 -- UTF-8 as std has it
 pub width-is : (c : ℕ) → width c ≡ len_utf8 c
@@ -31,18 +31,6 @@ width-bounds c = rw width-is (len_utf8_bounds c)
 pub utf8-one : (c : ℕ) → c < 0x80 → utf8 c ≡ c ∷ []
 unfolding utf8
 utf8-one c lt = grind (arith, nat_tests)
-
-pub utf8-two : (c : ℕ) → 0x80 ≤ c → c < 0x800 → utf8 c ≡ (0xC0 + c / 64) ∷ continuation c ∷ []
-unfolding utf8
-utf8-two c le lt = grind (arith, nat_tests)
-
-pub utf8-three : (c : ℕ) → 0x800 ≤ c → c < 0x1_0000 → utf8 c ≡ (0xE0 + c / 4096) ∷ continuation (c / 64) ∷ continuation c ∷ []
-unfolding utf8
-utf8-three c le lt = grind (arith, nat_tests)
-
-pub utf8-four : (c : ℕ) → 0x1_0000 ≤ c → utf8 c ≡ (0xF0 + c / 262144) ∷ continuation (c / 4096) ∷ continuation (c / 64) ∷ continuation c ∷ []
-unfolding utf8
-utf8-four c le = grind (arith, nat_tests)
 
 -- two texts, one after the other
 pub size-append : (a b : List ℕ) → size (a ++ b) ≡ size a + size b

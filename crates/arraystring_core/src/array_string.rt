@@ -39,7 +39,7 @@
 //!
 //! A `Drain<N>` borrows nothing. It has a copy of the array from before the removal, the offset and the size of
 //! the removed text, and an index into it. `next` raises the index, and `next_back` lowers the size.
-ghost use Rattle.std.specs.Prelude.{◌≡◌, ◌+◌, ◌≤◌, ◌↔◌, [], IsTrue, length};
+ghost use Rattle.std.specs.Prelude.{◌≡◌, ◌+◌, ◌≤◌, ◌↔◌, [], IsTrue, chars, length};
 ghost use Rattle.arraystring_base.specs.Text.{size, bytes, cap, IsText};
 ghost use Rattle.arraystring_core.specs.Layout.{start_of};
 
@@ -164,6 +164,7 @@ impl<const N: usize> ArrayString<N> {
     #[inline]
     pub fn as_str(&self) -> &str
         ensures bytes { result.now ≡ bytes self.now.text }
+        ensures chars { chars result.now ≡ self.now.text }
         ensures text { IsText self.now.text }
         ensures fits { size self.now.text ≤ cap N }
     {

@@ -1,5 +1,5 @@
 //! `Drain`: the characters that were removed from a string, from both ends. `traits` has its impls of traits.
-ghost use Rattle.std.specs.Prelude.{◌≡◌, ◌≤◌};
+ghost use Rattle.std.specs.Prelude.{◌≡◌, ◌≤◌, chars};
 ghost use Rattle.arraystring_base.specs.Text.{bytes, cap, size, IsText};
 ghost use Rattle.arraystring_core.specs.Layout.{stored, IsStored};
 
@@ -75,6 +75,7 @@ impl<const N: usize> Drain<N> {
     #[inline]
     pub fn as_str(&self) -> &str
         ensures bytes { result.now ≡ bytes self.now.left }
+        ensures chars { chars result.now ≡ self.now.left }
         ensures text { IsText self.now.left }
         ensures fits { size self.now.left ≤ cap N }
     {

@@ -12,6 +12,7 @@ pub mod log_line;
 pub mod packet;
 pub mod pair;
 pub mod parts;
+pub mod quotes;
 pub mod row;
 pub mod runs;
 pub mod scores;

@@ -1,8 +1,9 @@
 //! A name that comes as bytes.
-ghost use Rattle.std.specs.Prelude.{◌≡◌, ◌<◌, Err, length};
+ghost use Rattle.std.specs.Prelude.{◌≡◌, ◌<◌, ◌≤◌, ◌↔◌, Err, IsOk, length};
 ghost use Rattle.arraystring.specs.Refusals.{OutOfBounds};
 ghost use Rattle.arraystring.specs.Text.{IsWellFormed};
 
+use arraystring::laws::well_formed_or_not;
 use arraystring::{ArrayString, Error};
 
 /// Reads a name of at most 16 bytes.
@@ -12,7 +13,9 @@ use arraystring::{ArrayString, Error};
 /// Those of `try_from_utf8`. If the name is too long, it is well-formed UTF-8.
 #[tactic(auto, using(arraystring::proofs::Rules::sizes))]
 pub fn name_in(given: &[u8]) -> Result<ArrayString<16>, Error>
-    ensures { result ≡ Err OutOfBounds → IsWellFormed given.now × (16 < length given.now) }
+    ensures too_long { result ≡ Err OutOfBounds → IsWellFormed given.now × (16 < length given.now) }
+    ensures name { IsOk result ↔ (IsWellFormed given.now × (length given.now ≤ 16)) }
 {
+    well_formed_or_not(given);
     ArrayString::try_from_utf8(given)
 }

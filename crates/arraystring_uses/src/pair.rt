@@ -1,10 +1,11 @@
 //! Lines `key=value`: where a character first stands, and what is before and after it.
-ghost use Rattle.std.specs.Prelude.{◌≡◌, ◌<◌, ◌≤◌, ◌↔◌, ◌==◌, ◌++◌, ◌∷◌, IsOk, IfOk, IfErr, IfSome, IfNone, MatchOption, chars, length};
+ghost use Rattle.std.specs.Prelude.{◌≡◌, ◌<◌, ◌≤◌, ◌↔◌, ◌==◌, ◌++◌, ◌∷◌, IsOk, IsOkAnd, IfOk, IfErr, IfSome, IfNone, MatchOption, chars, length};
 ghost use Rattle.std.specs.List.{before_first, after_first, position_or_len};
+ghost use Rattle.arraystring.specs.Construct.{IsWholeOrRefused};
 ghost use Rattle.arraystring.specs.Refusals.{OutOfBounds};
 ghost use Rattle.arraystring.specs.Text.{size};
 
-use arraystring::laws::{found_first, split_first, text_fits, text_spelled};
+use arraystring::laws::{found_first, split_first, text_fits};
 use arraystring::{ArrayString, Error};
 
 /// Splits `line` at its first `=` into what is before it and what is after it.
@@ -41,28 +42,40 @@ pub fn pair_of(line: &ArrayString<64>) -> Result<(ArrayString<20>, ArrayString<4
         × (size (after_first (λ c. c == 61) line.now.text) ≤ 40)) }
     ensures refused { IfErr result (λ error. error ≡ OutOfBounds) }
 {
-    text_spelled(line);
     pair(line.as_str())
 }
 
-/// Splits a bounded line at its first `=`, or returns `None` if it has none.
-#[tactic(auto, using(arraystring::proofs::Rules::cuts))]
-pub fn parted<const N: usize>(line: &ArrayString<N>) -> Option<(ArrayString<N>, ArrayString<N>)>
-    ensures some { IfSome result (λ parts. (line.now.text ≡ parts.0.text ++ 61 ∷ parts.1.text)
-        × (parts.0.text ≡ before_first (λ c. c == 61) line.now.text)) }
-    ensures none { IfNone result (position_or_len (λ c. c == 61) line.now.text ≡ length line.now.text) }
+/// Returns the line of a pair.
+///
+/// # Errors
+///
+/// Returns `Err(Error::OutOfBounds)` if it does not fit.
+#[tactic(auto, using(arraystring::proofs::Rules::additions))]
+pub fn line_of(key: &str, value: &str) -> Result<ArrayString<64>, Error>
+    ensures { IsWholeOrRefused (chars key.now ++ 61 ∷ chars value.now) 64 result }
 {
-    text_spelled(line);
-    let text = line.as_str();
-    let parts = text.split_once('=');
-    split_first(text, '=', parts);
-    match parts {
-        Some((name, rest)) => Some((
-            ArrayString::from_str_truncate(name),
-            ArrayString::from_str_truncate(rest),
-        )),
-        None => None,
-    }
+    let mut line = ArrayString::try_from_str(key)?;
+    line.try_push('=')?;
+    line.try_push_str(value)?;
+    text_fits(&line);
+    Ok(line)
+}
+
+/// Makes the line of a pair, and splits it again. If `key` has no `=`, that gives the pair back.
+///
+/// # Errors
+///
+/// Those of `line_of` and `pair`.
+#[tactic(auto, using(arraystring::proofs::Rules::sizes, arraystring::proofs::Rules::joins))]
+pub fn there_and_back(
+    key: &ArrayString<20>,
+    value: &ArrayString<40>,
+) -> Result<(ArrayString<20>, ArrayString<40>), Error>
+    ensures back { position_or_len (λ c. c == 61) key.now.text ≡ length key.now.text
+        → IsOkAnd result (λ pair. (pair.0.text ≡ key.now.text) × (pair.1.text ≡ value.now.text)) }
+{
+    let line = line_of(key.as_str(), value.as_str())?;
+    pair_of(&line)
 }
 
 /// Removes the first `=` and all that comes after it from `line`, and returns the removed text. If there
@@ -74,7 +87,6 @@ pub fn split_value(line: &mut ArrayString<64>) -> Option<ArrayString<64>>
         × (rest.text ≡ 61 ∷ after_first (λ c. c == 61) line.old.text)) }
 {
     text_fits(line);
-    text_spelled(line);
     let text = line.as_str();
     let place = text.find('=');
     found_first(text, '=', place);

@@ -10,8 +10,9 @@ use crate::letters::{
 };
 use crate::log_line::{Level, log_line};
 use crate::packet::name_in;
-use crate::pair::{pair, pair_of, parted, split_value};
+use crate::pair::{line_of, pair, pair_of, split_value, there_and_back};
 use crate::parts::{drop_part, first_left, part, prefix};
+use crate::quotes::{quoted, replaced};
 use crate::row::add_row;
 use crate::runs::{fits_small, push_and_pop};
 use crate::scores::{look_up, record};
@@ -285,23 +286,45 @@ fn a_cursor_stands_between_characters(rt: HostRuntime) {
     }
 }
 
-/// Parts lines with one `=`, with several and with none.
 #[test]
-fn a_line_is_parted_at_its_first_sign(rt: HostRuntime) {
-    for (line, wanted) in [
-        ("key=a=b", Some(("key", "a=b"))),
-        ("=", Some(("", ""))),
-        ("é=€", Some(("é", "€"))),
-        ("key", None),
-        ("", None),
+fn fields_are_quoted(rt: HostRuntime) {
+    for (field, wanted) in [
+        ("", Some("\"\"")),
+        ("a", Some("\"a\"")),
+        ("\"", Some("\"\"\"\"")),
+        ("é\"€", Some("\"é\"\"€\"")),
+        ("a\"\"b", Some("\"a\"\"\"\"b\"")),
+        ("01234567", Some("\"01234567\"")),
+        // A byte too much: of the last quote, of the character and of the quote that is doubled.
+        ("012345678", None),
+        ("0123456€", None),
+        ("0123456\"", None),
+        ("012345\"", Some("\"012345\"\"\"")),
+        ("0123456789\"a", None),
     ] {
-        match (parted(&ArrayString::<7>::from_str_truncate(line)), wanted) {
-            (Some((name, rest)), Some((before, after))) => {
-                agree(&rt, name.as_str(), before);
-                agree(&rt, rest.as_str(), after);
-            }
-            (parts, wanted) => agree(&rt, parts.is_some() || wanted.is_some(), false),
-        }
+        check_made(&rt, quoted(field), wanted);
+    }
+}
+
+#[test]
+fn a_text_stands_for_a_character(rt: HostRuntime) {
+    for (text, to, wanted) in [
+        ("", "é", ""),
+        ("a-b-c", "", "abc"),
+        ("a-b-c", "é", "aébéc"),
+        ("---", "€", "€€€"),
+        // A part of what stands for it, and none of it.
+        ("---", "ab€", "ab€ab€"),
+        ("----", "abc", "abcabcabca"),
+        ("01234567-ab", "€", "01234567"),
+        ("0123456-ab", "€", "0123456€"),
+        // What comes after the first character that does not fit is left out.
+        ("01234567€a", "x", "01234567"),
+        ("0123456789a", "x", "0123456789"),
+        ("é-€🤔", "--", "é--€"),
+    ] {
+        let made: ArrayString<10> = replaced(text, '-', to);
+        agree(&rt, made.as_str(), wanted);
     }
 }
 
@@ -439,6 +462,14 @@ fn check_line(rt: &impl Abort, before: &str, behind: &str) {
         }
         Err(error) => agree(rt, error, Error::OutOfBounds),
     }
+    if before.len() <= 20 && behind.len() <= 40 {
+        agree(rt, line_of(before, behind), Ok(line));
+    }
+    let (key, value) = (
+        ArrayString::from_str_truncate(before),
+        ArrayString::from_str_truncate(behind),
+    );
+    agree(rt, there_and_back(&key, &value), Ok((key, value)));
     let rest = split_value(&mut line).unwrap_or_default();
     agree(rt, line.as_str(), before);
     agree(rt, rest.as_str().strip_prefix('='), Some(behind));

@@ -29,9 +29,12 @@ impl<const N: usize> ArrayString<N> {
         requires start { IsTrue (boundary self.now.text (start_index (R.start_bound range))) }
         requires end { IsTrue (boundary self.now.text
             (end_index (R.end_bound range) (size self.now.text))) }
-        ensures { let t = self.now.text in
+        ensures bytes { let t = self.now.text in
             result.now ≡ bytes (part t (start_index (R.start_bound range))
             (end_index (R.end_bound range) (size t))) }
+        ensures chars { let t = self.now.text in
+            chars result.now ≡ part t (start_index (R.start_bound range))
+            (end_index (R.end_bound range) (size t)) }
     {
         let (start, end) = plain_ends(range, self.len());
         self.slice_unchecked(start, end)
@@ -58,7 +61,8 @@ impl<const N: usize> ArrayString<N> {
         requires order { start ≤ end }
         requires start { IsTrue (boundary self.now.text start) }
         requires end { IsTrue (boundary self.now.text end) }
-        ensures { result.now ≡ bytes (part self.now.text start end) }
+        ensures bytes { result.now ≡ bytes (part self.now.text start end) }
+        ensures chars { chars result.now ≡ part self.now.text start end }
     {
         &self.as_str()[start..end]
     }

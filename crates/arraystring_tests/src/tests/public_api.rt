@@ -8,6 +8,7 @@ use arraystring::utils::Steps;
 use arraystring::{
     ArrayString, CacheString, Error, MaxString, SmallString, drain, error, laws, prelude,
 };
+use std::collections::BTreeMap;
 use std::error::Error as StdError;
 use std::fmt::{Debug, Display, Write};
 use std::hash::Hash;
@@ -105,7 +106,7 @@ fn each_path_names_the_same(rt: HostRuntime) {
 
 /// Each law is called by its path; it does nothing.
 #[test]
-fn the_laws_are_at_hand(_rt: HostRuntime) {
+fn the_laws_are_at_hand(rt: HostRuntime) {
     laws::boundaries();
     laws::cut_of_cut();
     laws::equal_texts();
@@ -118,6 +119,9 @@ fn the_laws_are_at_hand(_rt: HostRuntime) {
         laws::left_fits(&drained);
         laws::left_given(&drained);
     }
+    laws::keys_ascend::<5, u8>(&BTreeMap::new(rt.alloc()));
+    laws::last_given("a", "a".chars().next_back());
+    laws::well_formed_or_not(&[0xFF]);
     laws::borrowed_text("a");
     laws::found_first("a", 'a', "a".find('a'));
     laws::split_first("a", 'a', "a".split_once('a'));

@@ -1,15 +1,14 @@
 use Rattle.std.proofs.Common.{◌∙◌, rules, rules, ap, sym}
-use Rattle.arraystring.proofs.TextLaws.{chars-bytes}
 use Rattle.arraystring.specs.Drained.{with_left}
 use Rattle.arraystring_run.specs.Runs.{Text, reply_of}
 use Rattle.arraystring_run.proofs.execute.reply_to_drain.Goals as goal
 
 pub from_str_unchecked-requires : goal.from_str_unchecked-requires
 from_str_unchecked-requires g c =
-    let same = chars-bytes c.as_str-left.utf8 c.as_str-left.ensures.bytes in
+    let same = c.as_str-left.ensures.chars in
     (search rules, rw same c.as_str-left.ensures.fits)
 
 pub returns-in-Ok : goal.returns-in-Ok
 returns-in-Ok g c =
-    let same = chars-bytes c.as_str-left.utf8 c.as_str-left.ensures.bytes in
+    let same = c.as_str-left.ensures.chars in
     ap Text (c.from_str_unchecked.ensures ∙ same) ∙ ap (λ a. reply_of Text (with_left a)) (sym c.in-Ok.is)

@@ -1,6 +1,6 @@
-use Rattle.std.proofs.Common.{sym, ◌∙◌, arith}
+use Rattle.std.proofs.Common.{sym, ap, ◌∙◌, arith, chars}
 use Rattle.arraystring_core.specs.GhostProofs.{stored-utf8}
-use Rattle.arraystring_core.proofs.StoredLaws.{borrowed-range, opened-bytes, opened-size, opened-text}
+use Rattle.arraystring_core.proofs.StoredLaws.{borrowed-range, opened-bytes, opened-size, opened-text, text_spelled}
 use Rattle.arraystring_core.proofs.array_string.ArrayString.as_str.Goals as goal
 
 pub from_utf8_unchecked-requires : goal.from_utf8_unchecked-requires
@@ -10,8 +10,11 @@ from_utf8_unchecked-requires g c =
 pub returns : goal.returns
 returns g c =
     let borrowed = rw borrowed-range at c.from_utf8_unchecked.ensures in
+    let all = borrowed ∙ sym (opened-bytes c.self.invariant c.self.view_is) in
+    let text = opened-text c.self.invariant c.self.view_is in
     record {
-      bytes = borrowed ∙ sym (opened-bytes c.self.invariant c.self.view_is);
-      text = opened-text c.self.invariant c.self.view_is;
+      bytes = all;
+      chars = ap chars all ∙ text_spelled _ text;
+      text = text;
       fits = omega (arith, opened-size c.self.invariant c.self.view_is);
     }

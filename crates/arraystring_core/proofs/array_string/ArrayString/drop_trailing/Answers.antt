@@ -1,6 +1,6 @@
 use Rattle.std.proofs.Common.{◌≡◌, ℕ, ◌+◌, Bool, List, ◌++◌, ◌∷◌, [], length, sym, ap, ◌∙◌, refl, arith, rules, true}
 use Rattle.arraystring_base.specs.Text.{size, width, front}
-use Rattle.arraystring_base.proofs.TextLaws.{chars-bytes, width-bounds}
+use Rattle.arraystring_base.proofs.TextLaws.{width-bounds}
 use Rattle.arraystring_core.specs.Edits.{without_trailing}
 use Rattle.arraystring_core.proofs.EndLemmas.{pushed-length, last-parts, last-size, last-boundary, last-front}
 use Rattle.arraystring_core.proofs.TrimLemmas.{without_trailing-passes, without_trailing-stops}
@@ -30,14 +30,14 @@ last_char-requires g c = omega arith
 
 pub overflow_cast-start : goal.overflow_cast-start
 overflow_cast-start g c =
-    omega (arith, last-size (chars-bytes c.as_str.utf8 c.as_str.ensures.bytes) c.in-Some.ensures.some, c.as_str.ensures.fits)
+    omega (arith, last-size c.as_str.ensures.chars c.in-Some.ensures.some, c.as_str.ensures.fits)
 
 pub set_len-requires : goal.set_len-requires
-set_len-requires g c = (search rules, last-boundary (chars-bytes c.as_str.utf8 c.as_str.ensures.bytes) c.in-Some.ensures.some)
+set_len-requires g c = (search rules, last-boundary c.as_str.ensures.chars c.in-Some.ensures.some)
 
 pub loop-start-smaller : goal.loop-start-smaller
 loop-start-smaller g c =
-    let sizes = left-size (chars-bytes c.as_str.utf8 c.as_str.ensures.bytes) c.in-Some.ensures.some c.set_len.ensures in
+    let sizes = left-size c.as_str.ensures.chars c.in-Some.ensures.some c.set_len.ensures in
     omega (arith, width-bounds c.in-Some.ch)
 
 pub loop-start-preserved : goal.loop-start-preserved
@@ -46,7 +46,7 @@ loop-start-preserved g c =
     let found = c.in-Some.ensures.some in
     let inv = c.loop-start.invariant in
     let ensured = c.last_char.ensures in
-    let same = chars-bytes c.as_str.utf8 c.as_str.ensures.bytes in
+    let same = c.as_str.ensures.chars in
     let sizes = left-size same found c.set_len.ensures in
     let lengths = left-length same found c.set_len.ensures in
     record {
@@ -64,7 +64,7 @@ loop-start-preserved g c =
 pub returns-clause-text : goal.returns-clause-text
 returns-clause-text g c = λ passes agrees.
     let text = c.loop-start.self.text in
-    let borrowed = chars-bytes c.as_str.utf8 c.as_str.ensures.bytes in
+    let borrowed = c.as_str.ensures.chars in
     let unchanged : without_trailing passes text ≡ text = elim c.match-last_char.branch [
       | in-Some+then-not-drops w ↦
           without_trailing-stops passes text _ w.in-Some.ch (last-parts borrowed w.in-Some.ensures.some)
@@ -80,7 +80,7 @@ returns-clause-least g c =
     elim c.match-last_char.branch [
       | in-Some+then-not-drops w ↦ omega (arith, w.in-Some.ensures.least)
       | in_default w ↦
-          let none = sym (chars-bytes c.as_str.utf8 c.as_str.ensures.bytes) ∙ (rw w.in_default.is at c.last_char.ensures.none) in
+          let none = sym c.as_str.ensures.chars ∙ (rw w.in_default.is at c.last_char.ensures.none) in
           omega (arith, ap length none)
     ]
 

@@ -1,6 +1,5 @@
 use Rattle.std.proofs.Common.{◌≡◌, ap, sym, ◌∙◌, Some}
 use Rattle.arraystring_base.specs.Text.{size}
-use Rattle.arraystring_base.proofs.TextLaws.{chars-bytes}
 use Rattle.arraystring_core.specs.Edits.{part_in}
 use Rattle.arraystring_core.proofs.PartLaws.{part_in-some}
 use Rattle.std.specs.Range.Bound.{end_index}
@@ -12,7 +11,7 @@ returns g c =
     let ends = c.plain_ends-start in
     let at = sym c.is_boundary.ensures ∙ c.if-not-is_boundary.false in
     let to = sym c.is_boundary-else-not-is_boundary.ensures ∙ c.if-not-is_boundary-2.false in
-    let borrowed = chars-bytes c.slice_unchecked.utf8 c.slice_unchecked.ensures in
+    let borrowed = c.slice_unchecked.ensures.chars in
     let of = ends.ensures in
     let end_in = end_index of.end in
     let end : end_in (size t) ≡ ends.result.1 = ap end_in (sym c.len.ensures.value) ∙ sym {b = end_in c.len.result} of.holds.1 in

@@ -1,7 +1,7 @@
-use Rattle.std.proofs.Common.{refl, ◌∙◌, arith, subst}
+use Rattle.std.proofs.Common.{refl, ap, ◌∙◌, arith, subst, chars}
 use Rattle.arraystring_base.specs.Text.{IsText}
 use Rattle.arraystring_base.proofs.BoundaryLaws.{back-text}
-use Rattle.arraystring_core.proofs.StoredLaws.{opened-text}
+use Rattle.arraystring_core.proofs.StoredLaws.{opened-text, text_spelled}
 use Rattle.arraystring_core.proofs.DrainLemmas.{given-within, borrowed-utf8, borrowed-bytes, left-fits}
 use Rattle.arraystring_core.proofs.drain.Drain.as_str.Goals as goal
 
@@ -17,6 +17,13 @@ from_utf8_unchecked-requires g c = borrowed-utf8 c.self.invariant _ _ (omega ari
 pub returns-clause-bytes : goal.returns-clause-bytes
 returns-clause-bytes g c =
     c.from_utf8_unchecked.ensures ∙ borrowed-bytes c.self.invariant _ _ (omega arith) (omega arith) c.self.view_is
+
+pub returns-clause-chars : goal.returns-clause-chars
+returns-clause-chars g c =
+    let removed = opened-text c.self.invariant.in_array refl in
+    let text = subst (λ d. IsText d.left) c.self.view_is (back-text _ c.self.inside.front removed) in
+    let all = c.from_utf8_unchecked.ensures ∙ borrowed-bytes c.self.invariant _ _ (omega arith) (omega arith) c.self.view_is in
+    ap chars all ∙ text_spelled _ text
 
 pub returns-clause-text : goal.returns-clause-text
 returns-clause-text g c =

@@ -2,7 +2,6 @@ use Rattle.std.proofs.Common.{◌≤◌, ◌-◌, ◌++◌, length, sym, ap, ◌
 use Rattle.std.proofs.lemmas.List.{nil_from_length}
 use Rattle.std.proofs.lemmas.Str.{chars-nil}
 use Rattle.std.specs.Char.{encode_utf8}
-use Rattle.arraystring_base.proofs.TextLaws.{chars-bytes}
 use Rattle.arraystring_core.proofs.DrainLemmas.{GivesFirst, given-within, none-left, first-given, decoded-within, decoded}
 use Rattle.arraystring_core.proofs.drain.traits.DrainIterator.next.Given as given
 use Rattle.arraystring_core.proofs.drain.traits.DrainIterator.next.Goals as goal
@@ -29,7 +28,7 @@ returns-then-first-lt128 g c =
 pub returns-in_err-ch-clause-steps : goal.returns-in_err-ch-clause-steps
 returns-in_err-ch-clause-steps g c =
     let left = c.args.self.now.left in
-    let borrowed = chars-bytes c.as_str.utf8 c.as_str.ensures.bytes in
+    let borrowed = c.as_str.ensures.chars in
     let over = nil_from_length c.chars-left.result.rest.now c.in_err-ch.ensures.steps.0.0 in
     let none = sym borrowed ∙ ap chars (sym c.chars-left.ensures.rest ∙ over) ∙ chars-nil in
     rw c.from_residual.ensures (none, none)
