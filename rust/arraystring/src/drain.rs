@@ -1,5 +1,5 @@
 // Proved sources: crates/arraystring_core/src/drain.rt
-//! `Drain`: the characters that were removed from a string, from both ends. `traits` has its impls of traits.
+//! `Drain`: the characters that were removed from a string, from both ends.
 
 use crate::access::str;
 
@@ -8,8 +8,29 @@ mod traits;
 /// An iterator over the characters that [`drain`](crate::ArrayString::drain) removed from a string. It returns each of them
 /// once, from the front or from the back, and borrows nothing.
 ///
-/// Contracts name the list of the characters that are left. A drain has a copy of the string's
-/// array, and takes no memory.
+/// A drain has a copy of the string's array, and allocates nothing. Contracts name the list of the
+/// characters that are left.
+///
+/// # What to write for `max`, `cmp` and `for`
+///
+/// A drain is an `Iterator`, and it is `Ord` and `Copy`, too. So three things are not as in the `Drain` of a `String`:
+///
+/// - `max` and `min` are ambiguous. Write `Iterator::max(drained)`.
+/// - `a.cmp(&b)` does not compile, since it is that of `Iterator`. Write `Ord::cmp(&a, &b)`, or `a.cmp(b)`, which compares the
+///   characters that are left.
+/// - `for ch in drained` walks a copy: `drained` still has all. Write `for ch in drained.by_ref()`, or `for ch in &mut drained`.
+///
+/// ```
+/// use arraystring::ArrayString;
+///
+/// let mut drained = ArrayString::<4>::from("abc").drain(..).unwrap();
+/// assert_eq!(Iterator::max(drained), Some('c'));
+/// assert_eq!(Ord::cmp(&drained, &ArrayString::<4>::from("abd").drain(..).unwrap()), std::cmp::Ordering::Less);
+/// for _ in drained {}
+/// assert_eq!(drained.as_str(), "abc");
+/// for _ in drained.by_ref() {}
+/// assert_eq!(drained.as_str(), "");
+/// ```
 ///
 /// # Examples
 ///
