@@ -121,8 +121,10 @@ mod unchecked;
 /// assert_eq!((string.len(), at), (8u8, 3usize));
 /// assert_eq!(usize::from(string.len()) - at, 5);
 /// assert_eq!(&string.as_str()[at + 1..], "text"); // the index of `str` takes a usize
+/// assert_eq!((string.split_at(at).0, string.is_char_boundary(at)), ("key", true)); // and these of `str`, too
 /// let at = u8::try_from(at).unwrap();
-/// assert_eq!(&string[at + 1..], "text");
+/// assert_eq!((&string[at + 1..], string.get(..at)), ("text", Some("key")));
+/// assert_eq!((string.split_at(at.into()).0, string.is_char_boundary(at.into())), ("key", true));
 /// ```
 #[derive(Clone, Copy)]
 pub struct ArrayString<const N: usize> {

@@ -515,7 +515,7 @@ fn makes_are_written_in_another_way(table: &mut Table, at: usize) -> Result<(), 
     let text = String::from("ab");
     let row = table.row("Name::from(\"ab\").unwrap()");
     assert_eq!(written!(row, WRITTEN, Name::try_from_str("ab").unwrap()), "ab");
-    assert_eq!(written!(table.row("Name::from(text)"), WRITTEN, Name::try_from_str(&text)?), "ab");
+    assert_eq!(written!(table.row("Name::from(text)"), WRITTEN, Name::try_from_str(text.as_str())?), "ab");
     assert_eq!(written!(table.row("text.into()"), WRITTEN, Name::try_from_str(text)?), "ab");
     assert_eq!(written!(table.row("Name::new_const()"), WRITTEN, Name::new()), "");
     assert_eq!(written!(table.row("Name::with_capacity(at)"), WRITTEN, Name::new()), "");
