@@ -13,12 +13,11 @@ mod traits;
 ///
 /// # What to write for `max`, `cmp` and `for`
 ///
-/// A drain is an `Iterator`, and it is `Ord` and `Copy`, too. So three things are not as in the `Drain` of a `String`:
+/// A drain is an `Iterator`, and it is `Ord` and `Copy`, too. So some code does not compile, or does something else:
 ///
-/// - `max` and `min` are ambiguous. Write `Iterator::max(drained)`.
-/// - `a.cmp(&b)` does not compile, since it is that of `Iterator`. Write `Ord::cmp(&a, &b)`, or `a.cmp(b)`, which compares the
-///   characters that are left.
-/// - `for ch in drained` walks a copy: `drained` still has all. Write `for ch in drained.by_ref()`, or `for ch in &mut drained`.
+/// - `drained.max()` and `drained.min()` are ambiguous. Write `Iterator::max(drained)`.
+/// - `a.cmp(&b)` is that of `Iterator`, and does not compile. Write `Ord::cmp(&a, &b)`. The signs `<` and `==` are as usual.
+/// - `for ch in drained` walks a copy, so `drained` still has all. Write `for ch in &mut drained`.
 ///
 /// ```
 /// use arraystring::ArrayString;
@@ -28,7 +27,7 @@ mod traits;
 /// assert_eq!(Ord::cmp(&drained, &ArrayString::<4>::from("abd").drain(..).unwrap()), std::cmp::Ordering::Less);
 /// for _ in drained {}
 /// assert_eq!(drained.as_str(), "abc");
-/// for _ in drained.by_ref() {}
+/// for _ in &mut drained {}
 /// assert_eq!(drained.as_str(), "");
 /// ```
 ///
