@@ -140,6 +140,7 @@ macro_rules! calls_of {
                     try_push_str: v.s.try_push_str(v.text);
                     push_str: v.s.push_str(v.text);
                     try_write: v.s.try_write(format_args!("{}-{}", v.text, v.ch));
+                    write_truncated: v.s.write_truncated(format_args!("{}-{}", v.text, v.ch));
                     extend_chars: v.s.extend_chars(v.text.chars());
                     extend_strs: v.s.extend_strs([v.text, v.text]);
                     try_extend_chars: v.s.try_extend_chars(v.text.chars());

@@ -71,12 +71,11 @@ mod unchecked;
 /// A text *fits* if the string with it is not larger than the capacity. What does not fit is cut or
 /// refused, by the call:
 ///
-/// - **Cut**, to the whole characters that fit: `from` and so `into`, [`from_str_truncate`](Self::from_str_truncate),
-///   [`from_chars`](Self::from_chars), [`from_iterator`](Self::from_iterator), [`from_utf8`](Self::from_utf8), [`from_utf16`](Self::from_utf16), [`from_utf16_lossy`](Self::from_utf16_lossy), [`push_str`](Self::push_str), `+`,
-///   [`extend_chars`](Self::extend_chars), [`extend_strs`](Self::extend_strs), [`insert_str`](Self::insert_str).
-/// - **Refused**, and then nothing has changed: `parse`, [`try_from_str`](Self::try_from_str), [`try_from_chars`](Self::try_from_chars),
-///   [`try_from_iterator`](Self::try_from_iterator), [`try_from_utf8`](Self::try_from_utf8), [`try_from_utf16`](Self::try_from_utf16), [`try_push`](Self::try_push), [`try_push_str`](Self::try_push_str), [`try_insert`](Self::try_insert),
-///   [`try_insert_str`](Self::try_insert_str), [`replace_range`](Self::replace_range), and each piece that `write!` writes.
+/// - **Refused** by a call whose name begins with `try_` or `const_try_`, and by `parse`, [`replace_range`](Self::replace_range) and
+///   each piece of a `write!`. Then nothing has changed.
+/// - **Cut**, to the whole characters that fit, by all others. Beware of `from`, `into`, `collect`, and of std's `try_from`.
+///
+/// [The table](crate#what-cuts-and-what-refuses) has each call.
 ///
 /// A *boundary* is an index at which a character begins or the text ends. An index is *past* the
 /// text if it is greater than the length, and *inside* a character if it is less and no boundary.
@@ -95,20 +94,6 @@ mod unchecked;
 /// name.push_str(" and bo"); // adds what fits
 /// assert_eq!(name.as_str(), "ann and ");
 /// assert_eq!((name.len(), name.get(..3)), (8, Some("ann")));
-/// ```
-///
-/// # What else cuts or refuses
-///
-/// `collect`, `extend`, `+=`, `From<char>`, [`from_utf8_lossy`](Self::from_utf8_lossy) and std's
-/// `try_from` cut, too. [`const_try_from_str`](Self::const_try_from_str), [`try_from_format`](Self::try_from_format),
-/// [`try_format!`](crate::try_format), [`try_write`](Self::try_write), [`try_extend_chars`](Self::try_extend_chars) and
-/// [`try_extend_strs`](Self::try_extend_strs) refuse.
-///
-/// ```
-/// use arraystring::ArrayString;
-///
-/// assert_eq!(ArrayString::<2>::try_from("abc"), Ok("ab".into())); // cut
-/// assert!(ArrayString::<2>::const_try_from_str("abc").is_err()); // refused
 /// ```
 ///
 /// # Size
@@ -135,8 +120,10 @@ mod unchecked;
 /// assert_eq!((string.len(), at), (8u8, 3usize));
 /// assert_eq!(usize::from(string.len()) - at, 5);
 /// assert_eq!(&string.as_str()[at + 1..], "text"); // the index of `str` takes a usize
+/// assert_eq!((string.split_at(at).0, string.is_char_boundary(at)), ("key", true)); // and these of `str`, too
 /// let at = u8::try_from(at).unwrap();
-/// assert_eq!(&string[at + 1..], "text");
+/// assert_eq!((&string[at + 1..], string.get(..at)), ("text", Some("key")));
+/// assert_eq!((string.split_at(at.into()).0, string.is_char_boundary(at.into())), ("key", true));
 /// ```
 #[derive(Clone, Copy)]
 pub struct ArrayString<const N: usize> {

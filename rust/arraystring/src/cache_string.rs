@@ -98,7 +98,7 @@ impl CacheString {
     /// use arraystring::error::OutOfBounds;
     ///
     /// assert_eq!(CacheString::try_from_str("user:42").map(|key| key.0.len()), Ok(7));
-    /// assert_eq!(CacheString::try_from_str(&"m".repeat(64)), Err(OutOfBounds));
+    /// assert_eq!(CacheString::try_from_str("m".repeat(64)), Err(OutOfBounds));
     /// ```
     ///
     /// <details><summary>Contract</summary>
@@ -125,7 +125,7 @@ impl CacheString {
     /// use arraystring::CacheString;
     ///
     /// assert_eq!(CacheString::from_str_truncate("user:42").0.as_str(), "user:42");
-    /// assert_eq!(CacheString::from_str_truncate(&"é".repeat(32)).0.as_str(), "é".repeat(31));
+    /// assert_eq!(CacheString::from_str_truncate("é".repeat(32)).0.as_str(), "é".repeat(31));
     /// ```
     ///
     /// <details><summary>Contract</summary>
@@ -301,7 +301,7 @@ impl CacheString {
     ///
     /// assert_eq!(CacheString::try_from_utf8(b"user:42").map(|key| key.0.len()), Ok(7));
     /// assert_eq!(CacheString::try_from_utf8(b"user:\xFF"), Err(Error::Utf8));
-    /// assert_eq!(CacheString::try_from_utf8(&[b'm'; 64]), Err(Error::OutOfBounds));
+    /// assert_eq!(CacheString::try_from_utf8([b'm'; 64]), Err(Error::OutOfBounds));
     /// ```
     ///
     /// <details><summary>Contract</summary>
@@ -337,7 +337,7 @@ impl CacheString {
     /// use arraystring::CacheString;
     /// use arraystring::error::Utf8;
     ///
-    /// assert_eq!(CacheString::from_utf8(&[b'm'; 64]).map(|key| key.0.len()), Ok(63));
+    /// assert_eq!(CacheString::from_utf8([b'm'; 64]).map(|key| key.0.len()), Ok(63));
     /// assert_eq!(CacheString::from_utf8(b"user:\xFF"), Err(Utf8));
     /// ```
     ///
@@ -373,9 +373,9 @@ impl CacheString {
     /// ```
     /// use arraystring::{CacheString, Error};
     ///
-    /// assert_eq!(CacheString::try_from_utf16(&[0x61, 0xE9]).map(|key| key.0.len()), Ok(3));
-    /// assert_eq!(CacheString::try_from_utf16(&[0x61, 0xD83E]), Err(Error::Utf16)); // half a pair
-    /// assert_eq!(CacheString::try_from_utf16(&[0x61; 64]), Err(Error::OutOfBounds));
+    /// assert_eq!(CacheString::try_from_utf16([0x61, 0xE9]).map(|key| key.0.len()), Ok(3));
+    /// assert_eq!(CacheString::try_from_utf16([0x61, 0xD83E]), Err(Error::Utf16)); // half a pair
+    /// assert_eq!(CacheString::try_from_utf16([0x61; 64]), Err(Error::OutOfBounds));
     /// ```
     ///
     /// <details><summary>Contract</summary>
@@ -408,8 +408,8 @@ impl CacheString {
     /// use arraystring::CacheString;
     /// use arraystring::error::Utf16;
     ///
-    /// assert_eq!(CacheString::from_utf16(&[0x61; 64]).map(|key| key.0.len()), Ok(63));
-    /// assert_eq!(CacheString::from_utf16(&[0x61, 0xD83E]), Err(Utf16)); // half a pair
+    /// assert_eq!(CacheString::from_utf16([0x61; 64]).map(|key| key.0.len()), Ok(63));
+    /// assert_eq!(CacheString::from_utf16([0x61, 0xD83E]), Err(Utf16)); // half a pair
     /// ```
     ///
     /// <details><summary>Contract</summary>
@@ -435,8 +435,8 @@ impl CacheString {
     /// ```
     /// use arraystring::CacheString;
     ///
-    /// assert_eq!(CacheString::from_utf16_lossy(&[0x61, 0xD83E]).0.as_str(), "a\u{FFFD}");
-    /// assert_eq!(CacheString::from_utf16_lossy(&[0x61; 64]).0.len(), 63);
+    /// assert_eq!(CacheString::from_utf16_lossy([0x61, 0xD83E]).0.as_str(), "a\u{FFFD}");
+    /// assert_eq!(CacheString::from_utf16_lossy([0x61; 64]).0.len(), 63);
     /// ```
     ///
     /// <details><summary>Contract</summary>

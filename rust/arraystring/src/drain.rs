@@ -1,5 +1,5 @@
 // Proved sources: crates/arraystring_core/src/drain.rt
-//! `Drain`: the characters that were removed from a string, from both ends. `traits` has its impls of traits.
+//! `Drain`: the characters that were removed from a string, from both ends.
 
 use crate::access::str;
 
@@ -8,8 +8,28 @@ mod traits;
 /// An iterator over the characters that [`drain`](crate::ArrayString::drain) removed from a string. It returns each of them
 /// once, from the front or from the back, and borrows nothing.
 ///
-/// Contracts name the list of the characters that are left. A drain has a copy of the string's
-/// array, and takes no memory.
+/// A drain has a copy of the string's array, and allocates nothing. Contracts name the list of the
+/// characters that are left.
+///
+/// # What to write for `max`, `cmp` and `for`
+///
+/// A drain is an `Iterator`, and it is `Ord` and `Copy`, too. So some code does not compile, or does something else:
+///
+/// - `drained.max()` and `drained.min()` are ambiguous. Write `Iterator::max(drained)`.
+/// - `a.cmp(&b)` is that of `Iterator`, and does not compile. Write `Ord::cmp(&a, &b)`. The signs `<` and `==` are as usual.
+/// - `for ch in drained` walks a copy, so `drained` still has all. Write `for ch in &mut drained`.
+///
+/// ```
+/// use arraystring::ArrayString;
+///
+/// let mut drained = ArrayString::<4>::from("abc").drain(..).unwrap();
+/// assert_eq!(Iterator::max(drained), Some('c'));
+/// assert_eq!(Ord::cmp(&drained, &ArrayString::<4>::from("abd").drain(..).unwrap()), std::cmp::Ordering::Less);
+/// for _ in drained {}
+/// assert_eq!(drained.as_str(), "abc");
+/// for _ in &mut drained {}
+/// assert_eq!(drained.as_str(), "");
+/// ```
 ///
 /// # Examples
 ///

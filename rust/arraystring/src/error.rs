@@ -17,7 +17,7 @@ use core::str::Utf8Error;
 /// let mut string = ArrayString::<4>::from("é");
 /// assert_eq!(string.remove(1), Err(Error::Utf8));
 /// assert_eq!(string.remove(2), Err(Error::OutOfBounds));
-/// assert_eq!(ArrayString::<4>::try_from_utf16(&[0xD800]), Err(Error::Utf16));
+/// assert_eq!(ArrayString::<4>::try_from_utf16([0xD800]), Err(Error::Utf16));
 /// ```
 #[derive(Clone, Copy, PartialEq, Eq)]
 pub enum Error {
@@ -205,7 +205,8 @@ impl From<Utf8> for Error {
 /// ```
 /// use arraystring::Error;
 ///
-/// assert_eq!(std::str::from_utf8(b"a\xFF").map_err(Error::from), Err(Error::Utf8));
+/// let bytes = vec![b'a', 0xFF];
+/// assert_eq!(std::str::from_utf8(&bytes).map_err(Error::from), Err(Error::Utf8));
 /// ```
 ///
 /// <details><summary>Contract</summary>
@@ -264,7 +265,7 @@ impl Hash for Error {
 ///
 /// let mut string = ArrayString::<4>::from("é");
 /// assert_eq!(string.truncate(1), Err(Utf8));
-/// assert_eq!(ArrayString::<4>::from_utf8(&[0xFF]), Err(Utf8));
+/// assert_eq!(ArrayString::<4>::from_utf8([0xFF]), Err(Utf8));
 /// ```
 #[derive(Clone, Copy, Default, PartialEq, Eq)]
 pub struct Utf8;
@@ -341,7 +342,8 @@ impl StdError for Utf8 {}
 /// ```
 /// use arraystring::error::Utf8;
 ///
-/// assert_eq!(std::str::from_utf8(b"a\xFF").map_err(Utf8::from), Err(Utf8));
+/// let bytes = vec![b'a', 0xFF];
+/// assert_eq!(std::str::from_utf8(&bytes).map_err(Utf8::from), Err(Utf8));
 /// ```
 impl From<Utf8Error> for Utf8 {
     #[inline]
@@ -358,7 +360,7 @@ impl From<Utf8Error> for Utf8 {
 /// use arraystring::ArrayString;
 /// use arraystring::error::Utf16;
 ///
-/// assert_eq!(ArrayString::<4>::from_utf16(&[0xD800]), Err(Utf16));
+/// assert_eq!(ArrayString::<4>::from_utf16([0xD800]), Err(Utf16));
 /// ```
 #[derive(Clone, Copy, Default, PartialEq, Eq)]
 pub struct Utf16;

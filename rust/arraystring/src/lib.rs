@@ -3,7 +3,8 @@
 //!
 //! # Pages
 //!
-//! [`contracts`] says how to read a contract, and [`trust`] what is proved and what has to be trusted.
+//! [`features`] says what each feature adds, [`moving`] what to write in place of calls of other strings, [`contracts`] how to read a
+//! contract, and [`trust`] what is proved and what has to be trusted.
 #![no_std]
 #![cfg_attr(docsrs, feature(doc_cfg))]
 #![deny(unsafe_op_in_unsafe_fn, missing_docs)]
@@ -44,6 +45,12 @@ pub use drain::Drain;
 #[doc(inline)]
 pub use error::{Error, OutOfBounds, Utf8, Utf16};
 
+#[doc = include_str!("../FEATURES.md")]
+pub mod features {}
+
+#[doc = include_str!("../MOVING.md")]
+pub mod moving {}
+
 #[doc = include_str!("../TRUST.md")]
 pub mod trust {}
 
@@ -69,7 +76,14 @@ pub type SmallString = ArrayString<23>;
 /// ```
 pub type MaxString = ArrayString<255>;
 
-/// What most callers import.
+/// The names that the `prelude` of arraystring 0.3.0 has. [`Error`] is not among them: import it from the root.
+///
+/// ```
+/// use arraystring::Error;
+/// use arraystring::prelude::*;
+///
+/// assert_eq!(Error::from(OutOfBounds), Error::OutOfBounds);
+/// ```
 pub mod prelude {
     pub use crate::drain::Drain;
     pub use crate::error::{OutOfBounds, Utf8, Utf16};

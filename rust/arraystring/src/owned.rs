@@ -18,7 +18,8 @@ macro_rules! owned {
         /// ```
         /// use arraystring::{ArrayString, CacheString};
         ///
-        /// assert!(ArrayString::<4>::from("ab") == String::from("ab") && CacheString::from("ab") != String::from("b"));
+        /// let text = String::from("ab");
+        /// assert!(ArrayString::<4>::from("ab") == text && CacheString::from("b") != text);
         /// ```
         impl<$($generics)*> PartialEq<String> for $string {
             #[inline]
@@ -32,7 +33,8 @@ macro_rules! owned {
         /// ```
         /// use arraystring::{ArrayString, CacheString};
         ///
-        /// assert!(String::from("ab") == ArrayString::<4>::from("ab") && String::from("b") != CacheString::from("ab"));
+        /// let text = String::from("ab");
+        /// assert!(text == ArrayString::<4>::from("ab") && text != CacheString::from("b"));
         /// ```
         impl<$($generics)*> PartialEq<$string> for String {
             #[inline]
@@ -47,7 +49,8 @@ macro_rules! owned {
         /// use arraystring::{ArrayString, CacheString};
         /// use std::borrow::Cow;
         ///
-        /// assert!(ArrayString::<4>::from("ab") == Cow::from("ab") && CacheString::from("ab") != Cow::from("b"));
+        /// let text: Cow<str> = "ab".into();
+        /// assert!(ArrayString::<4>::from("ab") == text && CacheString::from("b") != text);
         /// ```
         impl<'a, $($generics)*> PartialEq<Cow<'a, str>> for $string {
             #[inline]
@@ -62,7 +65,8 @@ macro_rules! owned {
         /// use arraystring::{ArrayString, CacheString};
         /// use std::borrow::Cow;
         ///
-        /// assert!(Cow::from("ab") == ArrayString::<4>::from("ab") && Cow::from("b") != CacheString::from("ab"));
+        /// let text: Cow<str> = "ab".into();
+        /// assert!(text == ArrayString::<4>::from("ab") && text != CacheString::from("b"));
         /// ```
         impl<'a, $($generics)*> PartialEq<$string> for Cow<'a, str> {
             #[inline]

@@ -117,6 +117,10 @@ macro_rules! tables {
                     ("extend of `Cow<str>`", false, |string, text| {
                         Ok(string.extend(behind_empty_ones(text).into_iter().map(std::borrow::Cow::from)))
                     }),
+                    ("write_truncated", false, |string, text| {
+                        let [front, back] = halves(text);
+                        Ok(_ = string.write_truncated(format_args!("{front}{back}"))?)
+                    }),
                     ("insert_str", false, |string, text| { let end = string.len(); string.insert_str(end, text) }),
                     ("try_push_str", true, |string, text| Ok(string.try_push_str(text)?)),
                     ("try_insert_str", true, |string, text| { let end = string.len(); string.try_insert_str(end, text) }),

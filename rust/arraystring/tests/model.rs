@@ -297,7 +297,9 @@ impl<const N: usize> Pair<N> {
             }
             6 => {
                 let row = format!("{text}{ch}{text}");
-                let fits = self.room() >= row.len();
+                let (fits, mut truncated) = (self.room() >= row.len(), self.string);
+                assert_eq!(truncated.write_truncated(format_args!("{text}{ch}{text}")), Ok(!fits));
+                assert_eq!(truncated, *format!("{}{}", self.model, cut(&row, self.room())));
                 assert_eq!(self.string.try_write(format_args!("{text}{ch}{text}")).is_ok(), fits);
                 self.model.extend(fits.then_some(row));
                 "try_write"

@@ -1,5 +1,5 @@
 //! Moving from the Rust crate 0.3.0: each public call of it that is here, by its name and signature, the examples of the table of
-//! moves in README.md, which says of the others what to write, and those of the faults in docs/differences.md. Then the tables of
+//! moves in MOVING.md, which says of the others what to write, and those of the faults in docs/differences.md. Then the tables of
 //! moves from arrayvec, heapless and `String`: what is said of `String` and of this crate is run.
 
 use std::fmt::{Debug, Display, Write};
@@ -100,12 +100,14 @@ fn the_calls_of_a_cache_string() {
 fn the_constants() {
     const TEXT: Text = Text::new();
     const SIZES: (u8, u8, bool) = (Text::capacity(), TEXT.len(), TEXT.is_empty());
+    const ROOM: (u8, bool) = (TEXT.remaining_capacity(), TEXT.is_full());
     const NONE: ArrayString<0> = ArrayString::new();
     const LARGE: ArrayString<300> = ArrayString::new();
     const ENDS: [u8; 4] = [NONE.len(), ArrayString::<0>::capacity(), LARGE.len(), ArrayString::<300>::capacity()];
     const CACHED: CacheString = CacheString::new();
     const HELD: (u8, u8, bool) = (CacheString::capacity(), CACHED.0.len(), CACHED.0.is_empty());
     static SHARED: (Text, CacheString) = (Text::new(), CacheString::new());
+    assert_eq!(ROOM, (23, false));
     assert_eq!((SIZES, ENDS, HELD), ((23, 0, true), [0, 0, 0, 255], (63, 0, true)));
     assert_eq!((SHARED.0.as_str(), SHARED.1.as_str(), TEXT == SHARED.0, CACHED == SHARED.1), ("", "", true, true));
     assert_eq!((NONE.as_str(), LARGE.as_str()), ("", ""));
@@ -463,6 +465,10 @@ fn what_does_not_compile_is_written_in_another_way() -> Result<(), Box<dyn std::
     s = Name::from("ab");
     written!(table.row("s.push_str(\"c\").unwrap()"), WRITTEN, s.try_push_str("c").unwrap());
     assert_eq!(s, "abc");
+    let row = table.row("s.try_push_str(\"cde\").map_err(CapacityError::element)");
+    assert_eq!(written!(row, WRITTEN, s.try_push_str("cde").or(Err("cde"))), Err("cde"));
+    written!(table.row("s.try_push_str(\"c\")?"), WRITTEN, s.try_push_str("c").map_err(Error::from)?);
+    assert_eq!(s, "abcc");
     makes_are_written_in_another_way(&mut table, at)?;
     s = Name::from("ab");
     assert_eq!(written!(table.row("s.capacity()"), WRITTEN, Name::capacity()), 4);
@@ -509,7 +515,8 @@ fn makes_are_written_in_another_way(table: &mut Table, at: usize) -> Result<(), 
     let text = String::from("ab");
     let row = table.row("Name::from(\"ab\").unwrap()");
     assert_eq!(written!(row, WRITTEN, Name::try_from_str("ab").unwrap()), "ab");
-    assert_eq!(written!(table.row("Name::from(text)"), WRITTEN, Name::try_from_str(&text)?), "ab");
+    assert_eq!(written!(table.row("Name::from(text)"), WRITTEN, Name::try_from_str(text.as_str())?), "ab");
+    assert_eq!(written!(table.row("text.into()"), WRITTEN, Name::try_from_str(text)?), "ab");
     assert_eq!(written!(table.row("Name::new_const()"), WRITTEN, Name::new()), "");
     assert_eq!(written!(table.row("Name::with_capacity(at)"), WRITTEN, Name::new()), "");
     let row = table.row("Name::from_byte_string(b\"abcd\")");

@@ -124,7 +124,8 @@ fn what_became_of_a_precondition_replaces_it() {
 /// The lines of documentation.
 fn documentation() -> Vec<(String, String)> {
     let mut lines = Vec::new();
-    let pages = ["README.md", "TRUST.md"].map(|page| (page.to_string(), fs::read_to_string(page).expect("a text")));
+    let pages = ["README.md", "FEATURES.md", "MOVING.md", "TRUST.md"]
+        .map(|page| (page.to_string(), fs::read_to_string(page).expect("a text")));
     for (file, text) in files(Path::new("src")).into_iter().chain(pages) {
         let is_page = file.ends_with(".md");
         let is_shown = |line: &&str| is_page || ["///", "//!"].iter().any(|sign| line.trim_start().starts_with(sign));
@@ -182,7 +183,7 @@ fn casts(line: &str) -> bool {
 #[test]
 fn no_example_and_no_page_converts_by_a_cast() {
     let mut lines = documentation();
-    let more = ["README.md", "TRUST.md", "CHANGELOG.md"]
+    let more = ["README.md", "FEATURES.md", "MOVING.md", "TRUST.md", "CHANGELOG.md"]
         .map(|page| (page.to_string(), fs::read_to_string(page).expect("a text")));
     let more = files(Path::new("examples")).into_iter().chain(more).chain(pages_of_the_repository());
     lines.extend(
@@ -385,7 +386,7 @@ fn is_path(code: &str) -> bool {
 fn a_page_says_of_a_file_that_the_package_lacks_where_it_is() {
     let folders = ["crates/", "docs/", "rust/"];
     let mut count = 0;
-    for page in ["README.md", "TRUST.md", "CHANGELOG.md"] {
+    for page in ["README.md", "FEATURES.md", "MOVING.md", "TRUST.md", "CHANGELOG.md"] {
         let text = fs::read_to_string(page).expect("a text");
         let words: Vec<_> = text.split_whitespace().collect();
         let says_of_folders =

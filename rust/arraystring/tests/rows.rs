@@ -1,11 +1,11 @@
 //! Rows of several pieces: `try_write` takes one whole or leaves the text as it was, also where a `Display` in it fails or panics,
-//! and `write!` keeps what came before the piece that is refused.
+//! `write!` keeps what came before the piece that is refused, and `write_truncated` takes the longest prefix, and says whether it cut.
 
 use std::fmt::{self, Display, Write};
 use std::panic::{AssertUnwindSafe, catch_unwind, resume_unwind};
 
 use arraystring::{ArrayString, CacheString};
-use inputs::{at_capacities, behind};
+use inputs::{at_capacities, behind, capacity, cut, edges};
 
 mod inputs;
 
@@ -68,6 +68,20 @@ impl Row<'_> {
         }
         (text, self.stopped(self.pieces.len()).unwrap_or(end))
     }
+
+    /// What is taken of it where it is cut to so many bytes, and what is returned, or that it panics.
+    fn truncated(&self, room: usize) -> (String, Option<Result<bool, fmt::Error>>) {
+        let (stop, end) = self.stop.unwrap_or((self.pieces.len(), End::Whole));
+        let printed = self.pieces[..stop].concat();
+        let kept = cut(&printed, room);
+        let is_cut = kept.len() < printed.len();
+        match end {
+            // (behind a cut it does not come so far, unless it goes on)
+            End::Panicked if !is_cut || self.goes_on => (String::new(), None),
+            End::Failed if !is_cut => (String::new(), Some(Err(fmt::Error))),
+            _ => (kept.to_string(), Some(Ok(is_cut))),
+        }
+    }
 }
 
 impl Display for Row<'_> {
@@ -84,7 +98,7 @@ impl Display for Row<'_> {
 }
 
 /// Makes a call, and returns `None` where it panics.
-fn unless_it_panics(call: impl FnOnce() -> fmt::Result) -> Option<fmt::Result> {
+fn unless_it_panics<T>(call: impl FnOnce() -> T) -> Option<T> {
     catch_unwind(AssertUnwindSafe(call)).ok()
 }
 
@@ -109,6 +123,20 @@ fn is_whole_or_not_at_all<const N: usize>(string: &ArrayString<N>, row: Row) {
     let mut written = *string;
     assert_eq!(unless_it_panics(|| write!(written, "{row}")), result, "{}", told());
     assert_eq!(written, *format!("{before}{taken}"), "{}", told());
+    is_cut_and_says_so(string, row);
+}
+
+/// Asserts what a string takes of a row that is cut, that the room is what is left, and that nothing but the end was written.
+fn is_cut_and_says_so<const N: usize>(string: &ArrayString<N>, row: Row) {
+    let (before, mut truncated) = (string.as_str(), *string);
+    let (taken, result) = row.truncated(capacity::<N>() - before.len());
+    let told = || format!("{N}: {before:?} and {row:?}");
+    assert_eq!(unless_it_panics(|| truncated.write_truncated(format_args!("{row}"))), result, "{}", told());
+    let after = format!("{before}{taken}");
+    assert_eq!((truncated.as_str(), truncated.len() as usize), (&*after, after.len()), "{}", told());
+    let room = "m".repeat(capacity::<N>() - after.len());
+    assert!(truncated.try_push_str(&room).is_ok() && truncated.is_full(), "{}", told());
+    assert_eq!(truncated.as_str(), after + &room, "{}", told());
 }
 
 /// Each way of two pieces to stop, and none.
@@ -176,9 +204,9 @@ fn wide_pieces_are_cut_at_no_place() {
         for before in texts(N.min(20)) {
             let string = behind::<N>((N - before.len()).min(1), &before);
             for first in ["", "a", "é", "€", "🤔", "aé", "é€🤔"] {
-                for second in ["é", "€", "🤔", "🤔é"] {
-                    for stop in STOPS {
-                        is_whole_or_not_at_all(&string, Row { pieces: &[first, second], stop, goes_on: false });
+                for second in ["a", "é", "€", "🤔", "🤔é"] {
+                    for (stop, goes_on) in STOPS.into_iter().flat_map(|stop| [(stop, false), (stop, true)]) {
+                        is_whole_or_not_at_all(&string, Row { pieces: &[first, second], stop, goes_on });
                     }
                 }
             }
@@ -206,7 +234,38 @@ fn long_pieces_fill_long_strings() {
     at::<300>(&[0, 1, 254, 255]);
 }
 
-/// Asserts that a string takes the arguments as a `String` does if there is room, and else stays.
+/// Calls a generic check at each capacity to 255, and at two of which 255 bytes are used.
+macro_rules! at_each_capacity {
+    ($check:ident: $($tens:literal)*) => {
+        $(at_each_capacity!($check, $tens, 0 1 2 3 4 5 6 7 8 9 10 11 12 13 14 15);)*
+    };
+    ($check:ident, $tens:literal, $($ones:literal)*) => {
+        $($check::<{ 16 * $tens + $ones }>();)*
+    };
+}
+
+#[test]
+fn what_is_cut_at_each_capacity_and_each_offset() {
+    fn at<const N: usize>() {
+        for before in edges(capacity::<N>()).into_iter().filter(|before| *before <= capacity::<N>()) {
+            let room = capacity::<N>() - before;
+            for offset in 0..=room {
+                let string = behind::<N>(offset, &"m".repeat(before));
+                let first = "a".repeat(room.saturating_sub(2));
+                for pieces in [["🤔", "b"], ["é", "b"], ["b", "€"], ["", "b"]] {
+                    let pieces = [&first, pieces[0], pieces[1], "c"];
+                    is_cut_and_says_so(&string, Row { pieces: &pieces, stop: None, goes_on: offset % 2 == 0 });
+                }
+                is_cut_and_says_so(&string, Row::of(&[&first, "dd"]));
+            }
+        }
+    }
+    at_each_capacity!(at: 0 1 2 3 4 5 6 7 8 9 10 11 12 13 14 15);
+    at::<256>();
+    at::<1000>();
+}
+
+/// Asserts that a string takes the arguments as a `String` does if there is room, and else stays; and that a prefix of them is cut.
 fn is_formatted<const N: usize>(arguments: fmt::Arguments) {
     let printed = arguments.to_string();
     for before in 0..=N {
@@ -214,6 +273,9 @@ fn is_formatted<const N: usize>(arguments: fmt::Arguments) {
         let mut string = behind::<N>((N - before).min(1), &text);
         let fits = before + printed.len() <= N;
         assert_eq!(string.try_write(arguments).is_ok(), fits, "{N} {before} {printed}");
+        let mut truncated = behind::<N>((N - before).min(1), &text);
+        assert_eq!(truncated.write_truncated(arguments), Ok(!fits), "{N} {before} {printed}");
+        assert_eq!(truncated.as_str(), text.clone() + cut(&printed, N - before), "{N} {before} {printed}");
         assert_eq!(string.as_str(), if fits { text + &printed } else { text }, "{N} {before} {printed}");
     }
 }
@@ -238,7 +300,25 @@ fn a_cache_string_takes_a_row_too() {
         let mut key = CacheString::from("m".repeat(before).as_str());
         assert_eq!(key.try_write(format_args!("{}:{}", "user", 427)).is_ok(), fits);
         assert_eq!(key.as_str(), "m".repeat(before) + if fits { "user:427" } else { "" });
+        let mut key = CacheString::from("m".repeat(before).as_str());
+        assert_eq!(key.write_truncated(format_args!("{}:{}", "user", 427)), Ok(!fits));
+        assert_eq!(key.as_str(), "m".repeat(before) + if fits { "user:427" } else { "user:42" });
     }
+}
+
+#[test]
+fn a_display_without_an_end_is_cut() {
+    struct Endless;
+    impl Display for Endless {
+        fn fmt(&self, f: &mut fmt::Formatter<'_>) -> fmt::Result {
+            loop {
+                f.write_str("é")?;
+            }
+        }
+    }
+    let mut line = ArrayString::<8>::from("x");
+    assert_eq!(line.write_truncated(format_args!("{Endless}")), Ok(true));
+    assert_eq!(line, "xééé");
 }
 
 #[test]
@@ -247,4 +327,6 @@ fn a_row_is_written_after_one_that_panicked() {
     let row = Row { pieces: &["abc", "def"], stop: Some((2, End::Panicked)), goes_on: false };
     assert_eq!(unless_it_panics(|| line.try_write(format_args!("{row}{row}"))), None);
     assert_eq!((line.try_write(format_args!("{}-{}", 1, 2)), line.as_str()), (Ok(()), "x1-2"));
+    assert_eq!(unless_it_panics(|| line.write_truncated(format_args!("{row}"))), Some(Ok(true)));
+    assert_eq!(line, "x1-2abcd");
 }

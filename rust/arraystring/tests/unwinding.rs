@@ -440,6 +440,11 @@ fn an_iterator_panics_at_each_call_on_every_string() {
                     made += case.each(name("try_write"), &none, |string| {
                         panics(|| string.try_write(format_args!("{}", Written(&items[..stops]))))
                     });
+                    // What is cut before the panic is not taken back.
+                    let cut = if left.0 { &none } else { &left };
+                    made += case.each(name("write_truncated"), cut, |string| {
+                        panics(|| string.write_truncated(format_args!("{}", Written(&items[..stops]))))
+                    });
                     made += case
                         .each(name("try_extend_chars"), &none, |string| panics(|| string.try_extend_chars(chars())));
                     made +=
@@ -450,7 +455,7 @@ fn an_iterator_panics_at_each_call_on_every_string() {
             }
         }
         let panics: usize = texts.iter().map(|given| length(given) + 1).sum();
-        (made, 8 * total::<N>() * panics)
+        (made, 9 * total::<N>() * panics)
     }
     at_each_capacity!(added);
 }

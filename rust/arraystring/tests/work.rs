@@ -88,7 +88,7 @@ fn appended<const N: usize>() {
         for given in given(&string) {
             let (given, (front, back)) = (given.as_str(), given.split_at(cut(&given, given.len() / 2).len()));
             let kept = cut(given, room);
-            let cutting: [(&str, Edit<N>); 9] = [
+            let cutting: [(&str, Edit<N>); 11] = [
                 ("push_str", &|string| string.push_str(given)),
                 ("+=", &|string| *string += given),
                 ("+", &|string| *string = std::ops::Add::add(*string, given)),
@@ -98,6 +98,8 @@ fn appended<const N: usize>() {
                 ("extend_strs of two", &|string| string.extend_strs([front, back])),
                 ("extend of texts", &|string| string.extend([front, back])),
                 ("extend_strs of characters", &|string| string.extend_strs(given.chars().map(|ch| ch.to_string()))),
+                ("write_truncated", &|string| _ = string.write_truncated(format_args!("{given}"))),
+                ("write_truncated of two", &|string| _ = string.write_truncated(format_args!("{front}{back}"))),
             ];
             put(&string, len, 0, kept, &cutting);
             let refusing: [(&str, Edit<N>); 5] = [

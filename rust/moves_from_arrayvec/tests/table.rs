@@ -1,9 +1,9 @@
-//! The column of arrayvec in the tables of moves of `rust/arraystring/README.md`. The other columns are run by tests/moves.rs there.
+//! The column of arrayvec in the tables of moves of `rust/arraystring/MOVING.md`. The other columns are run by tests/moves.rs there.
 
 use std::marker::PhantomData;
 use std::ops::AddAssign;
 
-use arrayvec::ArrayString;
+use arrayvec::{ArrayString, CapacityError};
 use page::{Table, made, outcome};
 
 #[path = "../../arraystring/tests/inputs/page.rs"]
@@ -81,6 +81,20 @@ macro_rules! is_of {
     }};
 }
 
+/// An error type of one's own.
+struct Refused;
+
+impl From<CapacityError<&str>> for Refused {
+    fn from(_: CapacityError<&str>) -> Self {
+        Refused
+    }
+}
+
+fn is_refused_as_its_own(table: &mut Table, s: &mut Name) -> Result<(), Refused> {
+    is_of!(table, "arrayvec", s.try_push_str("c")?);
+    Ok(())
+}
+
 #[test]
 fn what_does_not_compile_beside_it_compiles_here() {
     let mut table = Table::below("| Code | Of | Here |");
@@ -89,8 +103,11 @@ fn what_does_not_compile_beside_it_compiles_here() {
     table.row("s.insert(1, 'c')").says(0, "String");
     table.row("s.push_str(\"c\").unwrap()").says(0, "heapless");
     let () = s.push_str("c");
+    assert_eq!(is_of!(table, "arrayvec", s.try_push_str("cde").map_err(CapacityError::element)), Err("cde"));
+    assert!(is_refused_as_its_own(&mut table, &mut s).is_ok());
     s = is_of!(table, "arrayvec", Name::from("ab").unwrap());
     table.row("Name::from(text)").says(0, "String");
+    table.row("text.into()").says(0, "String");
     assert_eq!(is_of!(table, "arrayvec", Name::new_const()).as_str(), "");
     table.row("Name::with_capacity(at)").says(0, "String");
     assert_eq!(is_of!(table, "arrayvec", Name::from_byte_string(b"abcd")).as_deref(), Ok("abcd"));

@@ -284,8 +284,8 @@ impl<const N: usize> ArrayString<N> {
     /// ```
     /// use arraystring::{ArrayString, Error};
     ///
-    /// assert_eq!(ArrayString::<4>::try_from_utf8(&[0xC3, 0xA9]), Ok(ArrayString::from("é")));
-    /// assert_eq!(ArrayString::<4>::try_from_utf8(&[0xC3]), Err(Error::Utf8));
+    /// assert_eq!(ArrayString::<4>::try_from_utf8([0xC3, 0xA9]), Ok(ArrayString::from("é")));
+    /// assert_eq!(ArrayString::<4>::try_from_utf8([0xC3]), Err(Error::Utf8));
     /// assert_eq!(ArrayString::<4>::try_from_utf8(b"abcde"), Err(Error::OutOfBounds));
     /// ```
     ///
@@ -330,7 +330,7 @@ impl<const N: usize> ArrayString<N> {
     /// use arraystring::ArrayString;
     /// use arraystring::error::Utf8;
     ///
-    /// assert_eq!(ArrayString::<4>::from_utf8(&[b'a', 0xC3, 0xA9]), Ok(ArrayString::from("aé")));
+    /// assert_eq!(ArrayString::<4>::from_utf8([b'a', 0xC3, 0xA9]), Ok(ArrayString::from("aé")));
     /// assert_eq!(ArrayString::<4>::from_utf8(b"abcde"), Ok(ArrayString::from("abcd")));
     /// assert_eq!(ArrayString::<4>::from_utf8(b"abcd\xFF"), Err(Utf8));
     /// ```

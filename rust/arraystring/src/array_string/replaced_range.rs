@@ -28,7 +28,8 @@ impl<const N: usize> ArrayString<N> {
     /// let mut string = ArrayString::<8>::from("abcdé");
     /// assert_eq!(string.replace_range(1..3, "éx"), Ok(()));
     /// assert_eq!(string.as_str(), "aéxdé");
-    /// assert_eq!(string.replace_range(2..1, ""), Err(Error::OutOfBounds)); // end before start
+    /// let (start, end) = (2, 1);
+    /// assert_eq!(string.replace_range(start..end, ""), Err(Error::OutOfBounds)); // end before start
     /// assert_eq!(string.replace_range(..1, "abc"), Err(Error::OutOfBounds)); // nine bytes
     /// assert_eq!(string.replace_range(2.., ""), Err(Error::Utf8)); // inside `é`
     /// ```

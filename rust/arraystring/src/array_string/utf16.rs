@@ -24,9 +24,9 @@ impl<const N: usize> ArrayString<N> {
     /// use arraystring::{ArrayString, Error};
     ///
     /// let units = [0x61, 0xD83E, 0xDD14]; // `a`, and the pair of `🤔`
-    /// assert_eq!(ArrayString::<8>::try_from_utf16(&units), Ok(ArrayString::from("a🤔")));
+    /// assert_eq!(ArrayString::<8>::try_from_utf16(units), Ok(ArrayString::from("a🤔")));
     /// assert_eq!(ArrayString::<8>::try_from_utf16(&units[..2]), Err(Error::Utf16)); // half a pair
-    /// assert_eq!(ArrayString::<4>::try_from_utf16(&units), Err(Error::OutOfBounds)); // five bytes
+    /// assert_eq!(ArrayString::<4>::try_from_utf16(units), Err(Error::OutOfBounds)); // five bytes
     /// ```
     ///
     /// <details><summary>Contract</summary>
@@ -66,8 +66,8 @@ impl<const N: usize> ArrayString<N> {
     /// use arraystring::error::Utf16;
     ///
     /// let units = [0x61, 0xD83E, 0xDD14]; // `a`, and the pair of `🤔`
-    /// assert_eq!(ArrayString::<8>::from_utf16(&units), Ok(ArrayString::from("a🤔")));
-    /// assert_eq!(ArrayString::<4>::from_utf16(&units), Ok(ArrayString::from("a"))); // not `🤔`
+    /// assert_eq!(ArrayString::<8>::from_utf16(units), Ok(ArrayString::from("a🤔")));
+    /// assert_eq!(ArrayString::<4>::from_utf16(units), Ok(ArrayString::from("a"))); // not `🤔`
     /// assert_eq!(ArrayString::<4>::from_utf16(&units[..2]), Err(Utf16)); // half a pair
     /// ```
     ///
@@ -100,8 +100,8 @@ impl<const N: usize> ArrayString<N> {
     /// use arraystring::ArrayString;
     ///
     /// let units = [0x61, 0xD83E, 0x62]; // half a pair between `a` and `b`
-    /// assert_eq!(ArrayString::<8>::from_utf16_lossy(&units).as_str(), "a\u{FFFD}b");
-    /// assert_eq!(ArrayString::<4>::from_utf16_lossy(&units).as_str(), "a\u{FFFD}");
+    /// assert_eq!(ArrayString::<8>::from_utf16_lossy(units).as_str(), "a\u{FFFD}b");
+    /// assert_eq!(ArrayString::<4>::from_utf16_lossy(units).as_str(), "a\u{FFFD}");
     /// ```
     ///
     /// <details><summary>Contract</summary>

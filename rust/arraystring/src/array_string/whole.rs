@@ -1,5 +1,5 @@
 // By hand: no proof stands behind this file.
-//! What is appended whole or not at all: what a format prints, and what an iterator gives.
+//! What is appended whole or not at all: what a format prints, and what an iterator gives. And what a format prints, cut.
 #![deny(unsafe_code)]
 
 use core::fmt::{self, Write};
@@ -8,7 +8,7 @@ use core::mem;
 use crate::ArrayString;
 use crate::error::OutOfBounds;
 
-/// Appends of all or nothing.
+/// Appends of all or nothing, and one that says whether it cut.
 impl<const N: usize> ArrayString<N> {
     /// Appends what a format prints, whole or not at all. A `write!` is refused piece by piece, and keeps the pieces before the
     /// one that does not fit.
@@ -45,6 +45,42 @@ impl<const N: usize> ArrayString<N> {
         }
         row.keep();
         Ok(())
+    }
+
+    /// Appends what a format prints, **cut** to the longest prefix of whole characters that fits. Returns whether something was cut
+    /// off.
+    ///
+    /// Nothing is added behind the cut, also where a later piece would fit. The format is told of the cut by an error, so it stops
+    /// there.
+    ///
+    /// # Errors
+    ///
+    /// Returns `Err(fmt::Error)` if a `Display` in it fails before anything is cut off. The text is then unchanged. It is so, too,
+    /// where a `Display` panics.
+    ///
+    /// # Examples
+    ///
+    /// ```
+    /// use arraystring::ArrayString;
+    ///
+    /// let mut line = ArrayString::<8>::from("x");
+    /// assert_eq!(line.write_truncated(format_args!("{}-{}", 12, "é")), Ok(false)); // all of it fits
+    /// assert_eq!(line, "x12-é");
+    /// assert_eq!(line.write_truncated(format_args!("{}{}", "ü€", '.')), Ok(true)); // no `.` behind the cut
+    /// assert_eq!(line, "x12-éü");
+    /// ```
+    #[doc(alias = "write_fmt")]
+    #[inline]
+    pub fn write_truncated(&mut self, arguments: fmt::Arguments<'_>) -> Result<bool, fmt::Error> {
+        let mut prefix = Prefix(Row::behind(self));
+        let written = prefix.write_fmt(arguments);
+        let Prefix(row) = prefix;
+        let is_cut = !row.is_whole;
+        if !is_cut {
+            written?;
+        }
+        row.keep();
+        Ok(is_cut)
     }
 
     /// Appends all characters of an iterator, or none. [`extend_chars`](Self::extend_chars) keeps those that fit.
@@ -112,9 +148,12 @@ struct Row<'a, const N: usize> {
     string: &'a mut ArrayString<N>,
     /// The length of the text before it.
     len: u8,
-    /// Whether no piece was refused: a `Display` may pass over that, and be `Ok`.
+    /// Whether no piece was refused or cut: a `Display` may pass over that, and be `Ok`.
     is_whole: bool,
 }
+
+/// A row that is cut at the first piece that does not fit.
+struct Prefix<'a, const N: usize>(Row<'a, N>);
 
 impl<'a, const N: usize> Row<'a, N> {
     /// A row without text behind a string.
@@ -136,6 +175,18 @@ impl<const N: usize> Write for Row<'_, N> {
         let written = self.string.write_str(piece);
         self.is_whole &= written.is_ok();
         written
+    }
+}
+
+impl<const N: usize> Write for Prefix<'_, N> {
+    #[inline]
+    fn write_str(&mut self, piece: &str) -> fmt::Result {
+        let Prefix(row) = self;
+        if row.is_whole {
+            row.is_whole = piece.len() <= usize::from(row.string.remaining_capacity());
+            row.string.push_str(piece);
+        }
+        if row.is_whole { Ok(()) } else { Err(fmt::Error) }
     }
 }
 

@@ -71,12 +71,13 @@ fn a_cache_string_is_made_of_a_text_of_each_length() {
 fn is_added<const N: usize>(before: &str, given: &str) {
     let room = capacity::<N>() - before.len();
     let string = behind::<N>(room / 2, before);
-    let (mut by_sign, mut by_call, mut refused, mut written) = (string, string, string, string);
+    let [mut by_sign, mut by_call, mut truncated, mut refused, mut written] = [string; 5];
     by_sign += given;
     by_call.push_str(given);
+    assert_eq!(truncated.write_truncated(format_args!("{given}")), Ok(given.len() > room), "{before:?} and {given:?}");
     let returned = [refused.try_push_str(given).is_ok(), written.try_write(format_args!("{given}")).is_ok()];
     are_left(
-        [by_sign.as_str(), by_call.as_str()],
+        [by_sign.as_str(), by_call.as_str(), truncated.as_str()],
         [refused.as_str(), written.as_str()],
         returned,
         (before, given),
@@ -85,7 +86,7 @@ fn is_added<const N: usize>(before: &str, given: &str) {
 }
 
 /// Asserts what is left of a text and what is returned where there was so much room.
-fn are_left(cuts: [&str; 2], wholes: [&str; 2], returned: [bool; 2], (before, given): (&str, &str), room: usize) {
+fn are_left(cuts: [&str; 3], wholes: [&str; 2], returned: [bool; 2], (before, given): (&str, &str), room: usize) {
     let fits = given.len() <= room;
     let added = cut(given, room);
     assert!(cuts.iter().all(|left| left.strip_prefix(before) == Some(added)), "{before:?} and {given:?}");

@@ -6,7 +6,7 @@ use std::fmt::{self, Display, Write};
 
 use arraystring::CacheString;
 
-use crate::inputs::{CHARS, GIVEN, at_capacities, behind, capacity, edges, letters, texts_of};
+use crate::inputs::{CHARS, GIVEN, at_capacities, behind, capacity, cut, edges, letters, texts_of};
 
 /// How a piece is printed.
 #[derive(Clone, Copy, Debug, PartialEq)]
@@ -73,6 +73,27 @@ impl<'a> Row<'a> {
         assert_eq!(*self.noted.borrow(), noted, "{before:?} and {self:?}");
     }
 
+    /// Asserts the same of a row that is cut.
+    fn left_cut(&self, returned: Result<bool, fmt::Error>, left: &str, before: &str, capacity: usize) {
+        let (room, all) = (capacity - before.len(), self.writes().concat());
+        let is_cut = all.len() > room;
+        let (added, wanted) = match self.fails && !is_cut {
+            true => ("", Err(fmt::Error)),
+            false => (cut(&all, room), Ok(is_cut)),
+        };
+        assert_eq!((left.strip_prefix(before), returned), (Some(added), wanted), "{before:?} and {self:?}");
+        // Each write up to the cut is taken, and none from there on.
+        let ends = self.writes().into_iter().scan(0, |end, write| {
+            *end += write.len();
+            Some(*end)
+        });
+        let mut noted: Vec<_> = ends.map(|end| end <= room).collect();
+        if self.keeps_errors {
+            noted.truncate(noted.iter().take_while(|fits| **fits).count() + 1);
+        }
+        assert_eq!(*self.noted.borrow(), noted, "{before:?} and {self:?}");
+    }
+
     /// Notes what a write returned, and says whether it is kept.
     fn after(&self, written: fmt::Result) -> fmt::Result {
         self.noted.borrow_mut().push(written.is_ok());
@@ -94,15 +115,17 @@ impl Display for Row<'_> {
     }
 }
 
-/// Asserts what a string takes of a row, by `try_write` and by `write!`.
+/// Asserts what a string takes of a row, by `try_write`, by `write!` and by `write_truncated`.
 macro_rules! is_printed {
     ($string:expr, $capacity:expr, $row:expr) => {{
         let (string, row): (_, &Row) = ($string, $row);
-        let (mut tried, mut written) = (string, string);
+        let (mut tried, mut written, mut truncated) = (string, string, string);
         let returned = tried.try_write(format_args!("{row}"));
         row.left(returned, tried.as_str(), string.as_str(), $capacity, true);
         let returned = written.write_fmt(format_args!("{row}"));
         row.left(returned, written.as_str(), string.as_str(), $capacity, false);
+        let returned = truncated.write_truncated(format_args!("{row}"));
+        row.left_cut(returned, truncated.as_str(), string.as_str(), $capacity);
     }};
 }
 

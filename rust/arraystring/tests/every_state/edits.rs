@@ -1,7 +1,7 @@
 //! The calls that change a string, and no range.
 
 use std::cell::RefCell;
-use std::fmt::Write;
+use std::fmt::{self, Display, Write};
 
 use arraystring::ArrayString;
 
@@ -105,11 +105,17 @@ fn additions_of_a_text() {
                 }
                 if whole.0.is_ok() {
                     // SAFETY: the text fits.
-                    made += case.each(name("push_str_unchecked"), &((), whole.1), |string| unsafe {
+                    made += case.each(name("push_str_unchecked"), &((), whole.1.clone()), |string| unsafe {
                         string.push_str_unchecked(given);
                     });
                 }
                 let cut = case.wanted(|model| model.push_str(given));
+                for (front, back) in halves(given) {
+                    let truncated = (Ok(whole.0.is_err()), cut.1.clone());
+                    made += case.each(("write_truncated", front, back), &truncated, |string| {
+                        string.write_truncated(format_args!("{front}{back}"))
+                    });
+                }
                 made += case.each(name("push_str"), &cut, |string| string.push_str(given));
                 made += case.each(name("+"), &cut, |string| *string = *string + given);
                 made += case.each(name("+="), &cut, |string| *string += given);
@@ -119,7 +125,7 @@ fn additions_of_a_text() {
             }
         }
         let halves: usize = texts.iter().map(|given| length(given) + 1).sum();
-        (made, total::<N>(&WIDTHS) * (7 * texts.len() + halves) + fitting::<N>())
+        (made, total::<N>(&WIDTHS) * (7 * texts.len() + 2 * halves) + fitting::<N>())
     }
     at_each_capacity!(added);
 }
@@ -144,6 +150,16 @@ pub fn piece_counts(size: usize) -> usize {
     ways.iter().sum()
 }
 
+/// Prints pieces, and goes on where one of them is refused.
+struct Printed<'a>(&'a [&'a str]);
+
+impl Display for Printed<'_> {
+    fn fmt(&self, f: &mut fmt::Formatter<'_>) -> fmt::Result {
+        self.0.iter().for_each(|piece| _ = f.write_str(piece));
+        Ok(())
+    }
+}
+
 #[test]
 fn additions_of_items() {
     fn extended<const N: usize>() -> (usize, usize) {
@@ -163,6 +179,10 @@ fn additions_of_items() {
                 made += case.each(("try_extend_chars", given), &whole, |string| string.try_extend_chars(given.chars()));
                 for pieces in all_pieces(given) {
                     made += case.each(("try_extend_strs", &pieces), &whole, |string| string.try_extend_strs(&pieces));
+                    let truncated = (Ok(whole.0.is_err()), case.wanted(|model| model.push_str(given)).1);
+                    made += case.each(("write_truncated", &pieces), &truncated, |string| {
+                        string.write_truncated(format_args!("{}", Printed(&pieces)))
+                    });
                     let wanted = case.wanted(|model| pieces.len() - model.extend(&pieces));
                     made += case.each(("extend_strs", &pieces), &wanted, |string| {
                         let mut left = pieces.iter();
@@ -177,7 +197,7 @@ fn additions_of_items() {
                 }
             }
         }
-        (made, total::<N>(&WIDTHS) * (2 * texts.len() + 3 * piece_counts(N + 2)))
+        (made, total::<N>(&WIDTHS) * (2 * texts.len() + 4 * piece_counts(N + 2)))
     }
     at_each_capacity!(extended);
 }

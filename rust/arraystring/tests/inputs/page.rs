@@ -1,10 +1,10 @@
-//! The tables of README.md that begin with code: what the page says of it is what it does.
+//! The tables of MOVING.md that begin with code: what the page says of it is what it does.
 #![allow(dead_code)]
 
 use std::fmt::Display;
 use std::panic::{AssertUnwindSafe, catch_unwind};
 
-const PAGE: &str = include_str!("../../README.md");
+const PAGE: &str = include_str!("../../MOVING.md");
 
 /// The table whose head is this line of the page, as its rows are met.
 pub struct Table {
