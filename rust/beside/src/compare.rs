@@ -219,10 +219,10 @@ impl Comparison<'_> {
         let is_one = all.clone().all(|other| other.tokens == self.sources[like[0]].tokens);
         let said = all.find(|source| !source.is_counted).unwrap_or(&self.sources[like[0]]);
         // (What `next` requires may be a ghost of its `impl`: `can_next`.)
-        let head = path.rsplit_once("::").map_or("", |(head, _)| head);
-        let around = self.sources.iter().filter(|other| other.item.path == head);
-        let mut clauses = around.chain(Some(said)).flat_map(|other| &other.item.contract);
-        let requires = clauses.any(|clause| clause.starts_with("requires") || clause.starts_with("can_"));
+        let around = path.rsplit_once("::").filter(|_| rust.item.tokens.iter().any(|token| token.is("fn")));
+        let has = |item: &Item, word: &str| item.contract.iter().any(|clause| clause.starts_with(word));
+        let asks = |other: &Ruled| around.is_some_and(|(head, _)| head == other.item.path) && has(&other.item, "can_");
+        let requires = has(&said.item, "requires") || self.sources.iter().any(asks);
         let is_function = |part: &[Token]| part[1].is("fn") && part[2].kind == Kind::Word;
         let is_unsafe = rust.item.tokens.windows(3).any(|part| part[0].is("unsafe") && is_function(part));
         if let Some(what) = docs::compare(&said.item, &rust.item) {

@@ -167,10 +167,11 @@ fn unsafe_blocks_and_functions_go() {
     ]);
     tells(&tree("fn f() requires { a } {}", "fn f() {}", ""), "a.rs:2: `f` is no `unsafe fn`, and its source requires");
     let next = [
-        "impl A for B { ghost can_next = { a }; fn next() { c[0] } }",
-        "impl A for B { fn next() { *unsafe { get_unchecked!(c, 0) } } }",
+        "impl A for B { type C = D; ghost can_next = { a }; fn next() { c[0] } }",
+        "impl A for B { type C = D; fn next() { *unsafe { get_unchecked!(c, 0) } } }",
     ];
     tells(&tree(next[0], next[1], ""), "`B as A::next` is no `unsafe fn`, and its source requires");
+    assert_eq!(faults(&tree(next[0], next[1], "safe: B as A::next\n    why: because\n")), "");
 }
 
 #[test]
