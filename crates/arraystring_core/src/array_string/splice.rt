@@ -66,7 +66,6 @@ impl<const N: usize> ArrayString<N> {
     /// into the array if there is room behind the text. By a text of four bytes `try_insert` would take some ten
     /// instructions more.
     #[tactic(auto, using(crate::proofs::StoredLaws::within))]
-    #[inline(always)]
     pub(super) fn splice_char(&mut self, at: usize, ch: char)
         requires boundary { IsTrue (boundary self.old.text at) }
         requires room { size self.old.text + width ch ≤ cap N }
