@@ -3,11 +3,12 @@
 use std::collections::{BTreeMap, BTreeSet};
 
 use bench::whole_programs::programs::{
-    RowOf, btree_map_measured, build_measured, clone_measured, hash_map_measured, print_measured, read_measured,
+    PREFIX, RowOf, btree_map_measured, build_measured, clone_measured, count_measured, equal_measured,
+    hash_map_measured, keys_measured, log_measured, print_measured, queue_measured, read_measured, scan_measured,
     sort_measured,
 };
-use bench::whole_programs::rows::{CITY, CODE, NAME, ROWS, lines};
-use bench::whole_programs::side::{OfArrayvec, OfCrate, OfString, Side};
+use bench::whole_programs::rows::{CITY, CODE, LINE, LONG, NAME, ROWS, SHORT, lines, words};
+use bench::whole_programs::side::{OfArrayvec, OfCrate, OfString, Side, Text};
 
 /// What one side gives in each program: texts and numbers, the same type for all.
 #[derive(Debug, PartialEq)]
@@ -93,6 +94,57 @@ fn each_program_gives_the_same_over_each_string() {
     assert_same("the crate", &given::<OfCrate>(&lines), &expected);
     assert_same("String", &given::<OfString>(&lines), &expected);
     assert_same("arrayvec", &given::<OfArrayvec>(&lines), &expected);
+}
+
+/// The programs over words, messages and characters.
+fn assert_as_std<S: Side>(side: &str) {
+    let (short, long) = (words(1, SHORT), words(1, LONG));
+    let keys: Vec<S::Short> = keys_measured(&short);
+    assert!(keys.iter().map(|key| &**key).eq(&short), "{side} makes other keys");
+    assert!(keys_measured::<S::Long>(&long).iter().map(|key| &**key).eq(&long), "{side} makes other keys");
+    for at in (0..ROWS).step_by(97) {
+        let same = short.iter().filter(|word| **word == short[at]).count();
+        assert_eq!(scan_measured(&keys, &keys[at]), same, "{side} finds others");
+        let mut others = keys.clone();
+        others[at].pop_char();
+        assert!(equal_measured(&keys, &keys.clone()) && !equal_measured(&keys, &others), "{side} compares otherwise");
+    }
+    let lines = lines();
+    let counts = count_measured::<S::Long>(&lines).into_iter().map(|(city, count)| (city.to_string(), count));
+    assert!(counts.eq(expected(&lines).ordered.into_iter().map(|(city, rows)| (city, rows.len()))), "{side} counts");
+    for prefix in [None, Some(PREFIX)] {
+        let mut messages = words(LINE - PREFIX.len() - 4, LINE + 1).into_iter();
+        let given: Vec<String> = messages.clone().collect();
+        log_measured::<S::Line>(prefix, &given, |line| {
+            let whole = format!("{}{}", prefix.unwrap_or_default(), messages.next().expect("a line is of a message"));
+            let fits = whole.char_indices().filter(|(at, ch)| at + ch.len_utf8() <= LINE);
+            assert_eq!(line, fits.map(|(_, ch)| ch).collect::<String>(), "{side} cuts otherwise");
+        });
+        assert!(messages.next().is_none());
+    }
+    let mut last = String::new();
+    for ch in lines.chars() {
+        last.push(ch);
+        while last.len() > LONG {
+            last.remove(0);
+        }
+    }
+    assert_eq!(&*queue_measured::<S::Long>(&lines), last, "{side} keeps other characters");
+}
+
+#[test]
+fn each_program_over_words_gives_the_same_over_each_string() {
+    assert_as_std::<OfCrate>("the crate");
+    assert_as_std::<OfString>("String");
+    assert_as_std::<OfArrayvec>("arrayvec");
+}
+
+#[test]
+fn words_have_each_length() {
+    for (least, most) in [(1, SHORT), (1, LONG), (LINE + 1, 2 * LINE)] {
+        let sizes: BTreeSet<usize> = words(least, most).iter().map(String::len).collect();
+        assert!(sizes.into_iter().eq(least..=most));
+    }
 }
 
 #[test]
