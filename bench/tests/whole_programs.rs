@@ -3,8 +3,8 @@
 use std::collections::{BTreeMap, BTreeSet};
 
 use bench::whole_programs::programs::{
-    PREFIX, RowOf, btree_map_measured, build_measured, clone_measured, count_measured, equal_measured,
-    hash_map_measured, keys_measured, log_measured, print_measured, queue_measured, read_measured, scan_measured,
+    PREFIX, RowOf, btree_map_measured, build_measured, clone_measured, count_measured, cut_measured, equal_measured,
+    hash_map_measured, keys_measured, prefix_measured, print_measured, queue_measured, read_measured, scan_measured,
     sort_measured,
 };
 use bench::whole_programs::rows::{CITY, CODE, LINE, LONG, NAME, ROWS, SHORT, lines, words};
@@ -112,15 +112,19 @@ fn assert_as_std<S: Side>(side: &str) {
     let lines = lines();
     let counts = count_measured::<S::Long>(&lines).into_iter().map(|(city, count)| (city.to_string(), count));
     assert!(counts.eq(expected(&lines).ordered.into_iter().map(|(city, rows)| (city, rows.len()))), "{side} counts");
-    for prefix in [None, Some(PREFIX)] {
-        let mut messages = words(LINE - PREFIX.len() - 4, LINE + 1).into_iter();
-        let given: Vec<String> = messages.clone().collect();
-        log_measured::<S::Line>(prefix, &given, |line| {
-            let whole = format!("{}{}", prefix.unwrap_or_default(), messages.next().expect("a line is of a message"));
+    let messages = words(LINE - PREFIX.len() - 4, LINE + 1);
+    for prefix in ["", PREFIX] {
+        let mut wanted = messages.iter().map(|message| {
+            let whole = format!("{prefix}{message}");
             let fits = whole.char_indices().filter(|(at, ch)| at + ch.len_utf8() <= LINE);
-            assert_eq!(line, fits.map(|(_, ch)| ch).collect::<String>(), "{side} cuts otherwise");
+            fits.map(|(_, ch)| ch).collect::<String>()
         });
-        assert!(messages.next().is_none());
+        let see = |line: &str| assert_eq!(Some(line), wanted.next().as_deref(), "{side} cuts otherwise");
+        match prefix {
+            "" => cut_measured::<S::Line>(&messages, see),
+            _ => prefix_measured::<S::Line>(prefix, &messages, see),
+        }
+        assert_eq!(wanted.next(), None, "{side} gives fewer lines");
     }
     let mut last = String::new();
     for ch in lines.chars() {

@@ -118,15 +118,24 @@ pub fn count_measured<T: Text>(lines: &str) -> BTreeMap<T, usize> {
     counts
 }
 
-/// Gives what fits of each message, behind a prefix if there is one, to its caller.
+/// Gives what fits of each message to its caller.
 #[inline(never)]
-pub fn log_measured<T: Text>(prefix: Option<&str>, messages: &[String], mut print: impl FnMut(&str)) {
+pub fn cut_measured<T: Text>(messages: &[String], mut print: impl FnMut(&str)) {
     let mut line = T::empty();
     for message in messages {
         line.make_empty();
-        if let Some(prefix) = prefix {
-            line.push_text(prefix);
-        }
+        line.push_what_fits(message, LINE);
+        print(&line);
+    }
+}
+
+/// The same behind a prefix.
+#[inline(never)]
+pub fn prefix_measured<T: Text>(prefix: &str, messages: &[String], mut print: impl FnMut(&str)) {
+    let mut line = T::empty();
+    for message in messages {
+        line.make_empty();
+        line.push_text(prefix);
         line.push_what_fits(message, LINE);
         print(&line);
     }
@@ -200,8 +209,8 @@ fn run_over<S: Side>(given: &Given, runner: &mut impl Runner) {
     let keys = runner.run("keys of 63: collected into a `Vec`", || keys_measured::<S::Long>(long));
     runner.run("keys of 63: a scan by `==`", || scan_measured(black_box(&keys), &keys[rows::ROWS / 2]));
     runner.run("keys of 63: read from lines, and counted in a `BTreeMap`", || count_measured::<S::Long>(lines));
-    runner.run("log lines: cut to 255", || log_measured::<S::Line>(None, messages, see));
-    runner.run("log lines: cut to 255 behind a prefix of 26", || log_measured::<S::Line>(Some(PREFIX), messages, see));
+    runner.run("log lines: cut to 255", || cut_measured::<S::Line>(messages, see));
+    runner.run("log lines: cut to 255 behind a prefix of 26", || prefix_measured::<S::Line>(PREFIX, messages, see));
     runner.run("a full queue of 63: refused, the first out, pushed", || queue_measured::<S::Long>(characters));
 }
 
