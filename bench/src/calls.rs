@@ -42,6 +42,7 @@ measured! {
         hasher.finish()
     };
     try_push_str_measured<S: Side>(text: &mut S, given: &str) -> bool = text.try_push_str(given);
+    push_str_measured<S: Side>(text: &mut S, given: &str) -> () = text.push_str(given);
     try_push_measured<S: Side>(text: &mut S, ch: char) -> bool = text.try_push(ch);
     pop_measured<S: Side>(text: &mut S) -> Option<char> = text.pop();
     remove_measured<S: Side>(text: &mut S, index: u8) -> Option<char> = text.remove(usize::from(index));
@@ -58,7 +59,6 @@ measured! {
     from_utf8_measured<S: More>(given: &[u8]) -> Option<S> = S::from_utf8(given);
     from_utf16_measured<S: More>(units: &[u16]) -> Option<S> = S::from_utf16(units);
     from_utf16_lossy_measured<S: More>(units: &[u16]) -> S = S::from_utf16_lossy(units);
-    push_str_measured<S: More>(text: &mut S, given: &str) -> () = text.push_str(given);
     try_insert_measured<S: More>(text: &mut S, index: u8, ch: char) -> bool = text.try_insert(usize::from(index), ch);
     try_insert_str_measured<S: More>(text: &mut S, index: u8, given: &str) -> bool =
         text.try_insert_str(usize::from(index), given);
@@ -106,6 +106,10 @@ pub fn make<S: Side>(call: Call, text: &mut S, other: &S, case: &Case) -> Option
         Call::Eq => eq_measured(text, other).into(),
         Call::Hash => hash_measured(text),
         Call::TryPushStr => try_push_str_measured(text, given).into(),
+        Call::PushStr => {
+            push_str_measured(text, given);
+            0
+        }
         Call::TryPush => try_push_measured(text, case.ch).into(),
         Call::Pop => pop_measured(text).map_or(0, u64::from),
         Call::Remove => remove_measured(text, case.start).map_or(0, u64::from),
@@ -126,10 +130,6 @@ pub fn make_any<S: More>(call: Call, text: &mut S, other: &S, case: &Case) -> Op
         Call::FromUtf8 => put(text, from_utf8_measured(held.as_bytes())),
         Call::FromUtf16 => put(text, from_utf16_measured(&case.units)),
         Call::FromUtf16Lossy => put(text, Some(from_utf16_lossy_measured(&case.units))),
-        Call::PushStr => {
-            push_str_measured(text, given);
-            0
-        }
         Call::TryInsert => try_insert_measured(text, start, case.ch).into(),
         Call::TryInsertStr => try_insert_str_measured(text, start, given).into(),
         Call::InsertStr => insert_str_measured(text, start, given).into(),

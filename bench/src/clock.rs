@@ -1,4 +1,6 @@
-//! Times calls at three quarters of each capacity.
+//! Times the whole programs, and calls at three quarters of each capacity.
+//!
+//! In each of 100 rounds all sides run each program.
 //!
 //! *In turn*, a round makes the call on each of 64 strings that hold the same. *Waiting*, it makes 64 calls on one string, each on
 //! what the answer before it points to, and what making the string hold its text takes is taken off. What is told is the least of
@@ -11,7 +13,10 @@ use arraystring::ArrayString;
 
 use crate::calls::{both, make, make_any};
 use crate::cases::{Call, Case, asked};
+use crate::count::Counts;
 use crate::sides::Limited;
+use crate::whole_programs::programs::{Given, Runner, run_all};
+use crate::whole_programs::rows::ROWS;
 use crate::{CAPACITIES, SIDES, Side, sides, tables};
 
 const STRINGS: usize = 64;
@@ -79,8 +84,41 @@ fn time_at<const N: usize>(side: Side, is_waiting: bool, call: Call, case: &Case
     }
 }
 
+/// What each program took a row, in the order in which they ran.
+struct Times(Vec<(&'static str, f64)>);
+
+impl Runner for Times {
+    fn run<T>(&mut self, title: &'static str, program: impl FnOnce() -> T) -> T {
+        let begun = Instant::now();
+        let made = black_box(program());
+        self.0.push((title, begun.elapsed().as_nanos() as f64 / ROWS as f64));
+        made
+    }
+}
+
+/// The least nanoseconds of each program a row.
+pub fn whole_programs() -> Vec<(&'static str, Counts)> {
+    let given = Given::new();
+    let mut found: Vec<(&str, Counts)> = Vec::new();
+    for (place, side) in (0..100).flat_map(|_| SIDES.iter().enumerate()) {
+        let mut times = Times(Vec::new());
+        run_all(*side, &given, &mut times);
+        for (at, (title, time)) in times.0.into_iter().enumerate() {
+            if at == found.len() {
+                found.push((title, vec![None; SIDES.len()]));
+            }
+            let least = &mut found[at].1[place];
+            *least = Some(least.map_or(time, |least| least.min(time)));
+        }
+    }
+    found
+}
+
 /// Prints what the calls of these names take, or all.
 pub fn tell(names: &[String]) {
+    if names.is_empty() {
+        tables::tell_programs("Nanoseconds", &whole_programs(), 1, is_slower);
+    }
     for (title, is_waiting) in [("Nanoseconds, in turn", false), ("Nanoseconds, waiting", true)] {
         let mut rows = Vec::new();
         for curve in asked(names) {

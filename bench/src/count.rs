@@ -8,7 +8,8 @@ use std::hint::black_box;
 use std::process::{Command, Stdio};
 
 use crate::cases::{Case, Curve, asked};
-use crate::whole_programs::{programs, rows, side};
+use crate::whole_programs::programs::{Given, Runner, run_all};
+use crate::whole_programs::rows::ROWS;
 use crate::{CAPACITIES, SIDES, Side, sides_of};
 
 /// How often each call is made. The count is the mean.
@@ -82,23 +83,29 @@ pub fn curves(names: &[String]) -> Vec<Counted> {
     found
 }
 
-/// Runs each program over each string that has them, for callgrind.
-pub fn make_programs() {
-    let lines = rows::lines();
-    for side in SIDES {
-        match side {
-            Side::Crate => programs::run_all::<side::OfCrate>(&lines),
-            Side::String => programs::run_all::<side::OfString>(&lines),
-            Side::Arrayvec => programs::run_all::<side::OfArrayvec>(&lines),
-            Side::Proved | Side::Original => {}
-        }
+/// The titles of the programs that were run, each a part.
+struct Parts(Vec<&'static str>);
+
+impl Runner for Parts {
+    fn run<T>(&mut self, title: &'static str, program: impl FnOnce() -> T) -> T {
+        next_part();
+        self.0.push(title);
+        black_box(program())
     }
 }
 
-/// What each program takes a row, by the sides that have it.
+/// Runs each program over each string, for callgrind.
+pub fn make_programs() {
+    let given = Given::new();
+    SIDES.iter().for_each(|side| run_all(*side, &given, &mut Parts(Vec::new())));
+}
+
+/// What each program takes a row.
 pub fn whole_programs() -> Vec<(&'static str, Counts)> {
-    let mut totals = totals("make-programs", &[]).into_iter().map(|total| total / rows::ROWS as f64);
-    let mut found: Vec<_> = programs::TITLES.iter().map(|title| (*title, Counts::new())).collect();
+    let mut parts = Parts(Vec::new());
+    run_all(Side::Crate, &Given::new(), &mut parts);
+    let mut found: Vec<_> = parts.0.into_iter().map(|title| (title, Counts::new())).collect();
+    let mut totals = totals("make-programs", &[]).into_iter().map(|total| total / ROWS as f64);
     for side in SIDES {
         for (_, counts) in &mut found {
             counts.push(if matches!(side, Side::Proved | Side::Original) { None } else { totals.next() });

@@ -11,10 +11,18 @@ const USAGE: &str = "usage: bench counts [NAME..] | curves [NAME..] | bounds [NA
 /// The means that a release is compared with: a call, the side, and the mean at each capacity.
 const BOUNDS: &str = include_str!("../bounds.txt");
 
-/// Prints the means, and where we are behind.
-fn tell_counts(found: &[Counted]) {
-    tables::by_capacity("Mean of all lengths", &tables::means(found), 0, is_more);
-    tables::tell_lengths_behind(found);
+fn tell_programs() {
+    tables::tell_programs("Instructions", &count::whole_programs(), 0, is_more);
+}
+
+/// Prints what the programs take if no name is asked for, the means, and where we are behind.
+fn tell_counts(names: &[String]) {
+    if names.is_empty() {
+        tell_programs();
+    }
+    let found = count::curves(names);
+    tables::by_capacity("Mean of all lengths", &tables::means(&found), 0, is_more);
+    tables::tell_lengths_behind(&found);
 }
 
 /// Prints a line for each length: the call, the capacity, the length, and what each side takes.
@@ -55,11 +63,11 @@ fn main() -> ExitCode {
     let words: Vec<String> = env::args().skip(1).collect();
     let names = words.get(1..).unwrap_or_default();
     match words.first().map_or("", String::as_str) {
-        "counts" => tell_counts(&count::curves(names)),
+        "counts" => tell_counts(names),
         "curves" => tell_lengths(&count::curves(names)),
         "bounds" if tell_bounds(names) => return ExitCode::FAILURE,
         "bounds" => {}
-        "programs" => tables::tell_programs(&count::whole_programs()),
+        "programs" => tell_programs(),
         "clock" => clock::tell(names),
         // (callgrind runs the program by these)
         "make-curves" => count::make_curves(names),

@@ -17,6 +17,8 @@ pub trait Side: Sized + Clone + Ord + Hash {
     fn remove(&mut self, index: usize) -> Option<char>;
     fn truncate(&mut self, size: usize) -> bool;
     fn clear(&mut self);
+    /// Appends the whole characters that fit.
+    fn push_str(&mut self, given: &str);
 }
 
 /// The calls that arrayvec lacks.
@@ -27,7 +29,6 @@ pub trait More: Side {
     fn from_utf8(given: &[u8]) -> Option<Self>;
     fn from_utf16(units: &[u16]) -> Option<Self>;
     fn from_utf16_lossy(units: &[u16]) -> Self;
-    fn push_str(&mut self, given: &str);
     fn try_insert(&mut self, index: usize, ch: char) -> bool;
     fn try_insert_str(&mut self, index: usize, given: &str) -> bool;
     fn insert_str(&mut self, index: usize, given: &str) -> bool;
@@ -87,6 +88,10 @@ macro_rules! side {
             fn clear(&mut self) {
                 Self::clear(self);
             }
+
+            fn push_str(&mut self, given: &str) {
+                Self::push_str(self, given);
+            }
         }
 
         impl<$($generic)*> More for $text {
@@ -113,10 +118,6 @@ macro_rules! side {
 
             fn from_utf16_lossy(units: &[u16]) -> Self {
                 Self::from_utf16_lossy(units)
-            }
-
-            fn push_str(&mut self, given: &str) {
-                Self::push_str(self, given);
             }
 
             fn try_insert(&mut self, index: usize, ch: char) -> bool {
@@ -268,6 +269,10 @@ impl<const N: usize> Side for Limited<N> {
     fn clear(&mut self) {
         self.0.clear();
     }
+
+    fn push_str(&mut self, given: &str) {
+        self.0.push_str(self.what_fits(given));
+    }
 }
 
 impl<const N: usize> More for Limited<N> {
@@ -301,10 +306,6 @@ impl<const N: usize> More for Limited<N> {
     fn from_utf16_lossy(units: &[u16]) -> Self {
         let items = char::decode_utf16(units.iter().copied());
         Self::from_chars(items.map(|item| item.unwrap_or(char::REPLACEMENT_CHARACTER)))
-    }
-
-    fn push_str(&mut self, given: &str) {
-        self.0.push_str(self.what_fits(given));
     }
 
     fn try_insert(&mut self, index: usize, ch: char) -> bool {
@@ -424,5 +425,9 @@ impl<const N: usize> Side for arrayvec::ArrayString<N> {
 
     fn clear(&mut self) {
         Self::clear(self);
+    }
+    /// (it has no call that cuts, so the boundary is found first)
+    fn push_str(&mut self, given: &str) {
+        Self::push_str(self, &given[..given.floor_char_boundary(self.remaining_capacity())]);
     }
 }

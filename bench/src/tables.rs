@@ -102,10 +102,10 @@ pub fn tell_lengths_behind(found: &[Counted]) {
     }
 }
 
-/// What the programs take a row.
-pub fn tell_programs(rows: &[(&str, Counts)]) {
-    head("4,000 rows of three texts are", SIDES.iter().map(|side| side.name().to_string()));
+/// What the programs take for each row, word or character.
+pub fn tell_programs(title: &str, rows: &[(&str, Counts)], digits: usize, is_behind: fn(f64, f64) -> bool) {
+    head(&format!("{title} for each of 4,000"), SIDES.iter().map(|side| side.name().to_string()));
     for (title, counts) in rows {
-        println!("|{title}|{}", cells(counts, 0, is_more));
+        println!("|{title}|{}", cells(counts, digits, is_behind));
     }
 }

@@ -3,11 +3,12 @@
 use std::collections::{BTreeMap, BTreeSet};
 
 use bench::whole_programs::programs::{
-    RowOf, btree_map_measured, build_measured, clone_measured, hash_map_measured, print_measured, read_measured,
+    PREFIX, RowOf, btree_map_measured, build_measured, clone_measured, count_measured, cut_measured, equal_measured,
+    hash_map_measured, keys_measured, prefix_measured, print_measured, queue_measured, read_measured, scan_measured,
     sort_measured,
 };
-use bench::whole_programs::rows::{CITY, CODE, NAME, ROWS, lines};
-use bench::whole_programs::side::{OfArrayvec, OfCrate, OfString, Side};
+use bench::whole_programs::rows::{CITY, CODE, LINE, LONG, NAME, ROWS, SHORT, lines, words};
+use bench::whole_programs::side::{OfArrayvec, OfCrate, OfString, Side, Text};
 
 /// What one side gives in each program: texts and numbers, the same type for all.
 #[derive(Debug, PartialEq)]
@@ -93,6 +94,61 @@ fn each_program_gives_the_same_over_each_string() {
     assert_same("the crate", &given::<OfCrate>(&lines), &expected);
     assert_same("String", &given::<OfString>(&lines), &expected);
     assert_same("arrayvec", &given::<OfArrayvec>(&lines), &expected);
+}
+
+/// The programs over words, messages and characters.
+fn assert_as_std<S: Side>(side: &str) {
+    let (short, long) = (words(1, SHORT), words(1, LONG));
+    let keys: Vec<S::Short> = keys_measured(&short);
+    assert!(keys.iter().map(|key| &**key).eq(&short), "{side} makes other keys");
+    assert!(keys_measured::<S::Long>(&long).iter().map(|key| &**key).eq(&long), "{side} makes other keys");
+    for at in (0..ROWS).step_by(97) {
+        let same = short.iter().filter(|word| **word == short[at]).count();
+        assert_eq!(scan_measured(&keys, &keys[at]), same, "{side} finds others");
+        let mut others = keys.clone();
+        others[at].pop_char();
+        assert!(equal_measured(&keys, &keys.clone()) && !equal_measured(&keys, &others), "{side} compares otherwise");
+    }
+    let lines = lines();
+    let counts = count_measured::<S::Long>(&lines).into_iter().map(|(city, count)| (city.to_string(), count));
+    assert!(counts.eq(expected(&lines).ordered.into_iter().map(|(city, rows)| (city, rows.len()))), "{side} counts");
+    let messages = words(LINE - PREFIX.len() - 4, LINE + 1);
+    for prefix in ["", PREFIX] {
+        let mut wanted = messages.iter().map(|message| {
+            let whole = format!("{prefix}{message}");
+            let fits = whole.char_indices().filter(|(at, ch)| at + ch.len_utf8() <= LINE);
+            fits.map(|(_, ch)| ch).collect::<String>()
+        });
+        let see = |line: &str| assert_eq!(Some(line), wanted.next().as_deref(), "{side} cuts otherwise");
+        match prefix {
+            "" => cut_measured::<S::Line>(&messages, see),
+            _ => prefix_measured::<S::Line>(prefix, &messages, see),
+        }
+        assert_eq!(wanted.next(), None, "{side} gives fewer lines");
+    }
+    let mut last = String::new();
+    for ch in lines.chars() {
+        last.push(ch);
+        while last.len() > LONG {
+            last.remove(0);
+        }
+    }
+    assert_eq!(&*queue_measured::<S::Long>(&lines), last, "{side} keeps other characters");
+}
+
+#[test]
+fn each_program_over_words_gives_the_same_over_each_string() {
+    assert_as_std::<OfCrate>("the crate");
+    assert_as_std::<OfString>("String");
+    assert_as_std::<OfArrayvec>("arrayvec");
+}
+
+#[test]
+fn words_have_each_length() {
+    for (least, most) in [(1, SHORT), (1, LONG), (LINE + 1, 2 * LINE)] {
+        let sizes: BTreeSet<usize> = words(least, most).iter().map(String::len).collect();
+        assert!(sizes.into_iter().eq(least..=most));
+    }
 }
 
 #[test]

@@ -1,5 +1,5 @@
-//! Small programs over 4,000 rows of three strings: the rows are read, cloned, sorted, grouped, printed and edited, over this
-//! crate, over `String` and over arrayvec. tests/whole_programs.rs compares what they give.
+//! Small programs over 4,000 rows, words or messages, over this crate, over `String` and over arrayvec. tests/whole_programs.rs
+//! compares what they give.
 
 pub mod programs;
 pub mod rows;

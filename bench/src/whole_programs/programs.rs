@@ -5,8 +5,8 @@ use std::fmt::Write;
 use std::hash::{BuildHasherDefault, DefaultHasher};
 use std::hint::black_box;
 
-use super::side::{Side, Text};
-use crate::count::next_part;
+use super::rows::{self, LINE, LONG, SHORT};
+use super::side::{OfArrayvec, OfCrate, OfString, Side, Text};
 
 /// A row that was read. Rows are in order by city, name and code.
 #[derive(Clone, Debug, PartialEq, Eq, PartialOrd, Ord)]
@@ -90,31 +90,130 @@ pub fn build_measured<S: Side>(rows: &[RowOf<S>], mut print: impl FnMut(&str)) {
     }
 }
 
-/// What the programs do, in the order of `run_all`.
-pub const TITLES: [&str; 7] = [
-    "read from lines",
-    "cloned",
-    "sorted",
-    "grouped in a `HashMap`",
-    "grouped in a `BTreeMap`",
-    "printed by `writeln!`",
-    "built and edited",
-];
+/// Keys made of words.
+#[inline(never)]
+pub fn keys_measured<T: Text>(words: &[String]) -> Vec<T> {
+    words.iter().map(|word| T::of(word)).collect()
+}
 
-/// Runs each program over these strings, as a part of its own.
-pub fn run_all<S: Side>(lines: &str) {
-    next_part();
-    let rows = read_measured::<S>(black_box(lines));
-    next_part();
-    let mut sorted = black_box(clone_measured::<S>(black_box(&rows)));
-    next_part();
-    sort_measured::<S>(black_box(&mut sorted));
-    next_part();
-    black_box(hash_map_measured::<S>(black_box(&rows)));
-    next_part();
-    black_box(btree_map_measured::<S>(black_box(&rows)));
-    next_part();
-    print_measured::<S>(black_box(&rows), |line| _ = black_box(line));
-    next_part();
-    build_measured::<S>(black_box(&rows), |label| _ = black_box(label));
+/// How many of the keys are the one.
+#[inline(never)]
+pub fn scan_measured<T: Text>(keys: &[T], wanted: &T) -> usize {
+    keys.iter().filter(|key| *key == wanted).count()
+}
+
+#[inline(never)]
+pub fn equal_measured<T: Text>(keys: &Vec<T>, others: &Vec<T>) -> bool {
+    keys == others
+}
+
+/// How often the lines name each city.
+#[inline(never)]
+pub fn count_measured<T: Text>(lines: &str) -> BTreeMap<T, usize> {
+    let mut counts = BTreeMap::new();
+    for line in lines.lines() {
+        let city = line.split(',').nth(1).expect("a line has three fields");
+        *counts.entry(T::of(city)).or_default() += 1;
+    }
+    counts
+}
+
+/// Gives what fits of each message to its caller.
+#[inline(never)]
+pub fn cut_measured<T: Text>(messages: &[String], mut print: impl FnMut(&str)) {
+    let mut line = T::empty();
+    for message in messages {
+        line.make_empty();
+        line.push_what_fits(message, LINE);
+        print(&line);
+    }
+}
+
+/// The same behind a prefix.
+#[inline(never)]
+pub fn prefix_measured<T: Text>(prefix: &str, messages: &[String], mut print: impl FnMut(&str)) {
+    let mut line = T::empty();
+    for message in messages {
+        line.make_empty();
+        line.push_text(prefix);
+        line.push_what_fits(message, LINE);
+        print(&line);
+    }
+}
+
+/// The last characters of a text. For each that does not fit, the first leave.
+#[inline(never)]
+pub fn queue_measured<T: Text>(characters: &str) -> T {
+    let mut queue = T::empty();
+    for ch in characters.chars() {
+        while !queue.offer_char(ch, LONG) {
+            queue.remove_first();
+        }
+    }
+    queue
+}
+
+/// What the programs are run on.
+pub struct Given {
+    pub lines: String,
+    pub characters: String,
+    pub short: Vec<String>,
+    pub long: Vec<String>,
+    pub messages: Vec<String>,
+}
+
+/// 26 bytes.
+pub const PREFIX: &str = "2026-11-29T12:00:00Z INFO ";
+
+impl Given {
+    pub fn new() -> Self {
+        let lines = rows::lines();
+        Given {
+            characters: lines.chars().take(rows::ROWS).collect(),
+            lines,
+            short: rows::words(1, SHORT),
+            long: rows::words(1, LONG),
+            messages: rows::words(LINE + 1, 2 * LINE),
+        }
+    }
+}
+
+/// Who counts or times a program of a title.
+pub trait Runner {
+    fn run<T>(&mut self, title: &'static str, program: impl FnOnce() -> T) -> T;
+}
+
+/// Runs each program over the strings of a side, if it has them.
+pub fn run_all(side: crate::Side, given: &Given, runner: &mut impl Runner) {
+    match side {
+        crate::Side::Crate => run_over::<OfCrate>(given, runner),
+        crate::Side::String => run_over::<OfString>(given, runner),
+        crate::Side::Arrayvec => run_over::<OfArrayvec>(given, runner),
+        crate::Side::Proved | crate::Side::Original => {}
+    }
+}
+
+fn run_over<S: Side>(given: &Given, runner: &mut impl Runner) {
+    let Given { lines, characters, short, long, messages } = black_box(given);
+    let rows = runner.run("rows: read from lines", || read_measured::<S>(lines));
+    let mut sorted = runner.run("rows: cloned", || clone_measured::<S>(black_box(&rows)));
+    runner.run("rows: sorted", || sort_measured::<S>(black_box(&mut sorted)));
+    runner.run("rows: grouped in a `HashMap`", || hash_map_measured::<S>(black_box(&rows)));
+    runner.run("rows: grouped in a `BTreeMap`", || btree_map_measured::<S>(black_box(&rows)));
+    runner.run("rows: printed by `writeln!`", || print_measured::<S>(black_box(&rows), see));
+    runner.run("rows: built into labels, and edited", || build_measured::<S>(black_box(&rows), see));
+    let keys = runner.run("keys of 23: collected into a `Vec`", || keys_measured::<S::Short>(short));
+    runner.run("keys of 23: a scan by `==`", || scan_measured(black_box(&keys), &keys[rows::ROWS / 2]));
+    let others = keys.clone();
+    runner.run("keys of 23: `Vec == Vec`", || equal_measured(black_box(&keys), black_box(&others)));
+    let keys = runner.run("keys of 63: collected into a `Vec`", || keys_measured::<S::Long>(long));
+    runner.run("keys of 63: a scan by `==`", || scan_measured(black_box(&keys), &keys[rows::ROWS / 2]));
+    runner.run("keys of 63: read from lines, and counted in a `BTreeMap`", || count_measured::<S::Long>(lines));
+    runner.run("log lines: cut to 255", || cut_measured::<S::Line>(messages, see));
+    runner.run("log lines: cut to 255 behind a prefix of 26", || prefix_measured::<S::Line>(PREFIX, messages, see));
+    runner.run("a full queue of 63: refused, the first out, pushed", || queue_measured::<S::Long>(characters));
+}
+
+fn see(text: &str) {
+    black_box(text);
 }

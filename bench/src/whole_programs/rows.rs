@@ -1,11 +1,15 @@
-//! The rows that the programs read: `name,city,code`, the same at each run.
+//! What the programs read: rows `name,city,code`, words and messages, the same at each run.
 
-/// How many rows there are.
+/// How many rows, words and messages there are.
 pub const ROWS: usize = 4000;
 /// How many bytes a name, a city and a code have at most.
 pub const NAME: usize = 30;
 pub const CITY: usize = 62;
 pub const CODE: usize = 14;
+/// How many bytes the words have at most, and a line that is written.
+pub const SHORT: usize = 23;
+pub const LONG: usize = 63;
+pub const LINE: usize = 255;
 
 const CITIES: usize = 200;
 const SYLLABLES: [&str; 16] =
@@ -45,4 +49,11 @@ pub fn lines() -> String {
         lines += &format!("{name},{city},{}\n", numbers.word(code_size));
     }
     lines
+}
+
+/// Words of each length from `least` to `most`.
+pub fn words(least: usize, most: usize) -> Vec<String> {
+    let mut numbers = Numbers(2);
+    let sizes: Vec<usize> = (0..ROWS).map(|_| numbers.between(least, most)).collect();
+    sizes.into_iter().map(|size| numbers.word(size)).collect()
 }

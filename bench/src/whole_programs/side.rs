@@ -5,7 +5,7 @@ use std::fmt::{Debug, Display, Write};
 use std::hash::Hash;
 use std::ops::Deref;
 
-/// What the programs call of a string. All texts of theirs fit.
+/// What the programs call of a string. A text fits where a call does not say what it does otherwise.
 pub trait Text: Clone + Ord + Hash + Debug + Display + Write + Borrow<str> + Deref<Target = str> {
     fn empty() -> Self;
     fn of(text: &str) -> Self;
@@ -14,14 +14,22 @@ pub trait Text: Clone + Ord + Hash + Debug + Display + Write + Borrow<str> + Der
     fn pop_char(&mut self) -> Option<char>;
     fn remove_first(&mut self) -> char;
     fn make_empty(&mut self);
+
+    // (only `String` has to be told how many bytes it may have)
+    /// Appends a character, and returns whether it fits.
+    fn offer_char(&mut self, ch: char, most: usize) -> bool;
+    /// Appends the whole characters that fit.
+    fn push_what_fits(&mut self, text: &str, most: usize);
 }
 
-/// The strings of a program: of at most 30, 62, 14 and 255 bytes.
+/// The strings of a program: of at most 30, 62, 14, 255, 23 and 63 bytes.
 pub trait Side {
     type Name: Text;
     type City: Text;
     type Code: Text;
     type Line: Text;
+    type Short: Text;
+    type Long: Text;
 }
 
 pub struct OfCrate;
@@ -31,6 +39,8 @@ impl Side for OfCrate {
     type City = arraystring::ArrayString<62>;
     type Code = arraystring::ArrayString<14>;
     type Line = arraystring::ArrayString<255>;
+    type Short = arraystring::ArrayString<23>;
+    type Long = arraystring::ArrayString<63>;
 }
 
 impl<const N: usize> Text for arraystring::ArrayString<N> {
@@ -61,6 +71,14 @@ impl<const N: usize> Text for arraystring::ArrayString<N> {
     fn make_empty(&mut self) {
         self.clear();
     }
+
+    fn offer_char(&mut self, ch: char, _: usize) -> bool {
+        self.try_push(ch).is_ok()
+    }
+
+    fn push_what_fits(&mut self, text: &str, _: usize) {
+        self.push_str(text);
+    }
 }
 
 pub struct OfString;
@@ -70,6 +88,8 @@ impl Side for OfString {
     type City = String;
     type Code = String;
     type Line = String;
+    type Short = String;
+    type Long = String;
 }
 
 // (these are no generics, so only the hint lets a program inline them)
@@ -108,6 +128,20 @@ impl Text for String {
     fn make_empty(&mut self) {
         self.clear();
     }
+
+    #[inline]
+    fn offer_char(&mut self, ch: char, most: usize) -> bool {
+        let fits = self.len() + ch.len_utf8() <= most;
+        if fits {
+            self.push(ch);
+        }
+        fits
+    }
+
+    #[inline]
+    fn push_what_fits(&mut self, text: &str, most: usize) {
+        self.push_str(&text[..text.floor_char_boundary(most - self.len())]);
+    }
 }
 
 pub struct OfArrayvec;
@@ -117,6 +151,8 @@ impl Side for OfArrayvec {
     type City = arrayvec::ArrayString<62>;
     type Code = arrayvec::ArrayString<14>;
     type Line = arrayvec::ArrayString<255>;
+    type Short = arrayvec::ArrayString<23>;
+    type Long = arrayvec::ArrayString<63>;
 }
 
 impl<const N: usize> Text for arrayvec::ArrayString<N> {
@@ -146,5 +182,13 @@ impl<const N: usize> Text for arrayvec::ArrayString<N> {
 
     fn make_empty(&mut self) {
         self.clear();
+    }
+
+    fn offer_char(&mut self, ch: char, _: usize) -> bool {
+        self.try_push(ch).is_ok()
+    }
+
+    fn push_what_fits(&mut self, text: &str, _: usize) {
+        self.push_str(&text[..text.floor_char_boundary(self.remaining_capacity())]);
     }
 }

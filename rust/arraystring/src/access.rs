@@ -28,11 +28,48 @@ macro_rules! get_unchecked_mut {
     };
 }
 
-/// Two parts of a slice or an array, also in a constant: `unsafe { split_at_unchecked!(all, at) }` for `all.split_at(at)`. The index
-/// has to be within.
+/// `K` bytes of a slice as an array: `*unsafe { chunk_unchecked!(given, at, K) }` for `*given[at..].first_chunk::<K>().unwrap()`. They
+/// have to be within.
+macro_rules! chunk_unchecked {
+    ($of:expr, $at:expr, $len:expr) => {{
+        let of: &[u8] = $of;
+        let at: usize = $at;
+        if crate::access::IS_TESTED {
+            assert!(at <= of.len() && $len <= of.len() - at, "there are fewer bytes");
+        }
+        &*of.as_ptr().wrapping_add(at).cast::<[u8; $len]>()
+    }};
+}
+
+/// The same, to write: `*unsafe { chunk_unchecked_mut!(all, at, K) } = bytes`.
+macro_rules! chunk_unchecked_mut {
+    ($of:expr, $at:expr, $len:expr) => {{
+        let of: &mut [u8] = $of;
+        let at: usize = $at;
+        if crate::access::IS_TESTED {
+            assert!(at <= of.len() && $len <= of.len() - at, "there are fewer bytes");
+        }
+        &mut *of.as_mut_ptr().wrapping_add(at).cast::<[u8; $len]>()
+    }};
+}
+
+/// Two parts of bytes, also in a constant: `unsafe { split_at_unchecked!(all, at) }` for `all.split_at(at)`. The index has to be
+/// within.
 macro_rules! split_at_unchecked {
     ($of:expr, $at:expr) => {
-        if crate::access::IS_TESTED { $of.split_at($at) } else { $of.split_at_unchecked($at) }
+        if crate::access::IS_TESTED {
+            // (each part of std's `split_at` is tested four times more in a debug build)
+            let of: &[u8] = &$of;
+            let at: usize = $at;
+            assert!(at <= of.len(), "there are fewer bytes");
+            let first = of.as_ptr();
+            (
+                &*core::ptr::slice_from_raw_parts(first, at),
+                &*core::ptr::slice_from_raw_parts(first.wrapping_add(at), of.len() - at),
+            )
+        } else {
+            $of.split_at_unchecked($at)
+        }
     };
 }
 
@@ -42,7 +79,10 @@ macro_rules! copy_from_slice_unchecked {
     ($of:expr, $at:expr, $given:expr) => {{
         let (at, given): (core::ops::Range<usize>, &[u8]) = ($at, $given);
         if crate::access::IS_TESTED {
-            $of[at].copy_from_slice(given)
+            // (`copy_from_slice` of std tests in a debug build once more that they are apart)
+            let part = &mut $of[at];
+            assert!(part.len() == given.len(), "another number of bytes");
+            core::ptr::copy(given.as_ptr(), part.as_mut_ptr(), given.len())
         } else {
             core::ptr::copy_nonoverlapping(given.as_ptr(), $of.as_mut_ptr().add(at.start), given.len())
         }

@@ -33,7 +33,6 @@ mod range_ends;
 mod rust_traits;
 #[cfg(feature = "serde")]
 mod serde_traits;
-mod simd;
 pub mod utf16;
 mod utf8;
 pub mod utils;

@@ -3,13 +3,10 @@
 //! cold functions: `shift_by_call` and `write_by_call`. All that makes them fast is in this file.
 //!
 //! Fewer than 16 bytes move as their first `K` and their last `K`, which may overlap, and both are read before the
-//! first is written. `memmove` moves short runs in this way too. They are read as vectors, since those stay in
-//! registers; arrays of bytes would be put on the stack. A longer run is one call, of `memmove` or `memcpy`, in
+//! first is written. `memmove` moves short runs in this way too. A longer run is one call, of `memmove` or `memcpy`, in
 //! `move_bytes` and `write_bytes`. The forms for cold functions make this call at any length: these functions run
 //! seldom, and in them the moves in place would only be more code. The sources have no such forms, and no call of
 //! `memmove`: there longer runs move in place, too.
-
-use crate::simd::Simd;
 
 /// Moves `len` bytes of the array from the offset `from` to the offset `to`; the two runs may
 /// overlap. No byte outside the target changes.
@@ -241,9 +238,10 @@ unsafe fn copy_ends<const K: usize>(all: &mut [u8], at: usize, given: &[u8]) {
 /// # Safety
 ///
 /// - `at + K <= given.len()`
-unsafe fn bytes_of<const K: usize>(given: &[u8], at: usize) -> Simd<u8, K> {
+#[inline(always)]
+unsafe fn bytes_of<const K: usize>(given: &[u8], at: usize) -> [u8; K] {
     // SAFETY: this is within: by this function's `# Safety`.
-    Simd::<u8, K>::from_slice(unsafe { get_unchecked!(given, at..at + K) })
+    *unsafe { chunk_unchecked!(given, at, K) }
 }
 
 /// Writes `K` bytes from `at` on.
@@ -251,7 +249,8 @@ unsafe fn bytes_of<const K: usize>(given: &[u8], at: usize) -> Simd<u8, K> {
 /// # Safety
 ///
 /// - `at + K <= all.len()`
-unsafe fn put_bytes<const K: usize>(all: &mut [u8], at: usize, bytes: Simd<u8, K>) {
+#[inline(always)]
+unsafe fn put_bytes<const K: usize>(all: &mut [u8], at: usize, bytes: [u8; K]) {
     // SAFETY: this is within: by this function's `# Safety`.
-    bytes.copy_to_slice(unsafe { get_unchecked_mut!(all, at..at + K) });
+    *unsafe { chunk_unchecked_mut!(all, at, K) } = bytes;
 }

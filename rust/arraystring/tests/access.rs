@@ -58,6 +58,9 @@ fn what_is_read_is_as_it_is_plainly() {
                 );
             }
             assert_eq!(unsafe { split_at_unchecked!(bytes, end) }, bytes.split_at(end));
+            if start + 4 <= len {
+                assert_eq!(unsafe { chunk_unchecked!(&bytes, start, 4) }, &bytes[start..start + 4]);
+            }
             count += 1;
         }
     }
@@ -99,6 +102,11 @@ fn what_is_written_is_as_it_is_plainly() {
             unsafe { copy_from_slice_unchecked!(one, start..end, &given[..end - start]) };
             other[start..end].copy_from_slice(&given[..end - start]);
             assert_eq!(one, other);
+            if start + 4 <= len {
+                *unsafe { chunk_unchecked_mut!(&mut one, start, 4) } = [3; 4];
+                other[start..start + 4].fill(3);
+                assert_eq!(one, other);
+            }
             count += 1;
         }
     }
@@ -155,7 +163,7 @@ fn no_macro_has_an_unsafe_of_its_own() {
     let text = include_str!("../src/access.rs");
     let (macros, behind) = text.split_once("/// What the crate uses of `char`.").expect("the macros stand in front");
     let code = macros.lines().filter(|line| !line.trim_start().starts_with("//"));
-    assert_eq!(code.clone().filter(|line| line.starts_with("macro_rules! ")).count(), 8);
+    assert_eq!(code.clone().filter(|line| line.starts_with("macro_rules! ")).count(), 10);
     assert_eq!(code.filter(|line| line.contains("unsafe")).count(), 0);
     assert!(!behind.contains("\nmacro_rules! "));
 }
@@ -220,6 +228,12 @@ mod tested {
             ends(len, Some(len), past, |all, start| unsafe { get_unchecked_mut!(all, start..) }.len() as u8);
             ends(len, Some(len), past, |all, end| unsafe { get_unchecked_mut!(all, 0..end) }.len() as u8);
             ends(len, Some(len), past, |all, at| unsafe { split_at_unchecked!(all, at) }.0.len() as u8);
+            let behind = [(len + 1).saturating_sub(4), len, usize::MAX - 2, usize::MAX];
+            ends(len, len.checked_sub(4), &behind, |all, at| unsafe { chunk_unchecked!(all, at, 4) }[0]);
+            ends(len, len.checked_sub(4), &behind, |all, at| {
+                *unsafe { chunk_unchecked_mut!(all, at, 4) } = [1; 4];
+                all[at]
+            });
         }
     }
 

@@ -1,14 +1,14 @@
 //! The private calls that append: what an iterator gives, and what needs the text to move to the start of the array.
-ghost use Rattle.std.specs.Prelude.{◌≡◌, ◌+◌, ◌-◌, ◌<◌, ◌≤◌, ◌↔◌, [], ◌∷◌, ◌++◌, IsTrue, chars, ℕ, List, MatchResult};
+ghost use Rattle.std.specs.Prelude.{◌≡◌, ◌+◌, ◌-◌, ◌<◌, ◌≤◌, ◌↔◌, [], ◌∷◌, ◌++◌, IsTrue, chars, ℕ, List, MatchResult, Ok};
 ghost use Rattle.arraystring_base.specs.Text.{size, width, cap, cut};
-ghost use Rattle.arraystring_core.specs.Edits.{Makes, from_out_of_bounds, addition};
+ghost use Rattle.arraystring_core.specs.Edits.{Makes, from_out_of_bounds, addition, addition_of_cut};
 ghost use Rattle.std.specs.Borrow.{Bor};
 ghost use Rattle.std.specs.Iterator.{IsFiniteIterable};
 ghost use Rattle.arraystring_core.specs.Taken.{Takes, joined_pieces};
 
 use crate::ArrayString;
 use arraystring_base::error::OutOfBounds;
-use arraystring_base::utils::{Steps, encode, shift, write_over};
+use arraystring_base::utils::{Steps, encode, shift, truncate_str, write_over};
 
 impl<const N: usize> ArrayString<N> {
     /// Whether there is room for `ch` after `len` bytes. ASCII has a test of its own, which the
@@ -61,6 +61,16 @@ impl<const N: usize> ArrayString<N> {
         shift(&mut self.array, from, 0, size, &mut Steps::new());
         write_over(&mut self.array, size, string.as_bytes());
         Ok(())
+    }
+
+    /// Appends what fits of `string` to a text that need not begin at the start of the array. It stands apart
+    /// from `push_str`, which would be twice as long.
+    #[inline(never)]
+    pub(super) fn push_str_behind_start(&mut self, string: &str)
+        ensures { Makes (addition_of_cut self.old.text (chars string.now) (cap N)) self.old.text (Ok result) self.new.text }
+    {
+        let room = Self::capacity() - self.len();
+        self.push_str_unchecked(truncate_str(string, room));
     }
 
     /// Appends the characters before the first that does not fit. Returns `Err` if there is such a one: what fitted stays.

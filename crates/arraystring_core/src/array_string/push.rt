@@ -60,8 +60,18 @@ impl<const N: usize> ArrayString<N> {
         ensures { Makes (addition_of_cut self.old.text (chars string.now) (cap N))
             self.old.text (Ok result) self.new.text }
     {
-        let room = Self::capacity() - self.len();
-        self.push_str_unchecked(truncate_str(string, room));
+        if self.start > 0 {
+            return self.push_str_behind_start(string);
+        }
+        let (end, room) = (self.end(), Self::capacity() - self.len());
+        if string.len() <= room as usize {
+            self.size += string.len() as u8;
+            write_over(&mut self.array, end, string.as_bytes());
+            return;
+        }
+        let part = truncate_str(string, room);
+        self.size += part.len() as u8;
+        write_over(&mut self.array, end, part.as_bytes());
     }
 
     /// Appends the longest prefix of the characters that fits.

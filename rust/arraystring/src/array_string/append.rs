@@ -4,7 +4,7 @@
 use crate::ArrayString;
 use crate::error::OutOfBounds;
 use crate::moves::{shift_by_call, write_by_call};
-use crate::utf8::encode;
+use crate::utf8::{encode, truncate_str};
 
 impl<const N: usize> ArrayString<N> {
     /// Whether there is room for `ch` after `len` bytes. ASCII has a test of its own, which the
@@ -64,6 +64,16 @@ impl<const N: usize> ArrayString<N> {
         // SAFETY: `size + string.as_bytes().len() <= N`: by the test above, and the capacity is at most `N`.
         unsafe { write_by_call(&mut self.array, size, string.as_bytes()) };
         Ok(())
+    }
+
+    /// Appends what fits of `string` to a text that need not begin at the start of the array. It stands apart
+    /// from `push_str`, which would be twice as long.
+    #[inline(never)]
+    pub(super) fn push_str_behind_start(&mut self, string: &str) {
+        let room = Self::capacity() - self.len();
+        // SAFETY: `self.len() + truncate_str(string, room).len() <= Self::capacity()`: `truncate_str` returns no more
+        // bytes than it is told, which is the room.
+        unsafe { self.push_str_unchecked(truncate_str(string, room)) };
     }
 
     /// Appends the characters before the first that does not fit. Returns `Err` if there is such a one: what fitted stays.

@@ -3,7 +3,7 @@
 
 use crate::ArrayString;
 use crate::error::OutOfBounds;
-use crate::moves::write_over;
+use crate::moves::{write_by_call, write_over};
 use crate::utf8::{encode, truncate_str};
 
 /// Appends.
@@ -125,13 +125,28 @@ impl<const N: usize> ArrayString<N> {
     /// [How to read a contract](crate::contracts)
     ///
     /// </details>
+    #[expect(clippy::cast_possible_truncation, reason = "by the test before it is at most the capacity")]
     #[inline]
     pub fn push_str<S: AsRef<str>>(&mut self, string: S) {
         let string = string.as_ref();
-        let room = Self::capacity() - self.len();
-        // SAFETY: `self.len() + truncate_str(string, room).len() <= Self::capacity()`: `truncate_str` returns no more
-        // bytes than it is told, which is the room.
-        unsafe { self.push_str_unchecked(truncate_str(string, room)) };
+        if self.start > 0 {
+            return self.push_str_behind_start(string);
+        }
+        let (end, room) = (self.end(), Self::capacity() - self.len());
+        if string.len() <= room as usize {
+            // FIELDS: the text with `string` is at most the capacity by the test above. It begins at the start of the
+            // array, and `write_over` writes `string` at its end.
+            self.size += string.len() as u8;
+            // SAFETY: `end + string.as_bytes().len() <= N`: by the test above, since `end` is the size of the text.
+            unsafe { write_over(&mut self.array, end, string.as_bytes()) };
+            return;
+        }
+        let part = truncate_str(string, room);
+        // FIELDS: `truncate_str` returns no more bytes than it is told, which is the room, and `write_by_call` writes
+        // them at the end of the text.
+        self.size += part.len() as u8;
+        // SAFETY: `end + part.as_bytes().len() <= N`: `part` has no more bytes than the room, and `end` is the size.
+        unsafe { write_by_call(&mut self.array, end, part.as_bytes()) };
     }
 
     /// Appends the longest prefix of the characters that fits.

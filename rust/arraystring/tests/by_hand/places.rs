@@ -1,11 +1,10 @@
-//! The vectors of the sources at each size, and what is read and written without a test, at each place of an array.
+//! What is read and written without a test, at each place of an array: runs of each size, as arrays and as parts.
 
 use std::panic::{AssertUnwindSafe, catch_unwind, set_hook};
 
 use crate::access::IS_TESTED;
-use crate::simd::Simd;
 
-/// Calls a generic test at each size of a vector.
+/// Calls a generic test at each size of an array.
 macro_rules! at_each_size {
     ($test:ident) => {
         at_each_size!($test:
@@ -30,32 +29,17 @@ fn bytes() -> [u8; SIZE] {
 struct Aligned([u8; SIZE]);
 
 #[test]
-fn the_first_bytes_are_read_and_written() {
+fn bytes_are_read_and_written_as_arrays_at_each_place() {
     fn at<const K: usize>() {
         let Aligned(source) = &Aligned(bytes());
-        for start in 0..16 {
-            for end in start + K..=start + K + 16 {
-                let Aligned(written) = &mut Aligned([1; SIZE]);
-                Simd::<u8, K>::from_slice(&source[start..end]).copy_to_slice(&mut written[start..end]);
-                let mut wanted = [1; SIZE];
-                wanted[start..start + K].copy_from_slice(&source[start..start + K]);
-                assert_eq!(*written, wanted, "{K} {start} {end}");
-            }
-        }
-    }
-    at_each_size!(at);
-}
-
-#[test]
-fn bytes_at_the_ends_of_their_range_are_read_in_each_lane() {
-    fn at<const K: usize>() {
-        for lane in 0..K {
-            for byte in [0, 1, 0x7F, 0x80, 0xFF] {
-                let (mut given, mut written) = ([7; K], [0; K]);
-                given[lane] = byte;
-                Simd::<u8, K>::from_slice(&given).copy_to_slice(&mut written);
-                assert_eq!(written, given, "{lane} of {K}");
-            }
+        for start in 0..=SIZE - K {
+            let Aligned(written) = &mut Aligned([1; SIZE]);
+            let read: [u8; K] = *unsafe { chunk_unchecked!(source, start, K) };
+            assert_eq!(read, source[start..start + K], "{K} {start}");
+            *unsafe { chunk_unchecked_mut!(written, start, K) } = read;
+            let mut wanted = [1; SIZE];
+            wanted[start..start + K].copy_from_slice(&source[start..start + K]);
+            assert_eq!(*written, wanted, "{K} {start}");
         }
     }
     at_each_size!(at);
@@ -77,16 +61,29 @@ fn words<T>(call: impl FnOnce() -> T) -> &'static str {
 }
 
 #[test]
-fn fewer_bytes_than_a_vector_has_panic() {
+fn fewer_bytes_than_an_array_has_panic_where_it_is_tested() {
     fn at<const K: usize>() {
-        let (source, why) = (bytes(), "fewer bytes than a vector has");
-        for len in 0..K {
-            assert_eq!(words(|| Simd::<u8, K>::from_slice(&source[..len])), why, "{len} of {K}");
-            let write = || Simd::<u8, K>::from_slice(&source).copy_to_slice(&mut [0; SIZE][..len]);
-            assert_eq!(words(write), why, "{len} of {K}");
+        let (source, why) = (bytes(), "there are fewer bytes");
+        for (len, start) in
+            (0..=K).flat_map(|len| [0, 1, len, len + 1, usize::MAX - K + 1, usize::MAX].map(|start| (len, start)))
+        {
+            if start == 0 && len == K {
+                continue;
+            }
+            assert_eq!(
+                words(|| *unsafe { chunk_unchecked!(&source[..len], start, K) }),
+                why,
+                "{K} of {len} from {start}"
+            );
+            let all = &mut bytes();
+            let write = || *unsafe { chunk_unchecked_mut!(&mut all[..len], start, K) } = [1; K];
+            assert_eq!(words(write), why, "{K} of {len} from {start}");
+            assert_eq!(*all, source);
         }
     }
-    at_each_size!(at);
+    if IS_TESTED {
+        at_each_size!(at);
+    }
 }
 
 /// A release on a machine of 64 bits takes what is proved as it is, and each other build tests it.
