@@ -1,25 +1,17 @@
 use Rattle.std.proofs.Common.{arith}
 use Rattle.std.proofs.lemmas.Iterator.{YieldsList-from_chars}
 use Rattle.std.proofs.lemmas.Iterator.Consumers.{YieldsList-from_enumerate}
-use Rattle.arraystring.proofs.TextLaws.{size-append}
 use Rattle.arraystring.proofs.AdditionLaws.{addition-refused}
 use Rattle.arraystring.proofs.LoopLaws.{pieces-all, pieces-more}
 use Rattle.arraystring_uses.specs.Commas.{piece}
 use Rattle.arraystring_uses.proofs.commas.with_commas.Goals as goal
 
--- the pieces so far and the comma did not fit, and the whole begins with them
-pub returns-in_err-try_push : goal.returns-in_err-try_push
-returns-in_err-try_push g c =
+-- the pieces so far and the next one did not fit, and the whole begins with them
+pub returns-in_err-push_piece : goal.returns-in_err-push_piece
+returns-in_err-push_piece g c =
     let all = YieldsList-from_enumerate (YieldsList-from_chars c.args.text.now c.utf8.text cc) cc in
     let more = pieces-more all _ c.loop-index.yielded_by piece c.in-Some.is c.next.ensures.steps in
-    grind (arith, more, addition-refused _ _ c.in_err-try_push.ensures, c.from_residual.ensures)
-
--- nor does the whole fit if the character did not, behind its comma or without one
-pub returns-in_err-try_push-2 : goal.returns-in_err-try_push-2
-returns-in_err-try_push-2 g c =
-    let all = YieldsList-from_enumerate (YieldsList-from_chars c.args.text.now c.utf8.text cc) cc in
-    let more = pieces-more all _ c.loop-index.yielded_by piece c.in-Some.is c.next.ensures.steps in
-    grind (arith, more, size-append, addition-refused _ _ c.in_err-try_push-2.ensures, c.from_residual-in_err-try_push-2.ensures)
+    grind (arith, more, addition-refused _ _ c.in_err-push_piece.ensures, c.from_residual.ensures)
 
 -- at the end the pieces so far are all
 pub returns : goal.returns
