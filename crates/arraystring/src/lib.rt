@@ -26,7 +26,7 @@ pub mod utils {
         Steps, encode, is_boundary, is_inside_boundary, look, shift, truncate_str,
         truncate_str_counted,
     };
-    pub use arraystring_core::utils::is_char_boundary;
+    pub use arraystring_core::array_string::is_char_boundary;
 }
 
 /// What most callers import.

@@ -16,14 +16,14 @@ order-bytes (c ∷ a) [] = grind (arith, nat_tests)
 order-bytes (c ∷ a) (d ∷ b) = grind (arith, nat_tests, order-bytes a b)
 
 -- the order in words of its own
-before-less : (a b : List ℕ) → IsBefore a b → slice_cmp nat_cmp a b ≡ Less
-before-less a b (inl (c, rest, e)) = rw e (go a)
+before-gives_less : (a b : List ℕ) → IsBefore a b → slice_cmp nat_cmp a b ≡ Less
+before-gives_less a b (inl (c, rest, e)) = rw e (go a)
   where
     -- equal characters decide nothing, so the rest does
     go : (a : List ℕ) → slice_cmp nat_cmp a (a ++ c ∷ rest) ≡ Less
     go [] = refl
     go (x ∷ a) = grind (arith, nat_tests, go a)
-before-less a b (inr (p, c, d, x, y, ea, eb, lt)) = rw (ea, eb) (go p)
+before-gives_less a b (inr (p, c, d, x, y, ea, eb, lt)) = rw (ea, eb) (go p)
   where
     -- equal characters decide nothing, and then c < d does
     go : (p : List ℕ) → slice_cmp nat_cmp (p ++ c ∷ x) (p ++ d ∷ y) ≡ Less
@@ -34,11 +34,11 @@ longer : (x : ℕ) (xs ys : List ℕ) → IsBefore xs ys → IsBefore (x ∷ xs)
 longer x xs ys (inl (c, rest, e)) = inl (c, rest, ap (λ l. x ∷ l) e)
 longer x xs ys (inr (p, c, d, us, vs, ea, eb, lt)) = inr (x ∷ p, c, d, us, vs, ap (λ l. x ∷ l) ea, ap (λ l. x ∷ l) eb, lt)
 
-less-before : (a b : List ℕ) → slice_cmp nat_cmp a b ≡ Less → IsBefore a b
-less-before [] [] e = absurd (cc)
-less-before [] (y ∷ ys) e = inl (y, ys, refl)
-less-before (x ∷ xs) [] e = absurd (cc)
-less-before (x ∷ xs) (y ∷ ys) e = go (nat_cmp x y) (ranked x y _ refl) e (less-before xs ys)
+less-gives_before : (a b : List ℕ) → slice_cmp nat_cmp a b ≡ Less → IsBefore a b
+less-gives_before [] [] e = absurd (cc)
+less-gives_before [] (y ∷ ys) e = inl (y, ys, refl)
+less-gives_before (x ∷ xs) [] e = absurd (cc)
+less-gives_before (x ∷ xs) (y ∷ ys) e = go (nat_cmp x y) (ranked x y _ refl) e (less-gives_before xs ys)
   where
     go : (o : Ordering) → MatchOrdering o (x < y) (x ≡ y) (y < x) → ordering_then o (slice_cmp nat_cmp xs ys) ≡ Less
         → (slice_cmp nat_cmp xs ys ≡ Less → IsBefore xs ys) → IsBefore (x ∷ xs) (y ∷ ys)
@@ -46,23 +46,23 @@ less-before (x ∷ xs) (y ∷ ys) e = go (nat_cmp x y) (ranked x y _ refl) e (le
     go Equal same e rest = rw same (longer y xs ys (rest e))
     go Greater gt e rest = absurd (cc)
 
-equal-same : (a b : List ℕ) → slice_cmp nat_cmp a b ≡ Equal → a ≡ b
-equal-same a b e = (bytes_decides a b).0 (texts_ties a b ∙ ap is_eq e)
+equal-gives_same : (a b : List ℕ) → slice_cmp nat_cmp a b ≡ Equal → a ≡ b
+equal-gives_same a b e = (bytes_decides a b).0 (texts_ties a b ∙ ap is_eq e)
 
-same-equal : (a b : List ℕ) → a ≡ b → slice_cmp nat_cmp a b ≡ Equal
-same-equal a b e = rw e (tied_itself nat_list_cmp_total b)
+same-gives_equal : (a b : List ℕ) → a ≡ b → slice_cmp nat_cmp a b ≡ Equal
+same-gives_equal a b e = rw e (tied_itself nat_list_cmp_total b)
 
-greater-before : (a b : List ℕ) → slice_cmp nat_cmp a b ≡ Greater → IsBefore b a
-greater-before a b e = less-before b a (nat_list_cmp_total.antisymm b a ∙ ap ordering_reverse e)
+greater-gives_before : (a b : List ℕ) → slice_cmp nat_cmp a b ≡ Greater → IsBefore b a
+greater-gives_before a b e = less-gives_before b a (nat_list_cmp_total.antisymm b a ∙ ap ordering_reverse e)
 
-before-greater : (a b : List ℕ) → IsBefore b a → slice_cmp nat_cmp a b ≡ Greater
-before-greater a b is = nat_list_cmp_total.antisymm a b ∙ ap ordering_reverse (before-less b a is)
+before-gives_greater : (a b : List ℕ) → IsBefore b a → slice_cmp nat_cmp a b ≡ Greater
+before-gives_greater a b is = nat_list_cmp_total.antisymm a b ∙ ap ordering_reverse (before-gives_less b a is)
 
 -- what each result says
 pub order-says : (a b : List ℕ) (o : Ordering) → o ≡ slice_cmp nat_cmp a b → MatchOrdering o (IsBefore a b) (a ≡ b) (IsBefore b a)
-order-says a b Less e = less-before a b (sym e)
-order-says a b Equal e = equal-same a b (sym e)
-order-says a b Greater e = greater-before a b (sym e)
+order-says a b Less e = less-gives_before a b (sym e)
+order-says a b Equal e = equal-gives_same a b (sym e)
+order-says a b Greater e = greater-gives_before a b (sym e)
 
 -- the order is total and transitive, and no text comes before itself
 pub before-total : (a b : List ℕ) → IsBefore a b ⊎ (a ≡ b) ⊎ IsBefore b a
@@ -74,19 +74,19 @@ before-total a b = go (slice_cmp nat_cmp a b) (order-says a b _ refl)
     go Greater is = inr (inr is)
 
 pub before-trans : (a b c : List ℕ) → IsBefore a b → IsBefore b c → IsBefore a c
-before-trans a b c x y = less-before a c (nat_list_cmp_total.trans a b c (before-less a b x) (before-less b c y))
+before-trans a b c x y = less-gives_before a c (nat_list_cmp_total.trans a b c (before-gives_less a b x) (before-gives_less b c y))
 
 pub before-itself : (a : List ℕ) → IsBefore a a → ⊥
-before-itself a is = absurd (cc (before-less a a is, same-equal a a refl))
+before-itself a is = absurd (cc (before-gives_less a a is, same-gives_equal a a refl))
 
 -- what the bytes say of the characters
 pub bytes-less : (a b : List ℕ) → (slice_cmp nat_cmp (bytes a) (bytes b) ≡ Less) ↔ IsBefore a b
-bytes-less a b = rw order-bytes (less-before a b, before-less a b)
+bytes-less a b = rw order-bytes (less-gives_before a b, before-gives_less a b)
 
 pub bytes-equal : (a b : List ℕ) → (slice_cmp nat_cmp (bytes a) (bytes b) ≡ Equal) ↔ (a ≡ b)
-bytes-equal a b = rw order-bytes (equal-same a b, same-equal a b)
+bytes-equal a b = rw order-bytes (equal-gives_same a b, same-gives_equal a b)
 
 pub bytes-greater : (a b : List ℕ) → (slice_cmp nat_cmp (bytes a) (bytes b) ≡ Greater) ↔ IsBefore b a
-bytes-greater a b = rw order-bytes (greater-before a b, before-greater a b)
+bytes-greater a b = rw order-bytes (greater-gives_before a b, before-gives_greater a b)
 
 pub ruleset order_of_bytes = (order-bytes, bytes-less, bytes-equal, bytes-greater)

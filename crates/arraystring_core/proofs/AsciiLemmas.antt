@@ -3,15 +3,17 @@ use Rattle.std.proofs.Common.{◌≡◌, ℕ, ◌+◌, ◌-◌, ◌<◌, ◌≤�
 use Rattle.std.proofs.lemmas.Bool.Decides.{nat_tests}
 use Rattle.std.proofs.lemmas.List.{append-nil, map-append, length-map}
 use Rattle.std.proofs.lemmas.Str.Ascii.{uppercase_ascii, lowercase_ascii, uppercase_is, lowercase_is}
-use Rattle.std.specs.Char.{to_ascii_uppercase, to_ascii_lowercase}
 use Rattle.arraystring_base.specs.Text.{IsScalarValue, IsText, size, utf8, bytes, front, back, boundary}
 use Rattle.arraystring_base.proofs.TextLaws.{bytes-utf8, chars-bytes, text-chars}
-use Rattle.arraystring_base.proofs.BoundaryLaws.{front-start, front-end, back-start, back-end}
+use Rattle.arraystring_base.proofs.BoundaryLaws.{boundary-is, boundary-end, front-start, front-end, back-start, back-end}
 use Rattle.arraystring_core.specs.Stored.{Stored}
 use Rattle.arraystring_core.specs.Layout.{stored, IsStored}
 use Rattle.arraystring_core.specs.GhostProofs.{stored-utf8, stored-bytes}
 use Rattle.arraystring_core.proofs.StoredLaws.{opened-within}
 use Rattle.arraystring_core.specs.Edits.{part}
+use Rattle.arraystring_core.specs.Ascii.{in_case}
+use Rattle.arraystring_core.specs.declared.array_string.ascii.Case.{Case}
+use Rattle.arraystring_core.specs.declared.array_string.ascii.Case.TheVariants.{Upper, Lower}
 use Rattle.arraystring_core.proofs.PartLemmas.{part_stored}
 use Rattle.arraystring_core.proofs.SpanLemmas.{StoredAt, spliced, filled}
 
@@ -20,11 +22,9 @@ pub record IsAsciiChange (f : ℕ → ℕ) : Type 0 where
   pub low : (c : ℕ) → c < 128 → f c < 128
   pub high : (c : ℕ) → 128 ≤ c → f c ≡ c
 
-pub uppercase-change : IsAsciiChange to_ascii_uppercase
-uppercase-change = record { low = uppercase_ascii; high = λ c ge. (uppercase_is c).2 (omega arith) }
-
-pub lowercase-change : IsAsciiChange to_ascii_lowercase
-lowercase-change = record { low = lowercase_ascii; high = λ c ge. (lowercase_is c).2 (omega arith) }
+pub case-change : (case : Case) → IsAsciiChange (in_case case)
+case-change Upper = record { low = uppercase_ascii; high = λ c ge. (uppercase_is c).2 (omega arith) }
+case-change Lower = record { low = lowercase_ascii; high = λ c ge. (lowercase_is c).2 (omega arith) }
 
 module _ (f : ℕ → ℕ) (is : IsAsciiChange f) where
   -- a character below 128 is one byte and stays one, and any other stays as it is, as do its bytes, which are all 128 and more
@@ -74,6 +74,10 @@ module _ {f : ℕ → ℕ} (is : IsAsciiChange f) {array_size : ℕ} {array : Li
       (rw tail refl) (rw (less, past) at written))
 
 -- all of a text is changed
-pub whole-changed : (f : ℕ → ℕ) (t : List ℕ) {n : ℕ} {new : List ℕ} → n ≡ size t → new ≡ front t 0 ++ (map f (part t 0 n) ++ back t n) → new ≡ map f t
-whole-changed f t long written =
-    rw (long, front-start t, back-start (front t (size t)), front-end t, back-end t, append-nil (map f t)) at written
+pub whole-changed : (f : ℕ → ℕ) (t : List ℕ) → front t 0 ++ (map f (part t 0 (size t)) ++ back t (size t)) ≡ map f t
+whole-changed f t = simp (front-start t, front-end t, back-start t, back-end t, append-nil (map f t))
+
+pub boundary-start : (t : List ℕ) → boundary t 0 ≡ true
+boundary-start t = boundary-is [] t 0 refl
+
+pub ruleset whole = (whole-changed, boundary-start, boundary-end)

@@ -1,5 +1,5 @@
 -- Runs of bytes that are moved and written.
-use Rattle.std.proofs.Common.{◌≡◌, ℕ, ◌+◌, ◌≤◌, List, ◌++◌, length, take, drop, sym, ap, ◌∙◌, arith, refl, take-take, take_at, length-take-le, length-drop, length-append, append_assoc}
+use Rattle.std.proofs.Common.{◌≡◌, ℕ, ◌+◌, ◌≤◌, List, ◌++◌, length, take, drop, sym, ap, ◌∙◌, arith, take-take, take_at, length-take-le, length-drop, length-append, append_assoc}
 use Rattle.std.proofs.lemmas.List.{drop-take, drop_at, take-append-le}
 use Rattle.std.proofs.lemmas.Slice.{drop-append-drop}
 
@@ -32,11 +32,6 @@ written old new given at k wide within is =
 pub shifted : (old new : List ℕ) (from to k : ℕ) → from + k ≤ length old → to + k ≤ length old
     → new ≡ take to old ++ (take k (drop from old) ++ drop (to + k) old) → IsWritten old new (take k (drop from old)) to k
 shifted old new from to k source = written old new _ to k (length-take-le k (drop from old) (omega (arith, length-drop from old)))
-
--- as many bytes as there were
-pub written-length : (old new given : List ℕ) (at : ℕ) → at + length given ≤ length old
-    → new ≡ take at old ++ (given ++ drop (at + length given) old) → length new ≡ length old
-written-length old new given at within is = (written old new given at (length given) refl within is).long
 
 -- what was written from `at` on, said of 0 + at
 pub written-from-zero : (old new given : List ℕ) (at : ℕ) → new ≡ take at old ++ (given ++ drop (at + length given) old)

@@ -16,5 +16,3 @@ mod EndLemmas
 mod CauseLemmas
 mod PartLemmas
 mod DrainLemmas
-mod UnitLemmas
-mod WellFormedLemmas

@@ -1,7 +1,8 @@
 -- A text at an offset of its array, and what it is once a part of it is replaced, dropped or kept.
 use Rattle.std.proofs.Common.{◌≡◌, ℕ, ◌+◌, ◌-◌, ◌≤◌, List, ◌++◌, length, take, drop, refl, ap, ◌∙◌, arith, IsUtf8, chars, true, take-take}
 use Rattle.std.proofs.lemmas.Str.{IsUtf8-append, chars-append}
-use Rattle.std.proofs.lemmas.List.{drop-take, drop-drop}
+use Rattle.std.proofs.lemmas.List.{drop-take, drop-drop, length-replicate}
+use Rattle.std.proofs.Math.ListN.{replicate}
 use Rattle.std.proofs.Math.Seq.{take-add}
 use Rattle.arraystring_base.specs.Text.{size, cap, front, back, boundary}
 use Rattle.arraystring_base.proofs.TextLaws.{bytes-utf8, size-borrowed}
@@ -22,6 +23,15 @@ pub stored-from-utf8 : {array_size : ℕ} (array : List ℕ) (p n : ℕ) {bs t :
     → p + n ≤ cap array_size → take n (drop p array) ≡ bs → StoredAt array_size array p n t
 stored-from-utf8 array p n u is long within same =
     record { in_array = record { within = within; length = long; utf8 = ∣ rw same u ∣₁ }; shown = ap chars same ∙ is }
+
+-- `given` was written at the start of a new array
+pub made : {array_size : ℕ} {given after : List ℕ} → IsUtf8 given → length given ≤ cap array_size
+    → after ≡ take 0 (replicate array_size 0) ++ (given ++ drop (0 + length given) (replicate array_size 0))
+    → StoredAt array_size after 0 (length given) (chars given)
+made {array_size} {given} {after} u fits put =
+    let zeros : length {A = ℕ} (replicate array_size 0) ≡ array_size = length-replicate array_size 0 in
+    let there = written (replicate array_size 0) after given 0 (length given) refl (omega (arith, zeros)) put in
+    stored-from-utf8 after 0 (length given) u refl (there.long ∙ zeros) (omega arith) there.here
 
 -- where the same bytes are is the same text
 pub carried : {array_size : ℕ} {array : List ℕ} {p n : ℕ} {t : List ℕ} → StoredAt array_size array p n t → (after : List ℕ) (q : ℕ)

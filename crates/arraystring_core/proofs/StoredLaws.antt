@@ -38,3 +38,5 @@ pub ruleset opened_size = (opened-size)
 pub ruleset opened_end = (opened-end)
 
 pub ruleset chars_nil = (chars-nil)
+
+pub ruleset within = (opened-within)

@@ -14,4 +14,6 @@ pub mod RangeEnds
 pub mod Drained
 pub mod FromUtf16
 pub mod Json
+pub mod Ascii
+pub mod Splice
 pub mod GhostProofs

@@ -3,8 +3,8 @@
 //! The modules below have its other calls:
 //!
 //! - `traits` has its impls of traits;
-//! - `unchecked` and `counted` have calls that most programs do without;
-//! - `checks` has the tests of the rows;
+//! - `unchecked` has the calls that leave a test to the caller, of which most programs need none;
+//! - `boundary` has the test for a boundary, and `checks` those of the rows;
 //! - `splice` replaces a part of the text, `append` appends what the text has to move for, and `remove` takes out
 //!   a part, a front or an end.
 //!
@@ -49,11 +49,10 @@ use std::str;
 mod append;
 mod ascii;
 mod borrowed_range;
+mod boundary;
 mod checks;
 mod construct;
-mod counted;
 mod drained_range;
-mod fill;
 mod insert;
 mod push;
 mod remove;
@@ -64,6 +63,8 @@ mod traits;
 mod trim;
 mod unchecked;
 mod utf16;
+
+pub use boundary::is_char_boundary;
 
 /// A string of at most `N` bytes of UTF-8, and at most 255, stored inline. Sizes, indices and the
 /// capacity count bytes of UTF-8.

@@ -78,7 +78,6 @@ impl<const N: usize> Drain<N> {
         ensures text { IsText self.now.left }
         ensures fits { size self.now.left ≤ cap N }
     {
-        prove!(self.front <= self.size);
         let all = &self.array[..];
         let start = self.start as usize;
         let (front, end) = (start + self.front as usize, start + self.size as usize);

@@ -99,7 +99,8 @@ impl<const N: usize> ArrayString<N> {
     /// Returns `Err(AllocError)` if there is not enough memory.
     pub fn to_value(&self, alloc: Global) -> Result<Value, AllocError>
         ensures text { IfOk result (λ value. view value ≡ json_text self.now.text) }
-        ensures reads_back { IfOk result (λ value. text_within (view value) (cap N) ≡ Some self.now.text) }
+        ensures reads_back { IfOk result
+            (λ value. text_within (view value) (cap N) ≡ Some self.now.text) }
         ensures reads_whole { IfOk result (λ value. whole_text (view value) ≡ Some self.now.text) }
     {
         Ok(Value::String(String::from_str(alloc, self.as_str())?))
@@ -113,7 +114,8 @@ impl<const N: usize> ArrayString<N> {
     /// Returns `Err(NotText)` if `value` is no JSON string: null, a boolean, a number, an array or
     /// an object.
     pub fn from_value(value: &Value) -> Result<Self, NotText>
-        ensures { MatchResult result (λ string. text_within (view value.now) (cap N) ≡ Some string.text)
+        ensures { MatchResult result
+            (λ string. text_within (view value.now) (cap N) ≡ Some string.text)
             (λ _. text_within (view value.now) (cap N) ≡ None) }
     {
         let text = value.as_str().ok_or(NotText)?;
@@ -131,7 +133,8 @@ impl<const N: usize> ArrayString<N> {
     /// - `Err(ValueError::OutOfBounds)` if the JSON string is larger than the capacity.
     pub fn try_from_value(value: &Value) -> Result<Self, ValueError>
         ensures text { IfOk result (λ string. whole_text (view value.now) ≡ Some string.text) }
-        ensures refusal { IfErr result (λ error. IsWhyRefused (whole_text (view value.now)) (cap N) error) }
+        ensures refusal { IfErr result
+            (λ error. IsWhyRefused (whole_text (view value.now)) (cap N) error) }
     {
         let text = value.as_str().ok_or(NotText)?;
         Ok(Self::try_from_str(text)?)

@@ -60,7 +60,8 @@ pub fn left_fits<const N: usize>(drained: &Drain<N>)
 /// If some characters or pieces no longer fit, what comes after them changes no cut.
 #[tactic(auto, using(crate::proofs::TakenLaws::past_the_room))]
 pub fn what_comes_past_the_room()
-    ensures characters { (taken more : List ℕ) (n : ℕ) → n < size taken → cut (taken ++ more) n ≡ cut taken n }
+    ensures characters { (taken more : List ℕ) (n : ℕ) → n < size taken
+        → cut (taken ++ more) n ≡ cut taken n }
     ensures pieces { (taken more : List (List ℕ)) (n : ℕ)
         → n < size (joined taken) → cut (joined (taken ++ more)) n ≡ cut (joined taken) n }
 {}
@@ -70,7 +71,8 @@ pub fn what_comes_past_the_room()
 /// of the joined pieces does.
 #[tactic(auto, using(crate::proofs::TakenLaws::bytes_joined))]
 pub fn pieces_make_one_text(whole: &str)
-    ensures text { (pieces : List (List ℕ)) → whole.now ≡ joined (map bytes pieces) → chars whole.now ≡ joined pieces }
+    ensures text { (pieces : List (List ℕ)) → whole.now ≡ joined (map bytes pieces)
+        → chars whole.now ≡ joined pieces }
     ensures cut { (pieces : List (List ℕ)) (n : ℕ)
         → whole.now ≡ joined (map bytes pieces) → cut (joined pieces) n ≡ cut (chars whole.now) n }
 {}
@@ -78,7 +80,8 @@ pub fn pieces_make_one_text(whole: &str)
 /// The UTF-16 of a text that fits is read back as that text by `try_from_utf16`, `from_utf16` and
 /// `from_utf16_lossy`: no other result meets their contracts.
 pub fn units_read_back()
-    ensures reading { (t : List ℕ) → IsText t → (items : List Unit16) × IsReading (text_units t) items }
+    ensures reading { (t : List ℕ) → IsText t
+        → (items : List Unit16) × IsReading (text_units t) items }
     ensures whole { (t : List ℕ) (n : ℕ) (items : List Unit16) (result : Result Stored Error)
         → IsText t → size t ≤ n → IsReading (text_units t) items
         → GivesWhole (first_stop items n) result → IsOkAnd result (λ string. string.text ≡ t) }
@@ -94,7 +97,8 @@ pub fn units_read_back()
 #[tactic(auto, using(crate::proofs::EditLaws::popped))]
 pub fn popped()
     ensures last { (front : List ℕ) (ch : ℕ)
-        → ((popping (front ++ ch ∷ [])).result ≡ Some ch) × ((popping (front ++ ch ∷ [])).after ≡ front) }
+        → ((popping (front ++ ch ∷ [])).result ≡ Some ch)
+        × ((popping (front ++ ch ∷ [])).after ≡ front) }
     ensures empty { ((popping []).result ≡ None) × ((popping []).after ≡ []) }
 {}
 
@@ -121,7 +125,8 @@ pub fn white_space()
 /// that it returns.
 #[tactic(auto, using(arraystring_base::proofs::BoundaryLaws::parts))]
 pub fn split_back()
-    ensures { (t : List ℕ) (i : ℕ) → first_cause (split t i).tests ≡ None → (split t i).after ++ (split t i).result ≡ t }
+    ensures { (t : List ℕ) (i : ℕ) → first_cause (split t i).tests ≡ None
+        → (split t i).after ++ (split t i).result ≡ t }
 {}
 
 /// What is replaced can be put back. Suppose that a replacement in a text that fits `n` bytes is
@@ -132,8 +137,10 @@ pub fn replaced_back()
         first_cause (replacement t start end given n).tests ≡ None →
         first_cause (replacement (replacement t start end given n).after
         start (start + size given) (part t start end) n).tests ≡ None }
-    ensures back { (t given : List ℕ) (start end n : ℕ) → first_cause (replacement t start end given n).tests ≡ None →
-        (replacement (replacement t start end given n).after start (start + size given) (part t start end) n).after ≡ t }
+    ensures back { (t given : List ℕ) (start end n : ℕ)
+        → first_cause (replacement t start end given n).tests ≡ None
+        → (replacement (replacement t start end given n).after start (start + size given)
+        (part t start end) n).after ≡ t }
 {}
 
 /// Steps at both ends of an iterator, in any mix, give each character at most once. Its characters
@@ -143,8 +150,10 @@ pub fn replaced_back()
 pub fn walks()
     ensures whole { (ends : List End) (t : List ℕ)
         → (walked ends t).fronts ++ ((walked ends t).left ++ reverse (walked ends t).backs) ≡ t }
-    ensures each { (ends : List End) (t : List ℕ) → length (walked ends t).left ≡ length t - length ends }
-    ensures all { (ends : List End) (t : List ℕ) → length t ≤ length ends → (walked ends t).left ≡ [] }
+    ensures each { (ends : List End) (t : List ℕ)
+        → length (walked ends t).left ≡ length t - length ends }
+    ensures all { (ends : List End) (t : List ℕ) → length t ≤ length ends
+        → (walked ends t).left ≡ [] }
     ensures ended { (ends : List End) → walked ends [] ≡ walked [] [] }
 {}
 
@@ -153,10 +162,13 @@ pub fn walks()
 pub fn equal_texts()
     ensures same { (a b : List ℕ) → IsTrue (pointwise nat_eq a b) ↔ (a ≡ b) }
     ensures reflexive { (a : List ℕ) → IsTrue (pointwise nat_eq a a) }
-    ensures symmetric { (a b : List ℕ) → IsTrue (pointwise nat_eq a b) → IsTrue (pointwise nat_eq b a) }
+    ensures symmetric { (a b : List ℕ) → IsTrue (pointwise nat_eq a b)
+        → IsTrue (pointwise nat_eq b a) }
     ensures transitive { (a b c : List ℕ)
-        → IsTrue (pointwise nat_eq a b) → IsTrue (pointwise nat_eq b c) → IsTrue (pointwise nat_eq a c) }
-    ensures hashed { (a b : List ℕ) → IsTrue (pointwise nat_eq a b) → fed.str (bytes a) ≡ fed.str (bytes b) }
+        → IsTrue (pointwise nat_eq a b) → IsTrue (pointwise nat_eq b c)
+        → IsTrue (pointwise nat_eq a c) }
+    ensures hashed { (a b : List ℕ) → IsTrue (pointwise nat_eq a b)
+        → fed.str (bytes a) ≡ fed.str (bytes b) }
 {}
 
 /// Make a JSON value of a text of at most `n` bytes. Read back and cut to `n` bytes, it gives that
@@ -171,6 +183,8 @@ pub fn json_reads_back()
 #[tactic(auto, using(crate::proofs::JsonLaws::whole))]
 pub fn json_reads_whole()
     ensures back { (t : List ℕ) → IsText t → whole_text (json_text t) ≡ Some t }
-    ensures cut { (value : Data) (n : ℕ) → text_within value n ≡ option_map (λ t. cut t n) (whole_text value) }
-    ensures same { (value : Data) (t : List ℕ) (n : ℕ) → whole_text value ≡ Some t → size t ≤ n → text_within value n ≡ Some t }
+    ensures cut { (value : Data) (n : ℕ)
+        → text_within value n ≡ option_map (λ t. cut t n) (whole_text value) }
+    ensures same { (value : Data) (t : List ℕ) (n : ℕ) → whole_text value ≡ Some t → size t ≤ n
+        → text_within value n ≡ Some t }
 {}

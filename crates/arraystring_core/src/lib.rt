@@ -8,7 +8,6 @@ pub mod drain;
 pub mod integration;
 pub mod laws;
 mod range_ends;
-pub mod utils;
 mod well_formed;
 
 pub use array_string::ArrayString;

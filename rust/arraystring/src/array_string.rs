@@ -63,7 +63,6 @@ mod traits;
 mod checks;
 mod append;
 mod splice;
-mod fill;
 mod unchecked;
 
 /// A string of at most `N` bytes of UTF-8, and at most 255, stored inline. Sizes, indices and the

@@ -261,7 +261,8 @@ unsafe fn encode_wide(ch: char, all: &mut [u8], at: usize) -> usize {
 /// <details><summary>Contract</summary>
 ///
 /// ```text
-/// ensures { MatchResult result (λ string. (string.now ≡ given.now) × IsUtf8 given.now) (λ _. ¬ (IsUtf8 given.now)) }
+/// ensures { MatchResult result (λ string. (string.now ≡ given.now) × IsUtf8 given.now)
+///     (λ _. ¬ (IsUtf8 given.now)) }
 /// ```
 ///
 /// [How to read a contract](crate::contracts)
@@ -269,11 +270,8 @@ unsafe fn encode_wide(ch: char, all: &mut [u8], at: usize) -> usize {
 /// </details>
 #[inline]
 pub(crate) fn read_utf8(given: &[u8]) -> Result<&str, Utf8> {
-    let (blocks, last) = (given.len() / 32 * 32, given.len().saturating_sub(32));
-    // SAFETY: this is within: `blocks` is at most `given.len()`, and so is `last`.
-    if unsafe { get_unchecked!(given, ..blocks) }.is_ascii() && unsafe { get_unchecked!(given, last..) }.is_ascii() {
-        // SAFETY: the blocks of 32 bytes in front and the last 32 bytes are all of them, and ASCII is UTF-8.
-        return Ok(unsafe { str::from_utf8_unchecked(given) });
+    match str::from_utf8(given) {
+        Ok(string) => Ok(string),
+        Err(_) => Err(Utf8),
     }
-    str::from_utf8(given).map_err(Utf8::from)
 }

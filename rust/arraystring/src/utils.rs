@@ -1,4 +1,4 @@
-// Proved sources: crates/arraystring_base/src/utils.rt, crates/arraystring_core/src/utils.rt
+// Proved sources: crates/arraystring_base/src/utils.rt, crates/arraystring_core/src/array_string/boundary.rt
 //! Boundaries, cuts and moves of bytes. Sizes and indices count bytes of UTF-8.
 
 use crate::ArrayString;

@@ -74,7 +74,7 @@ fn one_byte_from_80_on_at_each_place_of_ascii() {
 
 #[test]
 fn one_byte_from_80_on_at_each_place_of_long_ascii() {
-    // Around each block of 32 bytes behind those of the test above, and the longest.
+    // Around each multiple of 32 behind those of the test above, and the longest.
     let lengths: Vec<usize> =
         (MOST + 1..=520).filter(|len| len % 32 <= 1 || len % 32 == 31 || len % 100 == 0).collect();
     let count =

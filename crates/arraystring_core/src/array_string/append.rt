@@ -30,7 +30,8 @@ impl<const N: usize> ArrayString<N> {
     #[cold]
     #[inline(never)]
     pub(super) fn compact_and_push(&mut self, ch: char) -> Result<(), OutOfBounds>
-        ensures { Makes (addition self.old.text (ch ∷ []) (cap N)) self.old.text (from_out_of_bounds result) self.new.text }
+        ensures { Makes (addition self.old.text (ch ∷ []) (cap N))
+            self.old.text (from_out_of_bounds result) self.new.text }
     {
         let (start, size) = (self.start as usize, self.size as usize);
         if !Self::has_room(size, ch) {
@@ -77,10 +78,13 @@ impl<const N: usize> ArrayString<N> {
         &mut self,
         characters: I,
     ) -> Result<(), OutOfBounds>
-        requires { IsFiniteIterable I.into_iter_gives I.IntoIter.can_next I.IntoIter.remaining characters }
+        requires { IsFiniteIterable I.into_iter_gives I.IntoIter.can_next
+            I.IntoIter.remaining characters }
         ensures { (taken : List ℕ)
-            × Takes I.into_iter_gives I.IntoIter.next_gives (λ cs. cs) characters (cap N - size self.old.text) taken
-            × MatchResult result (λ _. size taken ≤ cap N - size self.old.text) (λ _. cap N - size self.old.text < size taken)
+            × Takes I.into_iter_gives I.IntoIter.next_gives (λ cs. cs) characters
+            (cap N - size self.old.text) taken
+            × MatchResult result (λ _. size taken ≤ cap N - size self.old.text)
+            (λ _. cap N - size self.old.text < size taken)
             × (self.new.text ≡ self.old.text ++ cut taken (cap N - size self.old.text)) }
     {
         let _ = &self.array; // gives the prover that the text fits
@@ -99,13 +103,16 @@ impl<const N: usize> ArrayString<N> {
         &mut self,
         pieces: I,
     ) -> Result<(), OutOfBounds>
-        requires { IsFiniteIterable I.into_iter_gives I.IntoIter.can_next I.IntoIter.remaining pieces }
+        requires { IsFiniteIterable I.into_iter_gives I.IntoIter.can_next
+            I.IntoIter.remaining pieces }
         ensures { (taken : List (Bor (List ℕ)))
-            × Takes I.into_iter_gives I.IntoIter.next_gives joined_pieces pieces (cap N - size self.old.text) taken
+            × Takes I.into_iter_gives I.IntoIter.next_gives joined_pieces pieces
+            (cap N - size self.old.text) taken
             × MatchResult result
             (λ _. size (joined_pieces taken) ≤ cap N - size self.old.text)
             (λ _. cap N - size self.old.text < size (joined_pieces taken))
-            × (self.new.text ≡ self.old.text ++ cut (joined_pieces taken) (cap N - size self.old.text)) }
+            × (self.new.text
+            ≡ self.old.text ++ cut (joined_pieces taken) (cap N - size self.old.text)) }
     {
         let _ = &self.array; // gives the prover that the text fits
         for piece in pieces {

@@ -24,11 +24,14 @@ impl<const N: usize> ArrayString<N> {
     /// If `has_bounds` holds, a `get` of the range that returned `Some` proves the rest.
     pub fn slice<R: RangeBounds<u8> + Drop>(&self, range: R) -> &str
         requires known { R.has_bounds range }
-        requires order { start_index (R.start_bound range) ≤ end_index (R.end_bound range) (size self.now.text) }
+        requires order { start_index (R.start_bound range)
+            ≤ end_index (R.end_bound range) (size self.now.text) }
         requires start { IsTrue (boundary self.now.text (start_index (R.start_bound range))) }
-        requires end { IsTrue (boundary self.now.text (end_index (R.end_bound range) (size self.now.text))) }
+        requires end { IsTrue (boundary self.now.text
+            (end_index (R.end_bound range) (size self.now.text))) }
         ensures { let t = self.now.text in
-            result.now ≡ bytes (part t (start_index (R.start_bound range)) (end_index (R.end_bound range) (size t))) }
+            result.now ≡ bytes (part t (start_index (R.start_bound range))
+            (end_index (R.end_bound range) (size t))) }
     {
         let (start, end) = plain_ends(range, self.len());
         self.slice_unchecked(start, end)
@@ -39,7 +42,8 @@ impl<const N: usize> ArrayString<N> {
     /// read as in `slice`.
     pub fn get<R: RangeBounds<u8> + Drop>(&self, range: R) -> Option<&str>
         ensures { OfReturnedBounds R.has_bounds R.start_bound R.end_bound range (λ start end.
-            let found = part_in self.now.text (start_index start) (end_index end (size self.now.text)) in
+            let found = part_in self.now.text (start_index start)
+            (end_index end (size self.now.text)) in
             MatchOption result (found ≡ None) (λ s. found ≡ Some (chars s.now))) }
     {
         let (start, end) = plain_ends(range, self.len());

@@ -11,7 +11,8 @@ impl<const N: usize> ArrayString<N> {
     /// Refuses an index past the text, and then one inside a character.
     #[inline(always)]
     pub(super) fn check_index(&self, index: u8) -> Result<(), Error>
-        ensures { result ≡ ok_unless (first_cause (past self.now.text index ∷ inside self.now.text index ∷ [])) tt }
+        ensures { result ≡ ok_unless
+            (first_cause (past self.now.text index ∷ inside self.now.text index ∷ [])) tt }
     {
         if index > self.len() {
             return Err(Error::OutOfBounds);
@@ -37,7 +38,8 @@ impl<const N: usize> ArrayString<N> {
     /// Refuses an index at which no character begins: at the end or past it, and then one inside a character.
     #[inline(always)]
     pub(super) fn check_removal(&self, index: u8) -> Result<(), Error>
-        ensures { result ≡ ok_unless (first_cause (at_end self.now.text index ∷ inside self.now.text index ∷ [])) tt }
+        ensures { result ≡ ok_unless
+            (first_cause (at_end self.now.text index ∷ inside self.now.text index ∷ [])) tt }
     {
         if index >= self.len() {
             return Err(Error::OutOfBounds);
@@ -79,7 +81,8 @@ impl<const N: usize> ArrayString<N> {
     /// Refuses an index in the text that is inside a character.
     #[inline(always)]
     fn check_boundary(&self, index: u8) -> Result<(), Error>
-        ensures { index ≤ size self.now.text → result ≡ ok_unless (first_cause (inside self.now.text index ∷ [])) tt }
+        ensures { index ≤ size self.now.text
+            → result ≡ ok_unless (first_cause (inside self.now.text index ∷ [])) tt }
     {
         if !self.is_boundary(index as usize) {
             return Err(Error::Utf8);

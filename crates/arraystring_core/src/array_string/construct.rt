@@ -8,10 +8,9 @@ ghost use Rattle.arraystring_core.specs.Construct.{IsWholeOrRefused};
 ghost use Rattle.arraystring_core.specs.Taken.{Takes, Gives, joined, joined_pieces, piece_text};
 
 use crate::ArrayString;
-use crate::array_string::fill::try_fill;
 use crate::well_formed::read_utf8;
 use arraystring_base::error::{Error, OutOfBounds, Utf8};
-use arraystring_base::utils::truncate_str;
+use arraystring_base::utils::{truncate_str, write_over};
 use std::str;
 
 impl<const N: usize> ArrayString<N> {
@@ -23,18 +22,16 @@ impl<const N: usize> ArrayString<N> {
     pub fn try_from_str(string: &str) -> Result<Self, OutOfBounds>
         ensures { IsWholeOrRefused (chars string.now) (cap N) (from_out_of_bounds result) }
     {
-        // One path for both outcomes, so that the string is copied into the result once.
+        if string.len() > Self::capacity() as usize {
+            return Err(OutOfBounds);
+        }
         let mut array = [0; N];
-        let (refused, size) = try_fill(&mut array, string.as_bytes());
-        let mut result = Ok(ArrayString {
+        write_over(&mut array, 0, string.as_bytes());
+        Ok(ArrayString {
             array,
             start: 0,
-            size,
-        });
-        if refused {
-            result = Err(OutOfBounds);
-        }
-        result
+            size: string.len() as u8,
+        })
     }
 
     /// Creates a string from the longest prefix of whole characters of `string` that fits.
@@ -57,11 +54,13 @@ impl<const N: usize> ArrayString<N> {
     pub fn try_from_iterator<'a, I: IntoIterator<Item = &'a str> + Drop>(
         pieces: I,
     ) -> Result<Self, OutOfBounds>
-        requires { IsFiniteIterable I.into_iter_gives I.IntoIter.can_next I.IntoIter.remaining pieces }
+        requires { IsFiniteIterable I.into_iter_gives I.IntoIter.can_next
+            I.IntoIter.remaining pieces }
         ensures taken { (taken : List (Bor (List ℕ)))
             × Takes I.into_iter_gives I.IntoIter.next_gives joined_pieces pieces (cap N) taken
             × IsWholeOrRefused (joined_pieces taken) (cap N) (from_out_of_bounds result) }
-        ensures whole { (all : List (List ℕ)) → Gives I.into_iter_gives I.IntoIter.next_gives piece_text pieces all
+        ensures whole { (all : List (List ℕ))
+            → Gives I.into_iter_gives I.IntoIter.next_gives piece_text pieces all
             → IsWholeOrRefused (joined all) (cap N) (from_out_of_bounds result) }
     {
         let mut made = Self::new();
@@ -76,11 +75,13 @@ impl<const N: usize> ArrayString<N> {
     ///
     /// The iterator must end, and until then the precondition of its `next` must hold.
     pub fn from_iterator<'a, I: IntoIterator<Item = &'a str> + Drop>(pieces: I) -> Self
-        requires { IsFiniteIterable I.into_iter_gives I.IntoIter.can_next I.IntoIter.remaining pieces }
+        requires { IsFiniteIterable I.into_iter_gives I.IntoIter.can_next
+            I.IntoIter.remaining pieces }
         ensures taken { (taken : List (Bor (List ℕ)))
             × Takes I.into_iter_gives I.IntoIter.next_gives joined_pieces pieces (cap N) taken
             × (result.text ≡ cut (joined_pieces taken) (cap N)) }
-        ensures whole { (all : List (List ℕ)) → Gives I.into_iter_gives I.IntoIter.next_gives piece_text pieces all
+        ensures whole { (all : List (List ℕ))
+            → Gives I.into_iter_gives I.IntoIter.next_gives piece_text pieces all
             → result.text ≡ cut (joined all) (cap N) }
     {
         let mut made = Self::new();
@@ -100,10 +101,13 @@ impl<const N: usize> ArrayString<N> {
     pub fn try_from_chars<I: IntoIterator<Item = char> + Drop>(
         characters: I,
     ) -> Result<Self, OutOfBounds>
-        requires { IsFiniteIterable I.into_iter_gives I.IntoIter.can_next I.IntoIter.remaining characters }
-        ensures taken { (taken : List ℕ) × Takes I.into_iter_gives I.IntoIter.next_gives (λ cs. cs) characters (cap N) taken
+        requires { IsFiniteIterable I.into_iter_gives I.IntoIter.can_next
+            I.IntoIter.remaining characters }
+        ensures taken { (taken : List ℕ)
+            × Takes I.into_iter_gives I.IntoIter.next_gives (λ cs. cs) characters (cap N) taken
             × IsWholeOrRefused taken (cap N) (from_out_of_bounds result) }
-        ensures whole { (all : List ℕ) → Gives I.into_iter_gives I.IntoIter.next_gives (λ c. c) characters all
+        ensures whole { (all : List ℕ)
+            → Gives I.into_iter_gives I.IntoIter.next_gives (λ c. c) characters all
             → IsWholeOrRefused all (cap N) (from_out_of_bounds result) }
     {
         let mut made = Self::new();
@@ -118,10 +122,13 @@ impl<const N: usize> ArrayString<N> {
     ///
     /// The iterator must end, and until then the precondition of its `next` must hold.
     pub fn from_chars<I: IntoIterator<Item = char> + Drop>(characters: I) -> Self
-        requires { IsFiniteIterable I.into_iter_gives I.IntoIter.can_next I.IntoIter.remaining characters }
-        ensures taken { (taken : List ℕ) × Takes I.into_iter_gives I.IntoIter.next_gives (λ cs. cs) characters (cap N) taken
+        requires { IsFiniteIterable I.into_iter_gives I.IntoIter.can_next
+            I.IntoIter.remaining characters }
+        ensures taken { (taken : List ℕ)
+            × Takes I.into_iter_gives I.IntoIter.next_gives (λ cs. cs) characters (cap N) taken
             × (result.text ≡ cut taken (cap N)) }
-        ensures whole { (all : List ℕ) → Gives I.into_iter_gives I.IntoIter.next_gives (λ c. c) characters all
+        ensures whole { (all : List ℕ)
+            → Gives I.into_iter_gives I.IntoIter.next_gives (λ c. c) characters all
             → result.text ≡ cut all (cap N) }
     {
         let mut made = Self::new();
@@ -141,7 +148,8 @@ impl<const N: usize> ArrayString<N> {
     pub fn try_from_utf8(given: &[u8]) -> Result<Self, Error>
         ensures malformed { ¬ (IsWellFormed given.now) → result ≡ Err Error.Utf8 }
         ensures too_large { result ≡ Err Error.OutOfBounds → IsWellFormed given.now }
-        ensures whole { (t : List ℕ) → IsText t → bytes t ≡ given.now → IsWholeOrRefused t (cap N) result }
+        ensures whole { (t : List ℕ) → IsText t → bytes t ≡ given.now
+            → IsWholeOrRefused t (cap N) result }
         ensures bytes { IfOk result (λ made. bytes made.text ≡ given.now) }
         ensures text { IfOk result (λ made. IsText made.text) }
     {
@@ -163,7 +171,8 @@ impl<const N: usize> ArrayString<N> {
     /// 3.9), even if only bytes that would be cut off are malformed.
     pub fn from_utf8(given: &[u8]) -> Result<Self, Utf8>
         ensures well_formed { IsOk result ↔ IsWellFormed given.now }
-        ensures cut { (t : List ℕ) → IsText t → bytes t ≡ given.now → IfOk result (λ made. made.text ≡ cut t (cap N)) }
+        ensures cut { (t : List ℕ) → IsText t → bytes t ≡ given.now
+            → IfOk result (λ made. made.text ≡ cut t (cap N)) }
         ensures text { IfOk result (λ made. IsText made.text) }
     {
         let Ok(string) = read_utf8(given) else {

@@ -18,7 +18,8 @@ impl<const N: usize> ArrayString<N> {
     /// Returns `Err(OutOfBounds)` if `ch` does not fit. The text is then unchanged.
     #[inline(always)]
     pub fn try_push(&mut self, ch: char) -> Result<(), OutOfBounds>
-        ensures { Makes (addition self.old.text (ch ∷ []) (cap N)) self.old.text (from_out_of_bounds result) self.new.text }
+        ensures { Makes (addition self.old.text (ch ∷ []) (cap N))
+            self.old.text (from_out_of_bounds result) self.new.text }
     {
         let end = self.end();
         if Self::has_room(end, ch) {
@@ -56,7 +57,8 @@ impl<const N: usize> ArrayString<N> {
 
     /// Appends the longest prefix of whole characters of `string` that fits.
     pub fn push_str(&mut self, string: &str)
-        ensures { Makes (addition_of_cut self.old.text (chars string.now) (cap N)) self.old.text (Ok result) self.new.text }
+        ensures { Makes (addition_of_cut self.old.text (chars string.now) (cap N))
+            self.old.text (Ok result) self.new.text }
     {
         if self.start > 0 {
             return self.push_str_behind_start(string);
@@ -78,12 +80,17 @@ impl<const N: usize> ArrayString<N> {
     ///
     /// The iterator must end, and until then the precondition of its `next` must hold.
     pub fn extend_chars<I: IntoIterator<Item = char> + Drop>(&mut self, characters: I)
-        requires { IsFiniteIterable I.into_iter_gives I.IntoIter.can_next I.IntoIter.remaining characters }
+        requires { IsFiniteIterable I.into_iter_gives I.IntoIter.can_next
+            I.IntoIter.remaining characters }
         ensures taken { (taken : List ℕ)
-            × Takes I.into_iter_gives I.IntoIter.next_gives (λ cs. cs) characters (cap N - size self.old.text) taken
-            × Makes (addition_of_cut self.old.text taken (cap N)) self.old.text (Ok result) self.new.text }
-        ensures whole { (all : List ℕ) → Gives I.into_iter_gives I.IntoIter.next_gives (λ c. c) characters all
-            → Makes (addition_of_cut self.old.text all (cap N)) self.old.text (Ok result) self.new.text }
+            × Takes I.into_iter_gives I.IntoIter.next_gives (λ cs. cs) characters
+            (cap N - size self.old.text) taken
+            × Makes (addition_of_cut self.old.text taken (cap N))
+            self.old.text (Ok result) self.new.text }
+        ensures whole { (all : List ℕ)
+            → Gives I.into_iter_gives I.IntoIter.next_gives (λ c. c) characters all
+            → Makes (addition_of_cut self.old.text all (cap N))
+            self.old.text (Ok result) self.new.text }
     {
         let _ = self.add_chars(characters);
     }
@@ -94,12 +101,17 @@ impl<const N: usize> ArrayString<N> {
     ///
     /// The iterator must end, and until then the precondition of its `next` must hold.
     pub fn extend_strs<'a, I: IntoIterator<Item = &'a str> + Drop>(&mut self, pieces: I)
-        requires { IsFiniteIterable I.into_iter_gives I.IntoIter.can_next I.IntoIter.remaining pieces }
+        requires { IsFiniteIterable I.into_iter_gives I.IntoIter.can_next
+            I.IntoIter.remaining pieces }
         ensures taken { (taken : List (Bor (List ℕ)))
-            × Takes I.into_iter_gives I.IntoIter.next_gives joined_pieces pieces (cap N - size self.old.text) taken
-            × Makes (addition_of_cut self.old.text (joined_pieces taken) (cap N)) self.old.text (Ok result) self.new.text }
-        ensures whole { (all : List (List ℕ)) → Gives I.into_iter_gives I.IntoIter.next_gives piece_text pieces all
-            → Makes (addition_of_cut self.old.text (joined all) (cap N)) self.old.text (Ok result) self.new.text }
+            × Takes I.into_iter_gives I.IntoIter.next_gives joined_pieces pieces
+            (cap N - size self.old.text) taken
+            × Makes (addition_of_cut self.old.text (joined_pieces taken) (cap N))
+            self.old.text (Ok result) self.new.text }
+        ensures whole { (all : List (List ℕ))
+            → Gives I.into_iter_gives I.IntoIter.next_gives piece_text pieces all
+            → Makes (addition_of_cut self.old.text (joined all) (cap N))
+            self.old.text (Ok result) self.new.text }
     {
         let _ = self.add_strs(pieces);
     }

@@ -1,12 +1,12 @@
 //! What is removed from a string: a character at the end or at an index, the text from an index on, all of
 //! it. The private calls remove a part, a front or an end of the text.
-ghost use Rattle.std.specs.Prelude.{◌≡◌, ◌≢◌, ◌+◌, ◌-◌, ◌^◌, ◌<◌, ◌≤◌, min, Ok, ◌++◌, IsTrue, slice_index, drop};
+ghost use Rattle.std.specs.Prelude.{◌≡◌, ◌≢◌, ◌+◌, ◌-◌, ◌^◌, ◌<◌, ◌≤◌, min, Ok, OnErr, IfOk, IfSome, ◌++◌, IsTrue, slice_index, drop};
 ghost use Rattle.arraystring_base.specs.Text.{size, width, front, back, boundary};
 ghost use Rattle.arraystring_core.specs.Edits.{Makes, popping, from_utf8_error, with_text, truncation, removal, clearing, split};
 
 use crate::ArrayString;
 use arraystring_base::error::{Error, Utf8};
-use arraystring_base::utils::{Steps, first_char};
+use arraystring_base::utils::{Steps, first_char, last_char};
 
 impl<const N: usize> ArrayString<N> {
     /// Shortens the text to its first `size` bytes. Nothing changes if it has no more.
@@ -15,7 +15,8 @@ impl<const N: usize> ArrayString<N> {
     ///
     /// Returns `Err(Utf8)` if the index `size` is inside a character. The text is then unchanged.
     pub fn truncate(&mut self, size: u8) -> Result<(), Utf8>
-        ensures { Makes (truncation self.old.text size) self.old.text (from_utf8_error result) self.new.text }
+        ensures { Makes (truncation self.old.text size)
+            self.old.text (from_utf8_error result) self.new.text }
     {
         if size >= self.len() {
             return Ok(());
@@ -34,6 +35,36 @@ impl<const N: usize> ArrayString<N> {
         self.pop_counted(&mut Steps::new())
     }
 
+    /// Pops as `pop` does, and counts in `steps` the bytes that it looks at: at most four, and at
+    /// least one if there is a character. It moves no byte.
+    ///
+    /// # Precondition
+    ///
+    /// Both counts of `steps` must be at most 2^63.
+    ///
+    /// # Examples
+    ///
+    /// ```
+    /// let mut string = ArrayString::<4>::from("aé");
+    /// let mut steps = Steps::new();
+    /// assert_eq!(string.pop_counted(&mut steps), Some('é'));
+    /// assert!((1..=4).contains(&steps.looked()) && steps.moved() == 0);
+    /// ```
+    pub fn pop_counted(&mut self, steps: &mut Steps) -> Option<char>
+        requires looks { steps.old.looked ≤ 2 ^ 63 }
+        requires moves { steps.old.moved ≤ 2 ^ 63 }
+        ensures edit { Makes (popping self.old.text)
+            self.old.text (Ok result) self.new.text }
+        ensures looked { steps.new.looked ≤ steps.old.looked + 4 }
+        ensures least { IfSome result (λ _. steps.old.looked < steps.new.looked) }
+        ensures counted { steps.old.looked ≤ steps.new.looked }
+        ensures moved { steps.new.moved ≡ steps.old.moved }
+    {
+        let (start, ch) = last_char(self.as_str(), steps)?;
+        self.set_len(start as u8);
+        Some(ch)
+    }
+
     /// Removes the character that begins at the byte index `index` and returns it.
     ///
     /// # Errors
@@ -47,6 +78,51 @@ impl<const N: usize> ArrayString<N> {
         ensures { Makes (removal self.old.text index) self.old.text result self.new.text }
     {
         self.remove_counted(index, &mut Steps::new())
+    }
+
+    /// Removes as `remove` does, and counts in `steps` the bytes that it moves.
+    ///
+    /// The text has a part before the removed character and a part after it. The call moves at least
+    /// as many bytes as the shorter of the two has, and at most as many as the part after has. At
+    /// index 0, or if it is refused, it moves none.
+    ///
+    /// # Errors
+    ///
+    /// Returns the errors of `remove`, in the same order.
+    ///
+    /// # Precondition
+    ///
+    /// Both counts of `steps` must be at most 2^63.
+    ///
+    /// # Examples
+    ///
+    /// ```
+    /// let mut string = ArrayString::<8>::from("abcd");
+    /// let mut steps = Steps::new();
+    /// assert_eq!(string.remove_counted(2, &mut steps), Ok('c'));
+    /// assert_eq!((string.as_str(), steps.moved()), ("abd", 1)); // `d` moved
+    /// ```
+    #[inline(always)]
+    pub fn remove_counted(&mut self, index: u8, steps: &mut Steps) -> Result<char, Error>
+        requires looks { steps.old.looked ≤ 2 ^ 63 }
+        requires moves { steps.old.moved ≤ 2 ^ 63 }
+        ensures edit { Makes (removal self.old.text index)
+            self.old.text result self.new.text }
+        ensures refused { OnErr result (steps.new.moved ≡ steps.old.moved) }
+        ensures free { index ≡ 0 → steps.new.moved ≡ steps.old.moved }
+        ensures tail_alone { IfOk result
+            (λ ch. steps.new.moved ≤ steps.old.moved + (size self.old.text - (index + width ch))) }
+        ensures least { IfOk result (λ ch.
+            steps.old.moved + min index (size self.old.text - (index + width ch))
+            ≤ steps.new.moved) }
+        ensures counted { steps.old.moved ≤ steps.new.moved }
+        ensures looked { steps.new.looked ≡ steps.old.looked }
+    {
+        self.check_removal(index)?;
+        let start = index as usize;
+        let (ch, width) = self.char_at(start);
+        self.remove_range(start, start + width, steps);
+        Ok(ch)
     }
 
     /// Splits the text at the byte index `at`, which may be the length. Keeps the part before it
@@ -83,7 +159,8 @@ impl<const N: usize> ArrayString<N> {
         ensures text { self.new.text ≡ front self.old.text start ++ back self.old.text end }
         ensures free { start ≡ 0 → steps.new.moved ≡ steps.old.moved }
         ensures tail_alone { steps.new.moved ≤ steps.old.moved + (size self.old.text - end) }
-        ensures least { start ≢ end → steps.old.moved + min start (size self.old.text - end) ≤ steps.new.moved }
+        ensures least { start ≢ end
+            → steps.old.moved + min start (size self.old.text - end) ≤ steps.new.moved }
         ensures counted { steps.old.moved ≤ steps.new.moved }
         ensures looked { steps.new.looked ≡ steps.old.looked }
     {

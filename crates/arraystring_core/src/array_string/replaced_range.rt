@@ -5,6 +5,7 @@ ghost use Rattle.arraystring_core.specs.RangeEnds.{OfReturnedBounds, saturated_s
 ghost use Rattle.arraystring_core.specs.Edits.{Makes, replacement};
 
 use crate::ArrayString;
+use crate::range_ends::saturating_ends;
 use arraystring_base::error::Error;
 use arraystring_base::utils::Steps;
 use std::ops::RangeBounds;
@@ -26,11 +27,63 @@ impl<const N: usize> ArrayString<N> {
         range: R,
         with: &str,
     ) -> Result<(), Error>
-        ensures { OfReturnedBounds R.has_bounds R.start_bound R.end_bound range (λ start end. let t = self.old.text in
-            Makes (replacement t (saturated_start start) (saturated_end end (size t)) (chars with.now) (cap N))
+        ensures { OfReturnedBounds R.has_bounds R.start_bound R.end_bound range (λ start end.
+            let t = self.old.text in
+            Makes (replacement t (saturated_start start) (saturated_end end (size t))
+            (chars with.now) (cap N))
             t result self.new.text) }
     {
         self.replace_range_counted(range, with, &mut Steps::new())
+    }
+
+    /// Replaces as `replace_range` does, and counts in `steps` the bytes that it moves.
+    ///
+    /// It moves at most as many bytes as the text had. If `with` is not larger than the range, it
+    /// moves at most as many as the part after the range has. If the length changes, it moves at
+    /// least as many as the shorter of two parts has: the part before the range and the part after
+    /// it. If it is refused, it moves none.
+    ///
+    /// # Errors
+    ///
+    /// Returns the errors of `replace_range`, in the same order.
+    ///
+    /// # Precondition
+    ///
+    /// Both counts of `steps` must be at most 2^63.
+    ///
+    /// # Examples
+    ///
+    /// ```
+    /// let mut string = ArrayString::<8>::from("abcd");
+    /// let mut steps = Steps::new();
+    /// assert_eq!(string.replace_range_counted(1..2, "x", &mut steps), Ok(()));
+    /// assert_eq!((string.as_str(), steps.moved()), ("axcd", 0)); // as long as what it replaces
+    /// ```
+    pub fn replace_range_counted<R: RangeBounds<u8> + Drop>(
+        &mut self,
+        range: R,
+        with: &str,
+        steps: &mut Steps,
+    ) -> Result<(), Error>
+        requires looks { steps.old.looked ≤ 2 ^ 63 }
+        requires moves { steps.old.moved ≤ 2 ^ 63 }
+        // The edit, and then the moves: if the text does not grow, at most the bytes after the range; if its
+        // size changes, at least the bytes before the range or those after it, whichever are fewer.
+        ensures edit { OfReturnedBounds R.has_bounds R.start_bound R.end_bound range (λ start end.
+            let t = self.old.text in
+            let from = saturated_start start in let to = saturated_end end (size t) in
+            let given = chars with.now in
+            Makes (replacement t from to given (cap N)) t result self.new.text
+            × (size given ≤ to - from → steps.new.moved ≤ steps.old.moved + (size t - to))
+            × OnOk result
+            (to ≢ from + size given → steps.old.moved + min from (size t - to) ≤ steps.new.moved)) }
+        ensures refused { OnErr result (steps.new.moved ≡ steps.old.moved) }
+        ensures most { steps.new.moved ≤ steps.old.moved + size self.old.text }
+        ensures counted { steps.old.moved ≤ steps.new.moved }
+        ensures looked { steps.new.looked ≡ steps.old.looked }
+    {
+        let (start, end) = saturating_ends(range, self.len());
+        self.replace_between(start, end, with, steps)
     }
 
     /// Replaces the bytes from `start` to `end`.
@@ -42,7 +95,8 @@ impl<const N: usize> ArrayString<N> {
         steps: &mut Steps,
     ) -> Result<(), Error>
         requires { steps.old.moved ≤ 2 ^ 63 }
-        ensures edit { Makes (replacement self.old.text start end (chars with.now) (cap N)) self.old.text result self.new.text }
+        ensures edit { Makes (replacement self.old.text start end (chars with.now) (cap N))
+            self.old.text result self.new.text }
         ensures refused { OnErr result (steps.new.moved ≡ steps.old.moved) }
         ensures tail_alone { size (chars with.now) ≤ end - start
             → steps.new.moved ≤ steps.old.moved + (size self.old.text - end) }

@@ -38,7 +38,8 @@ fn retain_at<const N: usize, F: FnMut(char) -> bool + Drop>(
     requires in_array { offset + size ≤ N }
     requires small { size ≤ 255 }
     requires text { IsUtf8 (take size (drop offset array.old)) }
-    requires callable { IsCallableInTurn F.pre F.step f (chars (take size (drop offset array.old))) }
+    requires callable { IsCallableInTurn F.pre F.step f
+        (chars (take size (drop offset array.old))) }
     ensures len { length array.new ≡ N }
     ensures at_most { kept.new ≤ size }
     ensures text { IsUtf8 (take kept.new (drop offset array.new)) }
@@ -50,7 +51,6 @@ fn retain_at<const N: usize, F: FnMut(char) -> bool + Drop>(
     *kept = 0;
     let mut read = 0;
     while read < size {
-        prove!(offset + read < N);
         // A byte of ASCII is its character; others take the decoder.
         let first = array[offset + read];
         if first < 0x80 {

@@ -20,7 +20,8 @@ use std::str::FromStr;
 impl<'a, const N: usize> Add<&'a str> for ArrayString<N> {
     type Output = Self;
 
-    ghost add_gives = { λ s given sum. Makes (addition_of_cut s.text (chars given.now) (cap N)) s.text (Ok tt) sum.text };
+    ghost add_gives = { λ s given sum.
+        Makes (addition_of_cut s.text (chars given.now) (cap N)) s.text (Ok tt) sum.text };
 
     fn add(mut self, given: &'a str) -> Self {
         self.push_str(given);
@@ -78,7 +79,8 @@ impl<'a, const N: usize> From<&'a str> for ArrayString<N> {
 impl<const N: usize> FromStr for ArrayString<N> {
     type Err = OutOfBounds;
 
-    ghost from_str_gives = { λ string result. IsWholeOrRefused (chars string) (cap N) (from_out_of_bounds result) };
+    ghost from_str_gives = { λ string result.
+        IsWholeOrRefused (chars string) (cap N) (from_out_of_bounds result) };
 
     /// Creates a string from `string`.
     ///

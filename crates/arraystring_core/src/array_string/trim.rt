@@ -1,6 +1,5 @@
 //! Trimming at both ends.
-ghost use Rattle.std.specs.Prelude.{◌≡◌, ◌+◌, ◌-◌, ◌*◌, ◌^◌, ◌≤◌, ℕ, Bool, IsTrue, min, Ok, length};
-ghost use Rattle.arraystring_base.specs.Text.{back, boundary};
+ghost use Rattle.std.specs.Prelude.{◌≡◌, ◌+◌, ◌-◌, ◌*◌, ◌^◌, ◌≤◌, ℕ, Bool, min, Ok, length};
 ghost use Rattle.arraystring_core.specs.Retain.{ReturnsAs};
 ghost use Rattle.arraystring_core.specs.Edits.{Makes, trimming, is_space, is_white_space, without_leading, without_trailing};
 
@@ -13,9 +12,46 @@ impl<const N: usize> ArrayString<N> {
     /// what has the property White_Space of the Unicode Standard: the characters for which
     /// `char::is_whitespace` returns true.
     pub fn trim(&mut self)
-        ensures { Makes (trimming is_white_space self.old.text) self.old.text (Ok result) self.new.text }
+        ensures { Makes (trimming is_white_space self.old.text)
+            self.old.text (Ok result) self.new.text }
     {
         self.trim_counted(&mut Steps::new());
+    }
+
+    /// Trims as `trim` does, and counts in `steps` its looks at the end of the text.
+    ///
+    /// It looks at each character that it removes there, and at the character before them, if there is
+    /// one. Each of these characters costs one to four looks. Looks at the start of the text are not
+    /// counted. It moves no byte.
+    ///
+    /// # Precondition
+    ///
+    /// Both counts of `steps` must be at most 2^63.
+    ///
+    /// # Examples
+    ///
+    /// ```
+    /// let mut string = ArrayString::<8>::from("  a ");
+    /// let mut steps = Steps::new();
+    /// string.trim_counted(&mut steps);
+    /// assert_eq!((string.as_str(), steps.moved()), ("a", 0));
+    /// assert!((2..=8).contains(&steps.looked())); // the space at the end, and `a`
+    /// ```
+    pub fn trim_counted(&mut self, steps: &mut Steps)
+        requires looks { steps.old.looked ≤ 2 ^ 63 }
+        requires moves { steps.old.moved ≤ 2 ^ 63 }
+        ensures edit { Makes (trimming is_white_space self.old.text)
+            self.old.text (Ok result) self.new.text }
+        ensures moved { steps.new.moved ≡ steps.old.moved }
+        ensures looked { steps.new.looked ≤ steps.old.looked + 4 * (length self.old.text
+            - length (without_trailing is_white_space self.old.text) + 1) }
+        ensures least { steps.old.looked + min (length self.old.text)
+            (length self.old.text - length (without_trailing is_white_space self.old.text) + 1)
+            ≤ steps.new.looked }
+        ensures counted { steps.old.looked ≤ steps.new.looked }
+    {
+        self.drop_trailing(is_white_space, steps);
+        self.drop_leading(is_white_space);
     }
 
     /// Removes all spaces (U+0020) at both ends, and nothing else.
@@ -35,12 +71,14 @@ impl<const N: usize> ArrayString<N> {
         ensures text { (passes : ℕ → Bool) → ReturnsAs F.post drops passes
             → self.new.text ≡ without_trailing passes self.old.text }
         ensures moved { steps.new.moved ≡ steps.old.moved }
-        ensures looked { steps.new.looked ≤ steps.old.looked + 4 * (length self.old.text - length self.new.text + 1) }
-        ensures least { steps.old.looked + min (length self.old.text) (length self.old.text - length self.new.text + 1)
+        ensures looked { steps.new.looked
+            ≤ steps.old.looked + 4 * (length self.old.text - length self.new.text + 1) }
+        ensures least { steps.old.looked
+            + min (length self.old.text) (length self.old.text - length self.new.text + 1)
             ≤ steps.new.looked }
         ensures counted { steps.old.looked ≤ steps.new.looked }
     {
-        text_fits(self);
+        text_fits(self); // gives the prover that no count passes its greatest value
         while let Some((start, ch)) = last_char(self.as_str(), steps) {
             if !drops(ch) {
                 break;
@@ -53,52 +91,8 @@ impl<const N: usize> ArrayString<N> {
     /// it does not.
     pub(super) fn drop_leading<F: Fn(char) -> bool + Drop>(&mut self, drops: F)
         requires callable { F.IsAlwaysCallable drops }
-        ensures { (passes : ℕ → Bool) → ReturnsAs F.post drops passes → self.new.text ≡ without_leading passes self.old.text }
-    {
-        if !self.drop_leading_ascii(&drops) {
-            self.drop_leading_decoded(drops);
-        }
-    }
-
-    /// Drops the characters of ASCII at the start for which `drops` returns true. Returns true if it
-    /// does not for the one after them, which is of ASCII too.
-    #[inline(always)]
-    fn drop_leading_ascii<F: Fn(char) -> bool>(&mut self, drops: &F) -> bool
-        requires callable { F.IsAlwaysCallable drops.now }
-        ensures text { (passes : ℕ → Bool) → ReturnsAs F.post drops.now passes
-            → without_leading passes self.new.text ≡ without_leading passes self.old.text }
-        ensures done { IsTrue result → (passes : ℕ → Bool) → ReturnsAs F.post drops.now passes
-            → without_leading passes self.new.text ≡ self.new.text }
-    {
-        let bytes = self.as_bytes();
-        let mut run = 0;
-        while run < bytes.len() && bytes[run] < 0x80 {
-            if !drops(bytes[run] as char) {
-                self.drop_run(run);
-                return true;
-            }
-            run += 1;
-        }
-        self.drop_run(run);
-        false
-    }
-
-    /// Drops the part before a boundary. Writes nothing if there is none.
-    #[tactic(auto, using(arraystring_base::proofs::BoundaryLaws::parts))]
-    #[inline(always)]
-    fn drop_run(&mut self, end: usize)
-        requires { IsTrue (boundary self.old.text end) }
-        ensures { self.new.text ≡ back self.old.text end }
-    {
-        if end > 0 {
-            self.drop_front(end);
-        }
-    }
-
-    /// `drop_leading` by the decoder alone.
-    fn drop_leading_decoded<F: Fn(char) -> bool + Drop>(&mut self, drops: F)
-        requires callable { F.IsAlwaysCallable drops }
-        ensures { (passes : ℕ → Bool) → ReturnsAs F.post drops passes → self.new.text ≡ without_leading passes self.old.text }
+        ensures { (passes : ℕ → Bool) → ReturnsAs F.post drops passes
+            → self.new.text ≡ without_leading passes self.old.text }
     {
         while let Some(ch) = self.as_str().chars().next() {
             if !drops(ch) {

@@ -36,11 +36,14 @@ impl<const N: usize> ArrayString<N> {
     /// All pieces that the iterator returns must fit together. The iterator must end, and until then
     /// the precondition of its `next` must hold.
     pub fn from_iterator_unchecked<'a, I: IntoIterator<Item = &'a str> + Drop>(pieces: I) -> Self
-        requires ends { IsFiniteIterable I.into_iter_gives I.IntoIter.can_next I.IntoIter.remaining pieces }
+        requires ends { IsFiniteIterable I.into_iter_gives I.IntoIter.can_next
+            I.IntoIter.remaining pieces }
         requires fits { Fits I.into_iter_gives I.IntoIter.next_gives joined_pieces pieces (cap N) }
-        ensures taken { (taken : List (Bor (List ℕ))) × TakesAll I.into_iter_gives I.IntoIter.next_gives pieces taken
+        ensures taken { (taken : List (Bor (List ℕ)))
+            × TakesAll I.into_iter_gives I.IntoIter.next_gives pieces taken
             × (result.text ≡ joined_pieces taken) }
-        ensures whole { (all : List (List ℕ)) → Gives I.into_iter_gives I.IntoIter.next_gives piece_text pieces all
+        ensures whole { (all : List (List ℕ))
+            → Gives I.into_iter_gives I.IntoIter.next_gives piece_text pieces all
             → result.text ≡ joined all }
     {
         let mut array = [0; N];
@@ -63,11 +66,14 @@ impl<const N: usize> ArrayString<N> {
     /// The characters that the iterator returns must fit. The iterator must end, and until then the
     /// precondition of its `next` must hold.
     pub fn from_chars_unchecked<I: IntoIterator<Item = char> + Drop>(characters: I) -> Self
-        requires ends { IsFiniteIterable I.into_iter_gives I.IntoIter.can_next I.IntoIter.remaining characters }
+        requires ends { IsFiniteIterable I.into_iter_gives I.IntoIter.can_next
+            I.IntoIter.remaining characters }
         requires fits { Fits I.into_iter_gives I.IntoIter.next_gives (λ cs. cs) characters (cap N) }
-        ensures taken { (taken : List ℕ) × TakesAll I.into_iter_gives I.IntoIter.next_gives characters taken
+        ensures taken { (taken : List ℕ)
+            × TakesAll I.into_iter_gives I.IntoIter.next_gives characters taken
             × (result.text ≡ taken) }
-        ensures whole { (all : List ℕ) → Gives I.into_iter_gives I.IntoIter.next_gives (λ c. c) characters all
+        ensures whole { (all : List ℕ)
+            → Gives I.into_iter_gives I.IntoIter.next_gives (λ c. c) characters all
             → result.text ≡ all }
     {
         Self::from_chars(characters)
@@ -140,7 +146,8 @@ impl<const N: usize> ArrayString<N> {
     pub fn insert_str_unchecked(&mut self, index: u8, string: &str)
         requires boundary { IsTrue (boundary self.old.text index) }
         requires room { size self.old.text + size (chars string.now) ≤ cap N }
-        ensures { self.new.text ≡ front self.old.text index ++ (chars string.now ++ back self.old.text index) }
+        ensures { self.new.text
+            ≡ front self.old.text index ++ (chars string.now ++ back self.old.text index) }
     {
         let start = index as usize;
         self.splice(start, start, string, &mut Steps::new());

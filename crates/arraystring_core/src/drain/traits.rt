@@ -79,7 +79,6 @@ impl<const N: usize> Iterator for Drain<N> {
         if self.front == self.size {
             return None;
         }
-        prove!(self.front < self.size);
         // A byte of ASCII is its character; others take the decoder.
         let first = self.array[self.start as usize + self.front as usize];
         if first < 0x80 {

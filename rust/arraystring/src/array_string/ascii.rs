@@ -5,6 +5,13 @@ use crate::ArrayString;
 use crate::range_ends::plain_ends;
 use core::ops::RangeBounds;
 
+/// The case that ASCII letters are put into.
+#[derive(Clone, Copy)]
+enum Case {
+    Upper,
+    Lower,
+}
+
 /// ASCII letters, made upper or lower case.
 impl<const N: usize> ArrayString<N> {
     /// Changes a..z to A..Z. All other characters stay as they are.
@@ -32,7 +39,7 @@ impl<const N: usize> ArrayString<N> {
     pub fn make_ascii_uppercase(&mut self) {
         // SAFETY: `0 <= self.len()`; `0` is a boundary of `self`; `self.len()` is a boundary of `self`: they are the
         // ends of the text.
-        unsafe { self.uppercase_between(0, self.len() as usize) };
+        unsafe { self.change_case(0, self.len() as usize, Case::Upper) };
     }
 
     /// Changes A..Z to a..z. All other characters stay as they are.
@@ -60,7 +67,7 @@ impl<const N: usize> ArrayString<N> {
     pub fn make_ascii_lowercase(&mut self) {
         // SAFETY: `0 <= self.len()`; `0` is a boundary of `self`; `self.len()` is a boundary of `self`: they are the
         // ends of the text.
-        unsafe { self.lowercase_between(0, self.len() as usize) };
+        unsafe { self.change_case(0, self.len() as usize, Case::Lower) };
     }
 
     /// Changes a..z to A..Z in the range. All other characters stay as they are.
@@ -84,13 +91,16 @@ impl<const N: usize> ArrayString<N> {
     ///
     /// ```text
     /// requires known { R.has_bounds range }
-    /// requires order { start_index (R.start_bound range) ≤ end_index (R.end_bound range) (size self.old.text) }
+    /// requires order { start_index (R.start_bound range)
+    ///     ≤ end_index (R.end_bound range) (size self.old.text) }
     /// requires start { IsTrue (boundary self.old.text (start_index (R.start_bound range))) }
-    /// requires end { IsTrue (boundary self.old.text (end_index (R.end_bound range) (size self.old.text))) }
+    /// requires end { IsTrue (boundary self.old.text
+    ///     (end_index (R.end_bound range) (size self.old.text))) }
     /// ensures { let t = self.old.text in
     ///     let start = start_index (R.start_bound range) in
     ///     let end = end_index (R.end_bound range) (size t) in
-    ///     self.new.text ≡ front t start ++ (map to_ascii_uppercase (part t start end) ++ back t end) }
+    ///     self.new.text
+    ///     ≡ front t start ++ (map to_ascii_uppercase (part t start end) ++ back t end) }
     /// ```
     ///
     /// [How to read a contract](crate::contracts)
@@ -103,7 +113,7 @@ impl<const N: usize> ArrayString<N> {
         let _ = &self.as_str()[start..end];
         // SAFETY: `start <= end`; `start` is a boundary of `self`; `end` is a boundary of `self`: the index above
         // panics where one of these does not hold, so that the caller of this function need not show them.
-        unsafe { self.uppercase_between(start, end) };
+        unsafe { self.change_case(start, end, Case::Upper) };
     }
 
     /// Changes A..Z to a..z in the range. All other characters stay as they are.
@@ -127,13 +137,16 @@ impl<const N: usize> ArrayString<N> {
     ///
     /// ```text
     /// requires known { R.has_bounds range }
-    /// requires order { start_index (R.start_bound range) ≤ end_index (R.end_bound range) (size self.old.text) }
+    /// requires order { start_index (R.start_bound range)
+    ///     ≤ end_index (R.end_bound range) (size self.old.text) }
     /// requires start { IsTrue (boundary self.old.text (start_index (R.start_bound range))) }
-    /// requires end { IsTrue (boundary self.old.text (end_index (R.end_bound range) (size self.old.text))) }
+    /// requires end { IsTrue (boundary self.old.text
+    ///     (end_index (R.end_bound range) (size self.old.text))) }
     /// ensures { let t = self.old.text in
     ///     let start = start_index (R.start_bound range) in
     ///     let end = end_index (R.end_bound range) (size t) in
-    ///     self.new.text ≡ front t start ++ (map to_ascii_lowercase (part t start end) ++ back t end) }
+    ///     self.new.text
+    ///     ≡ front t start ++ (map to_ascii_lowercase (part t start end) ++ back t end) }
     /// ```
     ///
     /// [How to read a contract](crate::contracts)
@@ -146,10 +159,10 @@ impl<const N: usize> ArrayString<N> {
         let _ = &self.as_str()[start..end];
         // SAFETY: `start <= end`; `start` is a boundary of `self`; `end` is a boundary of `self`: the index above
         // panics where one of these does not hold, so that the caller of this function need not show them.
-        unsafe { self.lowercase_between(start, end) };
+        unsafe { self.change_case(start, end, Case::Lower) };
     }
 
-    /// Changes a..z to A..Z between two boundaries.
+    /// Puts the ASCII letters between two boundaries into a case.
     ///
     /// # Safety
     ///
@@ -157,51 +170,27 @@ impl<const N: usize> ArrayString<N> {
     /// - `start` is a boundary of `self`
     /// - `end` is a boundary of `self`
     #[inline]
-    unsafe fn uppercase_between(&mut self, start: usize, end: usize) {
+    unsafe fn change_case(&mut self, start: usize, end: usize, case: Case) {
         let offset = self.start as usize;
         // SAFETY: `offset + start <= offset + end`; `offset + end <= N`: by this function's `# Safety` and what the
         // fields of `ArrayString` say.
-        unsafe { uppercase_bytes(&mut self.array, offset + start, offset + end) };
-    }
-
-    /// Changes A..Z to a..z between two boundaries.
-    ///
-    /// # Safety
-    ///
-    /// - `start <= end`
-    /// - `start` is a boundary of `self`
-    /// - `end` is a boundary of `self`
-    #[inline]
-    unsafe fn lowercase_between(&mut self, start: usize, end: usize) {
-        let offset = self.start as usize;
-        // SAFETY: `offset + start <= offset + end`; `offset + end <= N`: by this function's `# Safety` and what the
-        // fields of `ArrayString` say.
-        unsafe { lowercase_bytes(&mut self.array, offset + start, offset + end) };
+        unsafe { change_bytes(&mut self.array, offset + start, offset + end, case) };
     }
 }
 
-/// Changes the letters a..z among the bytes from `start` to `end`.
+/// Puts the ASCII letters among the bytes from `start` to `end` into a case.
 ///
 /// # Safety
 ///
 /// - `start <= end`
 /// - `end <= N`
 #[inline]
-unsafe fn uppercase_bytes<const N: usize>(array: &mut [u8; N], start: usize, end: usize) {
+unsafe fn change_bytes<const N: usize>(array: &mut [u8; N], start: usize, end: usize, case: Case) {
     let all = &mut array[..];
-    // SAFETY: this is within: by this function's `# Safety`; a letter of ASCII becomes one, so what is UTF-8 stays so.
-    unsafe { get_unchecked_mut!(all, start..end) }.make_ascii_uppercase();
-}
-
-/// Changes the letters A..Z among the bytes from `start` to `end`.
-///
-/// # Safety
-///
-/// - `start <= end`
-/// - `end <= N`
-#[inline]
-unsafe fn lowercase_bytes<const N: usize>(array: &mut [u8; N], start: usize, end: usize) {
-    let all = &mut array[..];
-    // SAFETY: this is within: by this function's `# Safety`; a letter of ASCII becomes one, so what is UTF-8 stays so.
-    unsafe { get_unchecked_mut!(all, start..end) }.make_ascii_lowercase();
+    match case {
+        // SAFETY: this is within: by this function's `# Safety`; a letter of ASCII becomes one, so what is UTF-8 stays so.
+        Case::Upper => unsafe { get_unchecked_mut!(all, start..end) }.make_ascii_uppercase(),
+        // SAFETY: this is within: by this function's `# Safety`; a letter of ASCII becomes one, so what is UTF-8 stays so.
+        Case::Lower => unsafe { get_unchecked_mut!(all, start..end) }.make_ascii_lowercase(),
+    }
 }

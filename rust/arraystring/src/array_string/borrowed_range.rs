@@ -30,11 +30,14 @@ impl<const N: usize> ArrayString<N> {
     ///
     /// ```text
     /// requires known { R.has_bounds range }
-    /// requires order { start_index (R.start_bound range) ≤ end_index (R.end_bound range) (size self.now.text) }
+    /// requires order { start_index (R.start_bound range)
+    ///     ≤ end_index (R.end_bound range) (size self.now.text) }
     /// requires start { IsTrue (boundary self.now.text (start_index (R.start_bound range))) }
-    /// requires end { IsTrue (boundary self.now.text (end_index (R.end_bound range) (size self.now.text))) }
+    /// requires end { IsTrue (boundary self.now.text
+    ///     (end_index (R.end_bound range) (size self.now.text))) }
     /// ensures { let t = self.now.text in
-    ///     result.now ≡ bytes (part t (start_index (R.start_bound range)) (end_index (R.end_bound range) (size t))) }
+    ///     result.now ≡ bytes (part t (start_index (R.start_bound range))
+    ///     (end_index (R.end_bound range) (size t))) }
     /// ```
     ///
     /// [How to read a contract](crate::contracts)
@@ -67,7 +70,8 @@ impl<const N: usize> ArrayString<N> {
     ///
     /// ```text
     /// ensures { OfReturnedBounds R.has_bounds R.start_bound R.end_bound range (λ start end.
-    ///     let found = part_in self.now.text (start_index start) (end_index end (size self.now.text)) in
+    ///     let found = part_in self.now.text (start_index start)
+    ///     (end_index end (size self.now.text)) in
     ///     MatchOption result (found ≡ None) (λ s. found ≡ Some (chars s.now))) }
     /// ```
     ///

@@ -3,8 +3,8 @@
 
 use crate::ArrayString;
 use crate::access::str;
-use crate::array_string::fill::try_fill;
 use crate::error::{Error, OutOfBounds, Utf8};
+use crate::moves::write_by_call;
 use crate::utf8::{read_utf8, truncate_str};
 
 /// Strings made from texts, characters and bytes.
@@ -63,19 +63,18 @@ impl<const N: usize> ArrayString<N> {
     ///
     /// </details>
     #[doc(alias = "from_str")]
+    #[expect(clippy::cast_possible_truncation, reason = "by the test above it is at most the capacity")]
     #[inline]
     pub fn try_from_str<S: AsRef<str>>(string: S) -> Result<Self, OutOfBounds> {
         let string = string.as_ref();
-        // One path for both outcomes, so that the string is copied into the result once.
-        let mut array = [0; N];
-        let (refused, size) = try_fill(&mut array, string.as_bytes());
-        // FIELDS: `try_fill` returns a size of at most the capacity, and has written a text of it in front of the
-        // array, or it returns 0.
-        let mut result = Ok(ArrayString { array, start: 0, size });
-        if refused {
-            result = Err(OutOfBounds);
+        if string.len() > Self::capacity() as usize {
+            return Err(OutOfBounds);
         }
-        result
+        let mut array = [0; N];
+        // SAFETY: `string.as_bytes().len() <= N`: by the test above, and the capacity is at most `N`.
+        unsafe { write_by_call(&mut array, 0, string.as_bytes()) };
+        // FIELDS: `string` lies in front of the array, and its size is at most the capacity by the test above.
+        Ok(ArrayString { array, start: 0, size: string.len() as u8 })
     }
 
     /// Creates a string from the longest prefix of whole characters of `string` that fits.
@@ -131,11 +130,13 @@ impl<const N: usize> ArrayString<N> {
     /// <details><summary>Contract</summary>
     ///
     /// ```text
-    /// requires { IsFiniteIterable I.into_iter_gives I.IntoIter.can_next I.IntoIter.remaining pieces }
+    /// requires { IsFiniteIterable I.into_iter_gives I.IntoIter.can_next
+    ///     I.IntoIter.remaining pieces }
     /// ensures taken { (taken : List (Bor (List ℕ)))
     ///     × Takes I.into_iter_gives I.IntoIter.next_gives joined_pieces pieces (cap N) taken
     ///     × IsWholeOrRefused (joined_pieces taken) (cap N) (from_out_of_bounds result) }
-    /// ensures whole { (all : List (List ℕ)) → Gives I.into_iter_gives I.IntoIter.next_gives piece_text pieces all
+    /// ensures whole { (all : List (List ℕ))
+    ///     → Gives I.into_iter_gives I.IntoIter.next_gives piece_text pieces all
     ///     → IsWholeOrRefused (joined all) (cap N) (from_out_of_bounds result) }
     /// ```
     ///
@@ -167,11 +168,13 @@ impl<const N: usize> ArrayString<N> {
     /// <details><summary>Contract</summary>
     ///
     /// ```text
-    /// requires { IsFiniteIterable I.into_iter_gives I.IntoIter.can_next I.IntoIter.remaining pieces }
+    /// requires { IsFiniteIterable I.into_iter_gives I.IntoIter.can_next
+    ///     I.IntoIter.remaining pieces }
     /// ensures taken { (taken : List (Bor (List ℕ)))
     ///     × Takes I.into_iter_gives I.IntoIter.next_gives joined_pieces pieces (cap N) taken
     ///     × (result.text ≡ cut (joined_pieces taken) (cap N)) }
-    /// ensures whole { (all : List (List ℕ)) → Gives I.into_iter_gives I.IntoIter.next_gives piece_text pieces all
+    /// ensures whole { (all : List (List ℕ))
+    ///     → Gives I.into_iter_gives I.IntoIter.next_gives piece_text pieces all
     ///     → result.text ≡ cut (joined all) (cap N) }
     /// ```
     ///
@@ -207,10 +210,13 @@ impl<const N: usize> ArrayString<N> {
     /// <details><summary>Contract</summary>
     ///
     /// ```text
-    /// requires { IsFiniteIterable I.into_iter_gives I.IntoIter.can_next I.IntoIter.remaining characters }
-    /// ensures taken { (taken : List ℕ) × Takes I.into_iter_gives I.IntoIter.next_gives (λ cs. cs) characters (cap N) taken
+    /// requires { IsFiniteIterable I.into_iter_gives I.IntoIter.can_next
+    ///     I.IntoIter.remaining characters }
+    /// ensures taken { (taken : List ℕ)
+    ///     × Takes I.into_iter_gives I.IntoIter.next_gives (λ cs. cs) characters (cap N) taken
     ///     × IsWholeOrRefused taken (cap N) (from_out_of_bounds result) }
-    /// ensures whole { (all : List ℕ) → Gives I.into_iter_gives I.IntoIter.next_gives (λ c. c) characters all
+    /// ensures whole { (all : List ℕ)
+    ///     → Gives I.into_iter_gives I.IntoIter.next_gives (λ c. c) characters all
     ///     → IsWholeOrRefused all (cap N) (from_out_of_bounds result) }
     /// ```
     ///
@@ -242,10 +248,13 @@ impl<const N: usize> ArrayString<N> {
     /// <details><summary>Contract</summary>
     ///
     /// ```text
-    /// requires { IsFiniteIterable I.into_iter_gives I.IntoIter.can_next I.IntoIter.remaining characters }
-    /// ensures taken { (taken : List ℕ) × Takes I.into_iter_gives I.IntoIter.next_gives (λ cs. cs) characters (cap N) taken
+    /// requires { IsFiniteIterable I.into_iter_gives I.IntoIter.can_next
+    ///     I.IntoIter.remaining characters }
+    /// ensures taken { (taken : List ℕ)
+    ///     × Takes I.into_iter_gives I.IntoIter.next_gives (λ cs. cs) characters (cap N) taken
     ///     × (result.text ≡ cut taken (cap N)) }
-    /// ensures whole { (all : List ℕ) → Gives I.into_iter_gives I.IntoIter.next_gives (λ c. c) characters all
+    /// ensures whole { (all : List ℕ)
+    ///     → Gives I.into_iter_gives I.IntoIter.next_gives (λ c. c) characters all
     ///     → result.text ≡ cut all (cap N) }
     /// ```
     ///
@@ -285,7 +294,8 @@ impl<const N: usize> ArrayString<N> {
     /// ```text
     /// ensures malformed { ¬ (IsWellFormed given.now) → result ≡ Err Error.Utf8 }
     /// ensures too_large { result ≡ Err Error.OutOfBounds → IsWellFormed given.now }
-    /// ensures whole { (t : List ℕ) → IsText t → bytes t ≡ given.now → IsWholeOrRefused t (cap N) result }
+    /// ensures whole { (t : List ℕ) → IsText t → bytes t ≡ given.now
+    ///     → IsWholeOrRefused t (cap N) result }
     /// ensures bytes { IfOk result (λ made. bytes made.text ≡ given.now) }
     /// ensures text { IfOk result (λ made. IsText made.text) }
     /// ```
@@ -329,7 +339,8 @@ impl<const N: usize> ArrayString<N> {
     ///
     /// ```text
     /// ensures well_formed { IsOk result ↔ IsWellFormed given.now }
-    /// ensures cut { (t : List ℕ) → IsText t → bytes t ≡ given.now → IfOk result (λ made. made.text ≡ cut t (cap N)) }
+    /// ensures cut { (t : List ℕ) → IsText t → bytes t ≡ given.now
+    ///     → IfOk result (λ made. made.text ≡ cut t (cap N)) }
     /// ensures text { IfOk result (λ made. IsText made.text) }
     /// ```
     ///

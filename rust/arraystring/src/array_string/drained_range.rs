@@ -1,5 +1,4 @@
-// Proved sources: crates/arraystring_core/src/array_string/drained_range.rt,
-// crates/arraystring_core/src/array_string/counted.rt
+// Proved sources: crates/arraystring_core/src/array_string/drained_range.rt
 //! The part of a text in a range of bytes, taken out as a `Drain`.
 
 use crate::error::Error;
@@ -37,8 +36,10 @@ impl<const N: usize> ArrayString<N> {
     /// <details><summary>Contract</summary>
     ///
     /// ```text
-    /// ensures { OfReturnedBounds R.has_bounds R.start_bound R.end_bound range (λ start end. let t = self.old.text in
-    ///     Makes (draining t (saturated_start start) (saturated_end end (size t))) t (with_left result) self.new.text) }
+    /// ensures { OfReturnedBounds R.has_bounds R.start_bound R.end_bound range (λ start end.
+    ///     let t = self.old.text in
+    ///     Makes (draining t (saturated_start start) (saturated_end end (size t)))
+    ///     t (with_left result) self.new.text) }
     /// ```
     ///
     /// [How to read a contract](crate::contracts)

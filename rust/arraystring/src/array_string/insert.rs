@@ -1,5 +1,4 @@
-// Proved sources: crates/arraystring_core/src/array_string/insert.rt,
-// crates/arraystring_core/src/array_string/counted.rt
+// Proved sources: crates/arraystring_core/src/array_string/insert.rt
 //! Texts and characters that are inserted at an index.
 
 use crate::ArrayString;
@@ -34,7 +33,8 @@ impl<const N: usize> ArrayString<N> {
     /// <details><summary>Contract</summary>
     ///
     /// ```text
-    /// ensures { Makes (insertion self.old.text index (ch ∷ []) (cap N)) self.old.text result self.new.text }
+    /// ensures { Makes (insertion self.old.text index (ch ∷ []) (cap N))
+    ///     self.old.text result self.new.text }
     /// ```
     ///
     /// [How to read a contract](crate::contracts)
@@ -44,9 +44,9 @@ impl<const N: usize> ArrayString<N> {
     #[inline]
     pub fn try_insert(&mut self, index: u8, ch: char) -> Result<(), Error> {
         self.check_insertion(index, ch.len_utf8())?;
-        // SAFETY: `index` is a boundary of `self`; `self.len() + ch.len_utf8() <= Self::capacity()`: `check_insertion`
-        // returned `Ok`.
-        unsafe { self.insert_unchecked(index, ch) };
+        // SAFETY: `index as usize` is a boundary of `self`; `self.len() + ch.len_utf8() <= Self::capacity()`:
+        // `check_insertion` returned `Ok`.
+        unsafe { self.splice_char(index as usize, ch) };
         Ok(())
     }
 
@@ -76,7 +76,8 @@ impl<const N: usize> ArrayString<N> {
     /// <details><summary>Contract</summary>
     ///
     /// ```text
-    /// ensures { Makes (insertion self.old.text index (chars string.now) (cap N)) self.old.text result self.new.text }
+    /// ensures { Makes (insertion self.old.text index (chars string.now) (cap N))
+    ///     self.old.text result self.new.text }
     /// ```
     ///
     /// [How to read a contract](crate::contracts)
@@ -118,7 +119,8 @@ impl<const N: usize> ArrayString<N> {
     /// <details><summary>Contract</summary>
     ///
     /// ```text
-    /// ensures { Makes (insertion_of_cut self.old.text index (chars string.now) (cap N)) self.old.text result self.new.text }
+    /// ensures { Makes (insertion_of_cut self.old.text index (chars string.now) (cap N))
+    ///     self.old.text result self.new.text }
     /// ```
     ///
     /// [How to read a contract](crate::contracts)
@@ -129,9 +131,10 @@ impl<const N: usize> ArrayString<N> {
         let string = string.as_ref();
         self.check_index(index)?;
         let room = Self::capacity() - self.len();
-        // SAFETY: `index` is a boundary of `self`; `self.len() + truncate_str(string, room).len() <= Self::capacity()`:
-        // `check_index` returned `Ok`, and `truncate_str` returns at most `room` bytes.
-        unsafe { self.insert_str_unchecked(index, truncate_str(string, room)) };
+        let at = index as usize;
+        // SAFETY: `at` is a boundary of `self`; `self.len() - (at - at) + truncate_str(string, room).len() <=
+        // Self::capacity()`: `check_index` returned `Ok`, and `truncate_str` returns at most `room` bytes.
+        unsafe { self.splice(at, at, truncate_str(string, room)) };
         Ok(())
     }
 }

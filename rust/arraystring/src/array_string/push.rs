@@ -29,7 +29,8 @@ impl<const N: usize> ArrayString<N> {
     /// <details><summary>Contract</summary>
     ///
     /// ```text
-    /// ensures { Makes (addition self.old.text (ch ∷ []) (cap N)) self.old.text (from_out_of_bounds result) self.new.text }
+    /// ensures { Makes (addition self.old.text (ch ∷ []) (cap N))
+    ///     self.old.text (from_out_of_bounds result) self.new.text }
     /// ```
     ///
     /// [How to read a contract](crate::contracts)
@@ -117,7 +118,8 @@ impl<const N: usize> ArrayString<N> {
     /// <details><summary>Contract</summary>
     ///
     /// ```text
-    /// ensures { Makes (addition_of_cut self.old.text (chars string.now) (cap N)) self.old.text (Ok result) self.new.text }
+    /// ensures { Makes (addition_of_cut self.old.text (chars string.now) (cap N))
+    ///     self.old.text (Ok result) self.new.text }
     /// ```
     ///
     /// [How to read a contract](crate::contracts)
@@ -164,12 +166,17 @@ impl<const N: usize> ArrayString<N> {
     /// <details><summary>Contract</summary>
     ///
     /// ```text
-    /// requires { IsFiniteIterable I.into_iter_gives I.IntoIter.can_next I.IntoIter.remaining characters }
+    /// requires { IsFiniteIterable I.into_iter_gives I.IntoIter.can_next
+    ///     I.IntoIter.remaining characters }
     /// ensures taken { (taken : List ℕ)
-    ///     × Takes I.into_iter_gives I.IntoIter.next_gives (λ cs. cs) characters (cap N - size self.old.text) taken
-    ///     × Makes (addition_of_cut self.old.text taken (cap N)) self.old.text (Ok result) self.new.text }
-    /// ensures whole { (all : List ℕ) → Gives I.into_iter_gives I.IntoIter.next_gives (λ c. c) characters all
-    ///     → Makes (addition_of_cut self.old.text all (cap N)) self.old.text (Ok result) self.new.text }
+    ///     × Takes I.into_iter_gives I.IntoIter.next_gives (λ cs. cs) characters
+    ///     (cap N - size self.old.text) taken
+    ///     × Makes (addition_of_cut self.old.text taken (cap N))
+    ///     self.old.text (Ok result) self.new.text }
+    /// ensures whole { (all : List ℕ)
+    ///     → Gives I.into_iter_gives I.IntoIter.next_gives (λ c. c) characters all
+    ///     → Makes (addition_of_cut self.old.text all (cap N))
+    ///     self.old.text (Ok result) self.new.text }
     /// ```
     ///
     /// [How to read a contract](crate::contracts)
@@ -200,12 +207,17 @@ impl<const N: usize> ArrayString<N> {
     /// <details><summary>Contract</summary>
     ///
     /// ```text
-    /// requires { IsFiniteIterable I.into_iter_gives I.IntoIter.can_next I.IntoIter.remaining pieces }
+    /// requires { IsFiniteIterable I.into_iter_gives I.IntoIter.can_next
+    ///     I.IntoIter.remaining pieces }
     /// ensures taken { (taken : List (Bor (List ℕ)))
-    ///     × Takes I.into_iter_gives I.IntoIter.next_gives joined_pieces pieces (cap N - size self.old.text) taken
-    ///     × Makes (addition_of_cut self.old.text (joined_pieces taken) (cap N)) self.old.text (Ok result) self.new.text }
-    /// ensures whole { (all : List (List ℕ)) → Gives I.into_iter_gives I.IntoIter.next_gives piece_text pieces all
-    ///     → Makes (addition_of_cut self.old.text (joined all) (cap N)) self.old.text (Ok result) self.new.text }
+    ///     × Takes I.into_iter_gives I.IntoIter.next_gives joined_pieces pieces
+    ///     (cap N - size self.old.text) taken
+    ///     × Makes (addition_of_cut self.old.text (joined_pieces taken) (cap N))
+    ///     self.old.text (Ok result) self.new.text }
+    /// ensures whole { (all : List (List ℕ))
+    ///     → Gives I.into_iter_gives I.IntoIter.next_gives piece_text pieces all
+    ///     → Makes (addition_of_cut self.old.text (joined all) (cap N))
+    ///     self.old.text (Ok result) self.new.text }
     /// ```
     ///
     /// [How to read a contract](crate::contracts)

@@ -1,5 +1,4 @@
-// Proved sources: crates/arraystring_core/src/array_string/remove.rt,
-// crates/arraystring_core/src/array_string/counted.rt
+// Proved sources: crates/arraystring_core/src/array_string/remove.rt
 //! What is removed from a string: a character at the end or at an index, the text from an index on, all of
 //! it. The private calls remove a part, a front or an end of the text.
 
@@ -32,7 +31,8 @@ impl<const N: usize> ArrayString<N> {
     /// <details><summary>Contract</summary>
     ///
     /// ```text
-    /// ensures { Makes (truncation self.old.text size) self.old.text (from_utf8_error result) self.new.text }
+    /// ensures { Makes (truncation self.old.text size)
+    ///     self.old.text (from_utf8_error result) self.new.text }
     /// ```
     ///
     /// [How to read a contract](crate::contracts)

@@ -1,5 +1,4 @@
-// Proved sources: crates/arraystring_core/src/array_string/replaced_range.rt,
-// crates/arraystring_core/src/array_string/counted.rt
+// Proved sources: crates/arraystring_core/src/array_string/replaced_range.rt
 //! The part of a text in a range of bytes, replaced by another text.
 
 use crate::ArrayString;
@@ -37,8 +36,10 @@ impl<const N: usize> ArrayString<N> {
     /// <details><summary>Contract</summary>
     ///
     /// ```text
-    /// ensures { OfReturnedBounds R.has_bounds R.start_bound R.end_bound range (λ start end. let t = self.old.text in
-    ///     Makes (replacement t (saturated_start start) (saturated_end end (size t)) (chars with.now) (cap N))
+    /// ensures { OfReturnedBounds R.has_bounds R.start_bound R.end_bound range (λ start end.
+    ///     let t = self.old.text in
+    ///     Makes (replacement t (saturated_start start) (saturated_end end (size t))
+    ///     (chars with.now) (cap N))
     ///     t result self.new.text) }
     /// ```
     ///

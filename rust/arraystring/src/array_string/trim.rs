@@ -1,4 +1,4 @@
-// Proved sources: crates/arraystring_core/src/array_string/trim.rt, crates/arraystring_core/src/array_string/counted.rt
+// Proved sources: crates/arraystring_core/src/array_string/trim.rt
 //! Trimming at both ends.
 
 use crate::ArrayString;
@@ -23,7 +23,8 @@ impl<const N: usize> ArrayString<N> {
     /// <details><summary>Contract</summary>
     ///
     /// ```text
-    /// ensures { Makes (trimming is_white_space self.old.text) self.old.text (Ok result) self.new.text }
+    /// ensures { Makes (trimming is_white_space self.old.text)
+    ///     self.old.text (Ok result) self.new.text }
     /// ```
     ///
     /// [How to read a contract](crate::contracts)
@@ -82,50 +83,6 @@ impl<const N: usize> ArrayString<N> {
     /// it does not.
     #[inline]
     pub(super) fn drop_leading<F: Fn(char) -> bool>(&mut self, drops: F) {
-        if !self.drop_leading_ascii(&drops) {
-            self.drop_leading_decoded(drops);
-        }
-    }
-
-    /// Drops the characters of ASCII at the start for which `drops` returns true. Returns true if it
-    /// does not for the one after them, which is of ASCII too.
-    #[inline(always)]
-    fn drop_leading_ascii<F: Fn(char) -> bool>(&mut self, drops: &F) -> bool {
-        let bytes = self.as_bytes();
-        let mut run = 0;
-        // SAFETY: this is within: the loop tests that `run` is below `bytes.len()`, whatever the closure answers.
-        while run < bytes.len() && *unsafe { get_unchecked!(bytes, run) } < 0x80 {
-            // SAFETY: this is within: the loop tests that `run` is below `bytes.len()`, whatever the closure answers.
-            if !drops(*unsafe { get_unchecked!(bytes, run) } as char) {
-                // SAFETY: `run` is a boundary of `self`: the `run` bytes before it are ASCII, so each is a character,
-                // whatever the closure answers.
-                unsafe { self.drop_run(run) };
-                return true;
-            }
-            run += 1;
-        }
-        // SAFETY: `run` is a boundary of `self`: the `run` bytes before it are ASCII, so each is a character, whatever
-        // the closure answers.
-        unsafe { self.drop_run(run) };
-        false
-    }
-
-    /// Drops the part before a boundary. Writes nothing if there is none.
-    ///
-    /// # Safety
-    ///
-    /// - `end` is a boundary of `self`
-    #[inline(always)]
-    unsafe fn drop_run(&mut self, end: usize) {
-        if end > 0 {
-            // SAFETY: `end` is a boundary of `self`: by this function's `# Safety`.
-            unsafe { self.drop_front(end) };
-        }
-    }
-
-    /// `drop_leading` by the decoder alone.
-    #[inline]
-    fn drop_leading_decoded<F: Fn(char) -> bool>(&mut self, drops: F) {
         while let Some(ch) = self.as_str().chars().next() {
             if !drops(ch) {
                 break;

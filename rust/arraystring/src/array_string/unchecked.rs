@@ -69,11 +69,14 @@ impl<const N: usize> ArrayString<N> {
     /// <details><summary>Contract</summary>
     ///
     /// ```text
-    /// requires ends { IsFiniteIterable I.into_iter_gives I.IntoIter.can_next I.IntoIter.remaining pieces }
+    /// requires ends { IsFiniteIterable I.into_iter_gives I.IntoIter.can_next
+    ///     I.IntoIter.remaining pieces }
     /// requires fits { Fits I.into_iter_gives I.IntoIter.next_gives joined_pieces pieces (cap N) }
-    /// ensures taken { (taken : List (Bor (List ℕ))) × TakesAll I.into_iter_gives I.IntoIter.next_gives pieces taken
+    /// ensures taken { (taken : List (Bor (List ℕ)))
+    ///     × TakesAll I.into_iter_gives I.IntoIter.next_gives pieces taken
     ///     × (result.text ≡ joined_pieces taken) }
-    /// ensures whole { (all : List (List ℕ)) → Gives I.into_iter_gives I.IntoIter.next_gives piece_text pieces all
+    /// ensures whole { (all : List (List ℕ))
+    ///     → Gives I.into_iter_gives I.IntoIter.next_gives piece_text pieces all
     ///     → result.text ≡ joined all }
     /// ```
     ///
@@ -117,11 +120,14 @@ impl<const N: usize> ArrayString<N> {
     /// <details><summary>Contract</summary>
     ///
     /// ```text
-    /// requires ends { IsFiniteIterable I.into_iter_gives I.IntoIter.can_next I.IntoIter.remaining characters }
+    /// requires ends { IsFiniteIterable I.into_iter_gives I.IntoIter.can_next
+    ///     I.IntoIter.remaining characters }
     /// requires fits { Fits I.into_iter_gives I.IntoIter.next_gives (λ cs. cs) characters (cap N) }
-    /// ensures taken { (taken : List ℕ) × TakesAll I.into_iter_gives I.IntoIter.next_gives characters taken
+    /// ensures taken { (taken : List ℕ)
+    ///     × TakesAll I.into_iter_gives I.IntoIter.next_gives characters taken
     ///     × (result.text ≡ taken) }
-    /// ensures whole { (all : List ℕ) → Gives I.into_iter_gives I.IntoIter.next_gives (λ c. c) characters all
+    /// ensures whole { (all : List ℕ)
+    ///     → Gives I.into_iter_gives I.IntoIter.next_gives (λ c. c) characters all
     ///     → result.text ≡ all }
     /// ```
     ///
@@ -307,7 +313,8 @@ impl<const N: usize> ArrayString<N> {
     /// ```text
     /// requires boundary { IsTrue (boundary self.old.text index) }
     /// requires room { size self.old.text + size (chars string.now) ≤ cap N }
-    /// ensures { self.new.text ≡ front self.old.text index ++ (chars string.now ++ back self.old.text index) }
+    /// ensures { self.new.text
+    ///     ≡ front self.old.text index ++ (chars string.now ++ back self.old.text index) }
     /// ```
     ///
     /// [How to read a contract](crate::contracts)

@@ -3,7 +3,6 @@
 
 use super::ArrayString;
 use crate::error::{Error, Utf16};
-use crate::utf8::encode;
 use crate::utf16::{Unit16, Units};
 use core::char;
 
@@ -33,7 +32,8 @@ impl<const N: usize> ArrayString<N> {
     /// <details><summary>Contract</summary>
     ///
     /// ```text
-    /// ensures { (items : List Unit16) → IsReading units.now items → GivesWhole (first_stop items (cap N)) result }
+    /// ensures { (items : List Unit16) → IsReading units.now items
+    ///     → GivesWhole (first_stop items (cap N)) result }
     /// ```
     ///
     /// [How to read a contract](crate::contracts)
@@ -42,12 +42,9 @@ impl<const N: usize> ArrayString<N> {
     #[inline]
     pub fn try_from_utf16<B: AsRef<[u16]>>(units: B) -> Result<Self, Error> {
         let units = units.as_ref();
-        let mut array = [0; N];
-        let (size, after) = Self::write_prefix(&mut array, units);
-        match after {
-            // FIELDS: `write_prefix` returns the size of the text that it wrote in front of the array, which is at most
-            // the capacity.
-            None => Ok(ArrayString { array, start: 0, size }),
+        let mut made = Self::new();
+        match made.add_units(units) {
+            None => Ok(made),
             Some(Unit16::Lone(_)) => Err(Error::Utf16),
             Some(Unit16::Char(_)) => Err(Error::OutOfBounds),
         }
@@ -77,7 +74,8 @@ impl<const N: usize> ArrayString<N> {
     /// <details><summary>Contract</summary>
     ///
     /// ```text
-    /// ensures { (items : List Unit16) → IsReading units.now items → GivesPrefix (first_stop items (cap N)) result }
+    /// ensures { (items : List Unit16) → IsReading units.now items
+    ///     → GivesPrefix (first_stop items (cap N)) result }
     /// ```
     ///
     /// [How to read a contract](crate::contracts)
@@ -86,14 +84,11 @@ impl<const N: usize> ArrayString<N> {
     #[inline]
     pub fn from_utf16<B: AsRef<[u16]>>(units: B) -> Result<Self, Utf16> {
         let units = units.as_ref();
-        let mut array = [0; N];
-        let (size, after) = Self::write_prefix(&mut array, units);
-        if let Some(Unit16::Lone(_)) = after {
+        let mut made = Self::new();
+        if let Some(Unit16::Lone(_)) = made.add_units(units) {
             return Err(Utf16);
         }
-        // FIELDS: `write_prefix` returns the size of the text that it wrote in front of the array, which is at most the
-        // capacity.
-        Ok(ArrayString { array, start: 0, size })
+        Ok(made)
     }
 
     /// Creates a string from the longest prefix of the characters of `units` that fits. Each lone
@@ -112,7 +107,8 @@ impl<const N: usize> ArrayString<N> {
     /// <details><summary>Contract</summary>
     ///
     /// ```text
-    /// ensures { (items : List Unit16) → IsReading units.now items → result.text ≡ cut (lossy_text items) (cap N) }
+    /// ensures { (items : List Unit16) → IsReading units.now items
+    ///     → result.text ≡ cut (lossy_text items) (cap N) }
     /// ```
     ///
     /// [How to read a contract](crate::contracts)
@@ -120,87 +116,33 @@ impl<const N: usize> ArrayString<N> {
     /// </details>
     #[must_use]
     #[inline]
-    #[expect(clippy::cast_possible_truncation, reason = "the line before the write says why it fits")]
     pub fn from_utf16_lossy<B: AsRef<[u16]>>(units: B) -> Self {
         let units = units.as_ref();
-        let mut array = [0; N];
-        let run = write_ascii(&mut array, units);
-        let mut end = run;
-        // SAFETY: this is within: `write_ascii` returns at most `units.len()`.
-        for item in Units::new(unsafe { get_unchecked!(units, run..) }) {
-            // SAFETY: the `end` bytes of `array` from `0` on are UTF-8 and end within the capacity: `write_ascii` and
-            // `write_char` return where the text that they wrote ends.
-            match unsafe { Self::write_char(&mut array, end, shown(item)) } {
-                Some(next) => {
-                    end = next;
-                }
-                None => break,
+        let mut made = Self::new();
+        for item in Units::new(units) {
+            match made.try_push(shown(item)) {
+                Ok(()) => {}
+                Err(_) => break,
             }
         }
-        // FIELDS: `write_ascii` and `write_char` return where the text that they wrote ends, which is within the
-        // capacity.
-        ArrayString { array, start: 0, size: end as u8 }
+        made
     }
 
-    /// Writes the longest prefix of characters of `units` that fits at the start of the array. Returns
-    /// its size, and the item right after it.
-    #[expect(
-        clippy::cast_possible_truncation,
-        reason = "`end` is where a text ends within the capacity, which is at most 255"
-    )]
-    #[inline(always)]
-    fn write_prefix(array: &mut [u8; N], units: &[u16]) -> (u8, Option<Unit16>) {
-        // A run of ASCII first, at once: its units are its bytes.
-        let run = write_ascii(array, units);
-        let mut end = run;
-        // SAFETY: this is within: `write_ascii` returns at most `units.len()`.
-        for item in Units::new(unsafe { get_unchecked!(units, run..) }) {
+    /// Appends the longest prefix of characters of `units` that fits to the empty text. Returns the item
+    /// right after it.
+    #[inline]
+    fn add_units(&mut self, units: &[u16]) -> Option<Unit16> {
+        for item in Units::new(units) {
             match item {
-                // SAFETY: the `end` bytes of `array` from `0` on are UTF-8 and end within the capacity: `write_ascii`
-                // and `write_char` return where the text that they wrote ends.
-                Unit16::Char(ch) => match unsafe { Self::write_char(array, end, ch) } {
-                    Some(next) => {
-                        end = next;
-                    }
-                    None => return (end as u8, Some(item)),
+                Unit16::Char(ch) => match self.try_push(ch) {
+                    Ok(()) => {}
+                    Err(_) => return Some(item),
                 },
-                Unit16::Lone(_) => return (end as u8, Some(item)),
+                Unit16::Lone(_) => return Some(item),
             }
         }
-        (end as u8, None)
+        None
     }
-
-    /// Appends `ch` to the text that the first `end` bytes of the array are, and returns where it ends
-    /// then. Returns `None` if it does not fit.
-    ///
-    /// # Safety
-    ///
-    /// - the `end` bytes of `array` from `0` on are UTF-8 and end within the capacity
-    #[inline(always)]
-    unsafe fn write_char(array: &mut [u8; N], end: usize, ch: char) -> Option<usize> {
-        // SAFETY: `end <= 255`: by this function's `# Safety`, since the capacity is at most 255.
-        if !unsafe { Self::has_room(end, ch) } {
-            return None;
-        }
-        // SAFETY: `end + ch.len_utf8() <= N`: `has_room` returned true, and the capacity is at most `N`.
-        Some(end + unsafe { encode(ch, array, end) })
-    }
-}
-
-/// Writes the units before the first that is not ASCII as bytes at the start of the array, as far as
-/// the capacity goes. Returns how many. These bytes are a text then.
-#[expect(clippy::cast_possible_truncation, reason = "the loop tests that the unit is below 0x80")]
-#[inline(always)]
-fn write_ascii<const N: usize>(array: &mut [u8; N], units: &[u16]) -> usize {
-    let most = units.len().min(ArrayString::<N>::capacity() as usize);
-    let mut run = 0;
-    // SAFETY: this is within: `run` is below `most`, which is at most `units.len()` and at most `N`.
-    while run < most && *unsafe { get_unchecked!(units, run) } < 0x80 {
-        // SAFETY: this is within: `run` is below `most`, which is at most `units.len()` and at most `N`.
-        *unsafe { get_unchecked_mut!(array, run) } = *unsafe { get_unchecked!(units, run) } as u8;
-        run += 1;
-    }
-    run
 }
 
 /// An item as a character, with U+FFFD for a lone surrogate.

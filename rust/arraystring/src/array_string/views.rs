@@ -1,4 +1,4 @@
-// Proved sources: crates/arraystring_core/src/array_string.rt, crates/arraystring_core/src/utils.rt
+// Proved sources: crates/arraystring_core/src/array_string.rt, crates/arraystring_core/src/array_string/boundary.rt
 //! What is read of a string without a change: its capacity, its length and its text.
 
 use super::ArrayString;

@@ -51,12 +51,11 @@ written g c =
 pub invariant_of-self : goal.invariant_of-self
 invariant_of-self g c = (written g c).in_array
 
-pub returns-clause-text : goal.returns-clause-text
-returns-clause-text g c = (written g c).shown
-
-pub returns-clause-most : goal.returns-clause-most
-returns-clause-most g c = rw (opened-size c.self.invariant c.self.view_is) (search rules)
-
-pub returns-clause-least : goal.returns-clause-least
-returns-clause-least g c =
-    rw (opened-size c.self.invariant c.self.view_is, size-borrowed c.utf8.given) (search rules)
+pub returns : goal.returns
+returns g c = record {
+  text = (written g c).shown;
+  most = rw (opened-size c.self.invariant c.self.view_is) (search rules);
+  least = rw (opened-size c.self.invariant c.self.view_is, size-borrowed c.utf8.given) (search rules);
+  counted = omega arith;
+  looked = cc;
+}

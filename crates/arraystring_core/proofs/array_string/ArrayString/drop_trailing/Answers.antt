@@ -23,7 +23,7 @@ module _ {text seen left : List ℕ} {ch start : ℕ} (same : seen ≡ text)
 
 pub loop-start-init : goal.loop-start-init
 loop-start-init g c =
-    record { same = λ passes tells. refl; looked = omega arith; few = omega arith; fits = omega arith; least = omega arith; counted = omega arith; moved = refl }
+    record { same = λ passes agrees. refl; looked = omega arith; few = omega arith; fits = omega arith; least = omega arith; counted = omega arith; moved = refl }
 
 pub last_char-requires : goal.last_char-requires
 last_char-requires g c = omega arith
@@ -50,9 +50,9 @@ loop-start-preserved g c =
     let sizes = left-size same found c.set_len.ensures in
     let lengths = left-length same found c.set_len.ensures in
     record {
-      same = λ passes tells.
-          left-passes same found c.set_len.ensures passes (sym (tells.at ch c.drops.result c.drops.ensures) ∙ c.if-not-drops.false)
-          ∙ inv.same passes tells;
+      same = λ passes agrees.
+          left-passes same found c.set_len.ensures passes (sym (agrees.at ch c.drops.result c.drops.ensures) ∙ c.if-not-drops.false)
+          ∙ inv.same passes agrees;
       looked = omega (arith, width-bounds ch);
       few = omega arith;
       fits = inv.fits;
@@ -62,18 +62,18 @@ loop-start-preserved g c =
     }
 
 pub returns-clause-text : goal.returns-clause-text
-returns-clause-text g c = λ passes tells.
+returns-clause-text g c = λ passes agrees.
     let text = c.loop-start.self.text in
     let borrowed = chars-bytes c.as_str.utf8 c.as_str.ensures.bytes in
     let unchanged : without_trailing passes text ≡ text = elim c.match-last_char.branch [
       | in-Some+then-not-drops w ↦
           without_trailing-stops passes text _ w.in-Some.ch (last-parts borrowed w.in-Some.ensures.some)
-          (sym (tells.at w.in-Some.ch w.drops.result w.drops.ensures) ∙ w.if-not-drops.true)
+          (sym (agrees.at w.in-Some.ch w.drops.result w.drops.ensures) ∙ w.if-not-drops.true)
       | in_default w ↦
           let none = sym borrowed ∙ (rw w.in_default.is at c.last_char.ensures.none) in
           ap (without_trailing passes) none ∙ sym none
     ] in
-    sym unchanged ∙ c.loop-start.invariant.same passes tells
+    sym unchanged ∙ c.loop-start.invariant.same passes agrees
 
 pub returns-clause-least : goal.returns-clause-least
 returns-clause-least g c =

@@ -14,8 +14,8 @@ returns g c =
     let to = sym c.is_boundary-else-not-is_boundary.ensures ∙ c.if-not-is_boundary-2.false in
     let borrowed = chars-bytes c.slice_unchecked.utf8 c.slice_unchecked.ensures in
     let of = ends.ensures in
-    let named = end_index of.end in
-    let end : named (size t) ≡ ends.result.1 = ap named (sym c.len.ensures.value) ∙ sym {b = named c.len.result} of.holds.1 in
-    let found = ap (λ i. part_in t i (named (size t))) (sym of.holds.0) ∙ ap (part_in t ends.result.0) end
+    let end_in = end_index of.end in
+    let end : end_in (size t) ≡ ends.result.1 = ap end_in (sym c.len.ensures.value) ∙ sym {b = end_in c.len.result} of.holds.1 in
+    let found = ap (λ i. part_in t i (end_in (size t))) (sym of.holds.0) ∙ ap (part_in t ends.result.0) end
     ∙ part_in-some t ends.result.0 ends.result.1 c.if-start-end.false at to ∙ ap Some (sym borrowed) in
     record { start = of.start; end = of.end; returned = of.returned; holds = found }

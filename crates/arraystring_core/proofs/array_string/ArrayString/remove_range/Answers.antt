@@ -16,10 +16,10 @@ splice-requires g c =
     rw chars-nil (search rules, (c.requires.order, (c.requires.start, (c.requires.end, (omega arith, c.requires.countable)))))
 
 pub returns-clause-text : goal.returns-clause-text
-returns-clause-text g c = rw chars-nil at c.splice.ensures.text
+returns-clause-text g c = rw chars-nil at c.splice.ensures.replaced.text
 
 pub returns-clause-tail_alone : goal.returns-clause-tail_alone
 returns-clause-tail_alone g c = (rw chars-nil at c.splice.ensures.tail_alone) (omega arith)
 
 pub returns-clause-least : goal.returns-clause-least
-returns-clause-least g c is_not = (rw chars-nil at c.splice.ensures.least) (λ e. is_not (omega arith))
+returns-clause-least g c is_not = (rw chars-nil at c.splice.ensures.replaced.least) (λ e. is_not (omega arith))

@@ -18,4 +18,4 @@ pub returns-clause-edit : goal.returns-clause-edit
 returns-clause-edit g c =
     let row = replacement c.args.self.now.text c.args.start c.args.end (chars c.args.with.now) (cap g.row.N) in
     let is : Ok (tt {0}) ≡ ok_unless (first_cause row.tests) (tt {0}) = rw (size-borrowed c.utf8.with) c.in_ok-check_replacement.ensures in
-    makes row _ _ _ (no_cause row.tests is) refl c.splice.ensures.text
+    makes row _ _ _ (no_cause row.tests is) refl c.splice.ensures.replaced.text

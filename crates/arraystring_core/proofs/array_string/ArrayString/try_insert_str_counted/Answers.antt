@@ -18,8 +18,8 @@ pub returns-clause-edit : goal.returns-clause-edit
 returns-clause-edit g c =
     let row = insertion c.args.self.now.text c.args.index (chars c.args.string.now) (cap g.row.N) in
     let is : Ok (tt {0}) ≡ ok_unless (first_cause row.tests) (tt {0}) = rw (size-borrowed c.utf8.string) c.in_ok-check_insertion.ensures in
-    makes row _ _ _ (no_cause row.tests is) refl c.splice.ensures.text
+    makes row _ _ _ (no_cause row.tests is) refl c.splice.ensures.replaced.text
 
 pub returns-clause-least : goal.returns-clause-least
 returns-clause-least g c some =
-    c.splice.ensures.least (λ e. some (empty-size (omega arith)))
+    c.splice.ensures.replaced.least (λ e. some (empty-size (omega arith)))

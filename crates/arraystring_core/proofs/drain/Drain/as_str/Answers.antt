@@ -25,6 +25,3 @@ returns-clause-text g c =
 
 pub returns-clause-fits : goal.returns-clause-fits
 returns-clause-fits g c = left-fits c.self.invariant c.self.view_is
-
-pub prove-unreachable-requires : goal.prove-unreachable-requires
-prove-unreachable-requires g c = omega (arith, given-within c.self.invariant)

@@ -59,6 +59,3 @@ pub returns : goal.returns
 returns g c =
     let rest = (gives g c).rest in
     record { steps = rest; goes = record { on = λ _. (tt, tt, omega (arith, ap length rest)); keeps = tt; rests = λ _. tt } }
-
-pub prove-unreachable-requires : goal.prove-unreachable-requires
-prove-unreachable-requires g c = omega (arith, given-within c.self.invariant)

@@ -7,8 +7,8 @@ use arraystring_base::error::Utf8;
 use arraystring_base::utils::is_boundary;
 
 impl<const N: usize> ArrayString<N> {
-    /// Whether a character begins at `at`, or the text ends there.
-    pub(crate) fn is_boundary(&self, at: usize) -> bool
+    /// Whether a character begins at the index `at`, or the text ends there.
+    pub(super) fn is_boundary(&self, at: usize) -> bool
         ensures { result ≡ boundary self.now.text at }
     {
         is_boundary(self.as_str(), at)

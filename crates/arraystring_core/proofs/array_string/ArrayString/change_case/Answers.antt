@@ -1,7 +1,7 @@
 use Rattle.std.proofs.Common.{arith, rules}
 use Rattle.arraystring_core.proofs.StoredLaws.{opened-within}
-use Rattle.arraystring_core.proofs.AsciiLemmas.{lowercase-change, changed}
-use Rattle.arraystring_core.proofs.array_string.ArrayString.lowercase_between.Goals as goal
+use Rattle.arraystring_core.proofs.AsciiLemmas.{case-change, changed}
+use Rattle.arraystring_core.proofs.array_string.ArrayString.change_case.Goals as goal
 
 pub overflow_add-offset : goal.overflow_add-offset
 overflow_add-offset g c = omega (arith, opened-within c.self.invariant c.self.view_is _ c.requires.start)
@@ -9,12 +9,12 @@ overflow_add-offset g c = omega (arith, opened-within c.self.invariant c.self.vi
 pub overflow_add-offset-2 : goal.overflow_add-offset-2
 overflow_add-offset-2 g c = omega (arith, opened-within c.self.invariant c.self.view_is _ c.requires.end)
 
-pub lowercase_bytes-requires : goal.lowercase_bytes-requires
-lowercase_bytes-requires g c =
+pub change_bytes-requires : goal.change_bytes-requires
+change_bytes-requires g c =
     (search rules, (omega arith, omega (arith, opened-within c.self.invariant c.self.view_is _ c.requires.end)))
 
 pub invariant_of-self : goal.invariant_of-self
-invariant_of-self g c = (changed lowercase-change c.self.invariant c.self.view_is c.requires.order c.requires.start c.requires.end c.lowercase_bytes.ensures).in_array
+invariant_of-self g c = (changed (case-change c.args.case) c.self.invariant c.self.view_is c.requires.order c.requires.start c.requires.end c.change_bytes.ensures).in_array
 
 pub returns : goal.returns
-returns g c = (changed lowercase-change c.self.invariant c.self.view_is c.requires.order c.requires.start c.requires.end c.lowercase_bytes.ensures).shown
+returns g c = (changed (case-change c.args.case) c.self.invariant c.self.view_is c.requires.order c.requires.start c.requires.end c.change_bytes.ensures).shown

@@ -6,8 +6,8 @@ use Rattle.arraystring_base.proofs.TextLaws.{width-is, width-bounds, chars-bytes
 use Rattle.arraystring_base.proofs.BoundaryLaws.{boundary-is, back-is}
 use Rattle.arraystring_core.specs.Edits.{without_leading}
 use Rattle.arraystring_core.proofs.TrimLemmas.{without_leading-passes, without_leading-stops}
-use Rattle.arraystring_core.proofs.array_string.ArrayString.drop_leading_decoded.Goals as goal
-use Rattle.arraystring_core.proofs.array_string.ArrayString.drop_leading_decoded.Goals.{in-Some+then-not-drops, in_default}
+use Rattle.arraystring_core.proofs.array_string.ArrayString.drop_leading.Goals as goal
+use Rattle.arraystring_core.proofs.array_string.ArrayString.drop_leading.Goals.{in-Some+then-not-drops, in_default}
 
 -- a text that begins with the bytes of a character
 module _ (text : List ℕ) {borrowed : List ℕ} (rest : List ℕ) (ch : ℕ) (u : IsUtf8 borrowed)
@@ -47,24 +47,24 @@ loop-ch-smaller g c =
     left-smaller _ _ _ c.as_str.utf8 c.as_str.ensures.bytes begins c.len_utf8.ensures.value c.drop_front.ensures
 
 pub loop-ch-preserved : goal.loop-ch-preserved
-loop-ch-preserved g c = λ passes tells.
+loop-ch-preserved g c = λ passes agrees.
     let begins = sym c.chars.ensures.rest ∙ c.in-Some.ensures.steps.0 in
     left-passes _ _ _ c.as_str.utf8 c.as_str.ensures.bytes begins c.len_utf8.ensures.value c.drop_front.ensures passes
-    (sym (tells.at c.in-Some.ch c.drops.result c.drops.ensures) ∙ c.if-not-drops.false)
-    ∙ c.loop-ch.invariant passes tells
+    (sym (agrees.at c.in-Some.ch c.drops.result c.drops.ensures) ∙ c.if-not-drops.false)
+    ∙ c.loop-ch.invariant passes agrees
 
 pub returns : goal.returns
-returns g c = λ passes tells.
+returns g c = λ passes agrees.
     let text = c.loop-ch.self.text in
     let borrowed = c.as_str.ensures.bytes in
     let begun : without_leading passes text ≡ text = elim c.match-next.branch [
       | in-Some+then-not-drops w ↦
           let starts = first _ _ _ c.as_str.utf8 borrowed (sym c.chars.ensures.rest ∙ w.in-Some.ensures.steps.0) in
           without_leading-stops passes text _ _ starts
-          (sym (tells.at w.in-Some.ch w.drops.result w.drops.ensures) ∙ w.if-not-drops.true)
+          (sym (agrees.at w.in-Some.ch w.drops.result w.drops.ensures) ∙ w.if-not-drops.true)
       | in_default w ↦
           let over = ap length (sym borrowed ∙ sym c.chars.ensures.rest) ∙ w.in_default.ensures.steps.0.0 in
           let none = empty-size (size-is text ∙ over) in
           ap (without_leading passes) none ∙ sym none
     ] in
-    sym begun ∙ c.loop-ch.invariant passes tells
+    sym begun ∙ c.loop-ch.invariant passes agrees

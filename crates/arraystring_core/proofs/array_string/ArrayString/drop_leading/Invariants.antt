@@ -2,7 +2,7 @@ use Rattle.std.proofs.Common.{◌≡◌, ℕ, Bool}
 use Rattle.arraystring_base.specs.Text.{size}
 use Rattle.arraystring_core.specs.Retain.{ReturnsAs}
 use Rattle.arraystring_core.specs.Edits.{without_leading}
-use Rattle.arraystring_core.proofs.array_string.ArrayString.drop_leading_decoded.Given as goal
+use Rattle.arraystring_core.proofs.array_string.ArrayString.drop_leading.Given as goal
 
 abbrev pub invariant-loop-ch : goal.invariant-loop-ch
 invariant-loop-ch g l = (passes : ℕ → Bool) → ReturnsAs (goal.F-post g) l.fn.drops passes

@@ -1,5 +1,5 @@
 use Rattle.std.proofs.Common.{◌∙◌, sym, refl}
-use Rattle.arraystring_core.proofs.utils.is_char_boundary.Goals as goal
+use Rattle.arraystring_core.proofs.array_string.boundary.is_char_boundary.Goals as goal
 
 pub returns-then-is_boundary : goal.returns-then-is_boundary
 returns-then-is_boundary g c =

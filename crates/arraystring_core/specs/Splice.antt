@@ -1,0 +1,13 @@
+-- What a replacement does to a text and to a count of moves.
+use Rattle.std.specs.Prelude.{◌≡◌, ◌≢◌, ℕ, ◌+◌, ◌-◌, ◌≤◌, List, ◌++◌, min}
+use Rattle.arraystring_base.specs.Text.{size, front, back}
+use Rattle.arraystring_base.specs.Counts.{Counts}
+
+-- the part of the old text between two boundaries became `given`, and no byte was looked at. Of the bytes before the part and
+-- those behind it each moved once at most; if the size changed, at least the fewer of the two moved
+pub record ReplacesPart (old : List ℕ) (start end : ℕ) (given new : List ℕ) (before after : Counts) : Type 0 where
+  pub text : new ≡ front old start ++ (given ++ back old end)
+  pub most : after.moved ≤ before.moved + (start + (size old - end))
+  pub least : end ≢ start + size given → before.moved + min start (size old - end) ≤ after.moved
+  pub counted : before.moved ≤ after.moved
+  pub looked : after.looked ≡ before.looked
