@@ -382,4 +382,17 @@ impl<const N: usize> fmt::Write for ArrayString<N> {
             Err(_) => Err(fmt::Error),
         }
     }
+
+    /// Appends `ch`.
+    ///
+    /// # Errors
+    ///
+    /// Returns `Err(fmt::Error)` if `ch` does not fit. The text is then unchanged.
+    #[inline]
+    fn write_char(&mut self, ch: char) -> fmt::Result {
+        match self.try_push(ch) {
+            Ok(()) => Ok(()),
+            Err(_) => Err(fmt::Error),
+        }
+    }
 }

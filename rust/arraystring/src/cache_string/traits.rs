@@ -357,4 +357,14 @@ impl fmt::Write for CacheString {
     fn write_str(&mut self, string: &str) -> fmt::Result {
         self.0.write_str(string)
     }
+
+    /// Appends `ch`.
+    ///
+    /// # Errors
+    ///
+    /// Returns `Err(fmt::Error)` if `ch` does not fit. The text is then unchanged.
+    #[inline]
+    fn write_char(&mut self, ch: char) -> fmt::Result {
+        self.0.write_char(ch)
+    }
 }
