@@ -86,6 +86,7 @@ impl<const N: usize> Drain<N> {
     ///
     /// ```text
     /// ensures bytes { result.now ≡ bytes self.now.left }
+    /// ensures chars { chars result.now ≡ self.now.left }
     /// ensures text { IsText self.now.left }
     /// ensures fits { size self.now.left ≤ cap N }
     /// ```

@@ -35,9 +35,12 @@ impl<const N: usize> ArrayString<N> {
     /// requires start { IsTrue (boundary self.now.text (start_index (R.start_bound range))) }
     /// requires end { IsTrue (boundary self.now.text
     ///     (end_index (R.end_bound range) (size self.now.text))) }
-    /// ensures { let t = self.now.text in
+    /// ensures bytes { let t = self.now.text in
     ///     result.now ≡ bytes (part t (start_index (R.start_bound range))
     ///     (end_index (R.end_bound range) (size t))) }
+    /// ensures chars { let t = self.now.text in
+    ///     chars result.now ≡ part t (start_index (R.start_bound range))
+    ///     (end_index (R.end_bound range) (size t)) }
     /// ```
     ///
     /// [How to read a contract](crate::contracts)

@@ -114,6 +114,7 @@ impl<const N: usize> ArrayString<N> {
     ///
     /// ```text
     /// ensures bytes { result.now ≡ bytes self.now.text }
+    /// ensures chars { chars result.now ≡ self.now.text }
     /// ensures text { IsText self.now.text }
     /// ensures fits { size self.now.text ≤ cap N }
     /// ```
