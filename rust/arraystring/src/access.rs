@@ -28,7 +28,7 @@ macro_rules! get_unchecked_mut {
     };
 }
 
-/// `K` bytes of a slice as an array: `*unsafe { chunk_unchecked!(given, at, K) }` for `*given[at..].first_chunk::<K>().unwrap()`. They
+/// `K` bytes of a slice as an array: `unsafe { chunk_unchecked!(given, at, K) }` for `given[at..].first_chunk::<K>().unwrap()`. They
 /// have to be within.
 macro_rules! chunk_unchecked {
     ($of:expr, $at:expr, $len:expr) => {{
@@ -41,7 +41,7 @@ macro_rules! chunk_unchecked {
     }};
 }
 
-/// The same, to write: `*unsafe { chunk_unchecked_mut!(all, at, K) } = bytes`.
+/// The same, to write: `unsafe { chunk_unchecked_mut!(all, at, K) }`.
 macro_rules! chunk_unchecked_mut {
     ($of:expr, $at:expr, $len:expr) => {{
         let of: &mut [u8] = $of;

@@ -63,10 +63,11 @@ impl<const N: usize> ArrayString<N> {
         if self.start > 0 {
             return self.push_str_behind_start(string);
         }
-        let (end, room) = (self.end(), Self::capacity() - self.len());
-        if string.len() <= room as usize {
-            self.size += string.len() as u8;
-            write_over(&mut self.array, end, string.as_bytes());
+        let (end, given) = (self.end(), string.as_bytes());
+        let room = Self::capacity() - self.len();
+        if given.len() <= room as usize {
+            self.size += given.len() as u8;
+            write_over(&mut self.array, end, given);
             return;
         }
         let part = truncate_str(string, room);

@@ -132,13 +132,14 @@ impl<const N: usize> ArrayString<N> {
         if self.start > 0 {
             return self.push_str_behind_start(string);
         }
-        let (end, room) = (self.end(), Self::capacity() - self.len());
-        if string.len() <= room as usize {
+        let (end, given) = (self.end(), string.as_bytes());
+        let room = Self::capacity() - self.len();
+        if given.len() <= room as usize {
             // FIELDS: the text with `string` is at most the capacity by the test above. It begins at the start of the
             // array, and `write_over` writes `string` at its end.
-            self.size += string.len() as u8;
-            // SAFETY: `end + string.as_bytes().len() <= N`: by the test above, since `end` is the size of the text.
-            unsafe { write_over(&mut self.array, end, string.as_bytes()) };
+            self.size += given.len() as u8;
+            // SAFETY: `end + given.len() <= N`: by the test above, since `end` is the size of the text.
+            unsafe { write_over(&mut self.array, end, given) };
             return;
         }
         let part = truncate_str(string, room);

@@ -20,17 +20,17 @@ write_over-requires g c = (search rules, omega (arith, c.end-end.ensures.value �
 
 -- what is then in the array
 whole : (g : given.Over) (c : goal.After-write_over g)
-    → StoredAt g.row.N c.write_over.new.array c.self.inside.start (c.self.inside.size + length c.args.string.now) (c.args.self.now.text ++ chars c.args.string.now)
+    → StoredAt g.row.N c.write_over.new.array c.self.inside.start (c.self.inside.size + length c.as_bytes-given.result.now) (c.args.self.now.text ++ chars c.args.string.now)
 whole g c =
     let ended : c.end-end.result ≡ c.self.inside.start + c.self.inside.size = c.end-end.ensures.value ∙ opened-end c.self.invariant c.self.view_is in
     let room : c.self.inside.start + c.self.inside.size + length c.args.string.now ≤ cap g.row.N = omega (arith, opened-size c.self.invariant c.self.view_is) in
-    appended c.self.invariant c.self.view_is c.utf8.string room (rw (ended, c.as_bytes.ensures.value) at c.write_over.ensures)
+    rw c.as_bytes-given.ensures.value (appended c.self.invariant c.self.view_is c.utf8.string room (rw (ended, c.as_bytes-given.ensures.value) at c.write_over.ensures))
 
 pub invariant_of-self : goal.invariant_of-self
 invariant_of-self g c = (whole g c).in_array
 
-pub returns-then-string-room : goal.returns-then-string-room
-returns-then-string-room g c =
+pub returns-then-given-room : goal.returns-then-given-room
+returns-then-given-room g c =
     let t = c.args.self.now.text in
     let all : cut (chars c.args.string.now) (cap g.row.N - size t) ≡ chars c.args.string.now = cut-all (omega (arith, size-borrowed c.utf8.string)) in
     makes _ t _ _ refl refl (rw all (whole g c).shown)
@@ -50,7 +50,7 @@ begun g c =
     let ended : c.end-end.result ≡ c.self.inside.start + c.self.inside.size = c.end-end.ensures.value ∙ opened-end c.self.invariant c.self.view_is in
     let room : c.self.inside.start + c.self.inside.size + length c.truncate_str-part.result.now ≤ cap g.row.N
     = omega (arith, opened-size c.self.invariant c.self.view_is, fits c.args.string.now (c.capacity.result - c.len.result) c.truncate_str-part.utf8 c.truncate_str-part.ensures) in
-    appended c.self.invariant c.self.view_is c.truncate_str-part.utf8 room (rw (ended, c.as_bytes-2.ensures.value) at c.write_over-2.ensures)
+    appended c.self.invariant c.self.view_is c.truncate_str-part.utf8 room (rw (ended, c.as_bytes.ensures.value) at c.write_over-2.ensures)
 
 pub invariant_of-self-2 : goal.invariant_of-self-2
 invariant_of-self-2 g c = (begun g c).in_array
