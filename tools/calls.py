@@ -1,8 +1,9 @@
 """Fails where a call has no test, or does not stand on the page that lists the calls.
 
 Each public call of `ArrayString` is made by a test of `arraystring_tests`, and stands in CALLS.md. What ends in `_counted` needs no
-row there, since one sentence of that page speaks of all of them. The list there has no call that is gone. Each law that a caller calls is called by a test. Each command of a
-script stands on the page of commands. A comment is no test, nor are the files that make the calls of a table: a row has to.
+row there, since one section of that page speaks of all of them. The list there has no call that is gone. Each law that a caller
+calls is called by a test. Each command of a script stands on the page of commands. A comment is no test, nor are the files that
+make the calls of a table: a row has to.
 """
 import re
 

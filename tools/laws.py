@@ -59,5 +59,5 @@ def main(arguments, root):
     for file, name, text in lemmas:
         if name not in for_callers and words[name] <= re.findall(NAME, text).count(name):
             faults.append(f"{file.relative_to(root)}: nothing names {name}")
-    print("\n".join(faults) or f"{len(lemmas)} lemmas and laws are named, and pages name laws that are there")
+    print("\n".join(faults) or f"{len(lemmas)} lemmas and laws are named or for callers, and pages name laws that are there")
     return bool(faults) or not lemmas

@@ -48,7 +48,7 @@ class Laws(TreeTest):
     }
 
     def test_a_page_names_laws_that_its_callers_can_cite(self):
-        self.assertEqual(self.told(laws), (False, "5 lemmas and laws are named, and pages name laws that are there\n"))
+        self.assertEqual(self.told(laws), (False, "5 lemmas and laws are named or for callers, and pages name laws that are there\n"))
         self.assert_finds(
             laws,
             *((NAMED(it), (PAGE, END, f"`{it} n m`\n")) for it in ("front-end", "step-made", "hidden-law", "IsHalf-made")),
