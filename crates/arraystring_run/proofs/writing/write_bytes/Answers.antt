@@ -1,7 +1,7 @@
 use Rattle.std.proofs.Common.{◌++◌, sym, ap, ◌∙◌, append_assoc}
 use Rattle.std.proofs.KnownBytes.{Appends-trans}
 use Rattle.arraystring_run.proofs.PrintLemmas.{appended-all, front-all, front-kept}
-use Rattle.arraystring_run.proofs.writing.write_rest.Goals as goal
+use Rattle.arraystring_run.proofs.writing.write_bytes.Goals as goal
 
 pub loop-preserved : goal.loop-preserved
 loop-preserved g c =
