@@ -6,7 +6,6 @@
 mod arguments;
 mod commands;
 mod execute;
-mod find;
 pub mod laws;
 mod line;
 mod player;

@@ -12,10 +12,9 @@ use crate::Reply;
 use crate::waiting::Waiting;
 use crate::writing::write_text;
 use arraystring::ArrayString;
-use std::fmt;
 use std::fmt::{Display, Write as _};
-use std::io;
 use std::io::Write;
+use std::{fmt, io};
 
 /// Writes a line for each reply, and one for the last text, and flushes the writer. The lines wait in an
 /// array, which is written when it is full, and at the end.
