@@ -158,18 +158,3 @@ NoneTight cs t n = (before : List Command) (c : Command) (later : List Command) 
 abbrev pub IsFirstTight : List Command → List ℕ → ℕ → ℕ → Type 0
 IsFirstTight cs t n k = (before : List Command) × (c : Command) × (later : List Command) × (cs ≡ before ++ c ∷ later)
     × (k ≡ length before) × (is_tight c (after before t n).text n ≡ true) × NoneTight before t n
-
--- whether some text refuses a command, at some capacity
-abbrev pub is_refusable : Command → Bool
-is_refusable (command.PushStr given) = false
-is_refusable command.Pop = false
-is_refusable command.Trim = false
-is_refusable (command.RetainNot c) = false
-is_refusable command.Clear = false
-is_refusable command.Upper = false
-is_refusable command.Lower = false
-is_refusable (command.Get start end) = false
-is_refusable command.Len = false
-is_refusable command.Capacity = false
-is_refusable command.AsStr = false
-is_refusable _ = true

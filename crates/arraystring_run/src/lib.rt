@@ -13,6 +13,7 @@ mod printing;
 pub mod program;
 mod runs;
 mod script;
+mod tight;
 mod waiting;
 mod writing;
 

@@ -29,6 +29,7 @@ pub(crate) fn command_of_text(text: &str) -> Option<Command<'_>>
 }
 
 /// What is before the first space, and what is after it.
+#[inline(always)]
 fn split_at_space(text: &str) -> Option<(&str, &str)>
     ensures some { IfSome result (λ parts. (text.now ≡ parts.0.now ++ space ∷ parts.1.now) × IsOneWord parts.0.now) }
     ensures none { IfNone result (IsOneWord text.now) }
