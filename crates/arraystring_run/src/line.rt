@@ -5,6 +5,7 @@ ghost use Rattle.arraystring_run.specs.Line.{word as word_of, arguments, Number,
 ghost use Rattle.arraystring_run.specs.declared.commands.Command.{Command};
 
 use crate::Command;
+use memchr::memchr;
 use std::str;
 
 /// Returns the command of a line of a script. `line` has no line feed, and the command borrows its text
@@ -29,12 +30,12 @@ pub(crate) fn command_of_text(text: &str) -> Option<Command<'_>>
 }
 
 /// What is before the first space, and what is after it.
-#[inline(always)]
 fn split_at_space(text: &str) -> Option<(&str, &str)>
     ensures some { IfSome result (λ parts. (text.now ≡ parts.0.now ++ space ∷ parts.1.now) × IsOneWord parts.0.now) }
     ensures none { IfNone result (IsOneWord text.now) }
 {
-    text.split_once(' ')
+    let end = memchr(b' ', text.as_bytes())?;
+    Some((&text[..end], &text[end + 1..]))
 }
 
 /// The command of a line that is one word.
