@@ -3,7 +3,7 @@ use Rattle.std.specs.Prelude.{◌≡◌, ℕ, ◌+◌, ◌-◌, ◌==◌, ◌&&�
 use Rattle.std.specs.List.{filter}
 use Rattle.arraystring.specs.Text.{size, cut}
 use Rattle.arraystring.specs.Edits.{Edit, Cause, Room, result_of, text_of, first_cause, part_in, addition, addition_of_cut, popping, truncation, trimming, is_white_space, removal, insertion, insertion_of_cut, split, clearing, draining, replacement, uppercase, lowercase}
-use Rattle.arraystring.specs.Refusals.{Error, OutOfBounds}
+use Rattle.arraystring.specs.Refusals.{Error}
 use Rattle.arraystring_run.specs.declared.commands.Command.{Command}
 use Rattle.arraystring_run.specs.declared.commands.Command.TheVariants as command
 use Rattle.arraystring_run.specs.declared.commands.Reply.{Reply}
@@ -94,11 +94,6 @@ effect (command.Get start end) t n = reply_and_text (text_or_none (part_in t sta
 effect command.Len t n = reply_and_text (Number (size t)) t
 effect command.Capacity t n = reply_and_text (Number n) t
 effect command.AsStr t n = reply_and_text (Text t) t
-
--- whether a result is the refusal of an index past the text, or of a result that does not fit
-abbrev pub is_out_of_bounds : {A : Type 0} → Result A Error → Bool
-is_out_of_bounds (Err OutOfBounds) = true
-is_out_of_bounds _ = false
 
 -- whether a cause is `Room`
 abbrev pub is_room : Option Cause → Bool

@@ -147,7 +147,12 @@ fn flushes_of_each_kind(rt: HostRuntime) {
         let mut input = SCRIPT.as_bytes();
         let played = play::<23, &[u8], Unflushed>(rt.alloc(), &mut input, &mut output);
         agree(&rt, "a flush", played, Err(PlayFault::Write));
-        agree(&rt, "the output", output.taken.as_slice(), OUTPUT.as_bytes());
+        agree(
+            &rt,
+            "the output",
+            output.taken.as_slice(),
+            OUTPUT.as_bytes(),
+        );
         agree(&rt, "the flushes", output.flushes, 1);
     }
 }

@@ -32,7 +32,11 @@ fn script_of(rt: &(impl Abort + AllocGlobal), bytes: usize) -> (String, String) 
     while left >= 36 {
         ask(rt, &mut script, &mut replies, size);
         left = left.saturating_sub(size);
-        size = if size == 29 { 7 } else { size.saturating_add(1) };
+        size = if size == 29 {
+            7
+        } else {
+            size.saturating_add(1)
+        };
     }
     if left > 29 {
         ask(rt, &mut script, &mut replies, 12);
@@ -114,7 +118,9 @@ fn writes_that_fail_near_a_block_are_reported(rt: HostRuntime) {
 #[test]
 fn what_waits_is_written_in_parts(rt: HostRuntime) {
     let (script, wanted) = script_that_prints(&rt, 2 * BLOCK + 100);
-    for step in [1, 2, 3, 7, 100, 4095, 4096, 4097, 8190, 8191, 8192, 8193usize] {
+    for step in [
+        1, 2, 3, 7, 100, 4095, 4096, 4097, 8190, 8191, 8192, 8193usize,
+    ] {
         for faults in 0..=2u8 {
             let mut output = FakeWriter::new(rt.alloc(), 0, Some(ErrorKind::Interrupted));
             output.step = step;
