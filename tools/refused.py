@@ -43,15 +43,13 @@ class Case(NamedTuple):
 
 
 # The growths of the program:
-# - The buffer before the output is made at once, before anything is read. It is the one that may be refused: the output is then
-#   written line by line.
 # - The list of bytes of the input grows at a read for which it has no room. A read asks for 8,192 bytes and a file gives them, so
 #   a script of 1 to 8,192 bytes is one growth, and one of up to 16,384 two.
 # - The list of commands grows where it is full: at the first line to room for 4, as std does for items of up to 1,024 bytes, at
 #   the fifth to 8. Lines up to a bad one are in it.
 # - The list of replies is made at once with room for all, and only if there is a command. After it nothing takes memory.
-BUFFER, INPUT, COMMANDS, REPLIES = "the buffer", "the input", "the commands", "the replies"
-SHORT = [BUFFER, INPUT, COMMANDS, REPLIES]  # a script of one to four lines
+INPUT, COMMANDS, REPLIES = "the input", "the commands", "the replies"
+SHORT = [INPUT, COMMANDS, REPLIES]  # a script of one to four lines
 
 # A name, the script, its growths, and the status, the output and the line on standard error, with {} for the capacity.
 SCRIPTS = [
@@ -61,27 +59,27 @@ SCRIPTS = [
     ("text", "push_str aé\nsplit_off 1\n", SHORT, (0, "done\ntext é\nfinal a\n", "")),
     ("no_text", "get 0 9\n", SHORT, (0, "no text\nfinal \n", "")),
     # (five lines: the commands grow twice)
-    ("number", "capacity\n" * 5, [BUFFER, INPUT, COMMANDS, COMMANDS, REPLIES], (0, "number {}\n" * 5 + "final \n", "")),
+    ("number", "capacity\n" * 5, [INPUT, COMMANDS, COMMANDS, REPLIES], (0, "number {}\n" * 5 + "final \n", "")),
     ("refused", "push_str é\nremove 1\n", SHORT, (0, "done\nrefused Utf8\nfinal é\n", "")),
     # (9,000 bytes: the input grows twice)
-    ("long", f"try_push_str {'x' * 4486}\n" * 2, [BUFFER, INPUT, INPUT, COMMANDS, REPLIES],
+    ("long", f"try_push_str {'x' * 4486}\n" * 2, [INPUT, INPUT, COMMANDS, REPLIES],
      (0, "refused OutOfBounds\n" * 2 + "final \n", "")),
-    ("nothing", "", [BUFFER], (0, "final \n", "")),
+    ("nothing", "", [], (0, "final \n", "")),
     # (what is refused after a bad line would be met is not reached)
-    ("bad_first", "Len\nlen\n", [BUFFER, INPUT], (2, "", "bad line 1\n")),
-    ("bad_last", "len\nLen\n", [BUFFER, INPUT, COMMANDS], (2, "", "bad line 2\n")),
+    ("bad_first", "Len\nlen\n", [INPUT], (2, "", "bad line 1\n")),
+    ("bad_last", "len\nLen\n", [INPUT, COMMANDS], (2, "", "bad line 2\n")),
 ]
 
 
 def program_cases():
-    """Those of arraystring_cli. But for the buffer, a refused growth ends the program, and nothing was written."""
+    """Those of arraystring_cli. A refused growth ends the program, and nothing was written."""
     for word, capacity in (("small", 23), ("cache", 63), ("max", 255)):
         for name, script, growths, (status, output, errors) in SCRIPTS:
             ordinary = Answer(status, output.replace("{}", str(capacity)), errors)
             refused = Answer(3, "", "out of memory\n")
-            answers = [(it, ordinary if it is BUFFER else refused) for it in growths]
+            answers = [(it, refused) for it in growths]
             yield Case(f"{word}_{name}", [word], script, answers, ordinary)
-    # (another word takes no memory: not for its own text, and no buffer is made for it)
+    # (another word takes no memory, not for its own text)
     yield Case("another_word", ["large"], "len\n", [], Answer(2, "", "usage: arraystring_run small or cache or max\n"))
 
 
@@ -111,13 +109,8 @@ CALLS = [
     ("to_value_nothing", [], 'to_value: ""\n'),
     ("insert", [(it, f"insert: {user} is refused, the users are {users}\n{INSERTED}") for it, user, users in TREE], INSERTED),
     ("play", [(it, 'play: Err(Memory), the output is ""\n') for it in PLAYED], f"play: Ok(()), the output is {WRITTEN}\n"),
-    ("serve", [(it, 'serve: 3, the output is "", the errors are "out of memory\\n"\n') for it in PLAYED],
-     f'serve: 0, the output is {WRITTEN}, the errors are ""\n'),
-    # (without a buffer the lines go out one by one)
-    ("serve_buffered",
-     [(BUFFER, f'serve_buffered: 0, the output is {WRITTEN} in several writes, the errors are ""\n'),
-      *((it, 'serve_buffered: 3, the output is "" in no write, the errors are "out of memory\\n"\n') for it in PLAYED)],
-     f'serve_buffered: 0, the output is {WRITTEN} in one write, the errors are ""\n'),
+    ("serve", [(it, 'serve: 3, the output is "" in no write, the errors are "out of memory\\n"\n') for it in PLAYED],
+     f'serve: 0, the output is {WRITTEN} in one write, the errors are ""\n'),
 ]
 
 

@@ -3,7 +3,7 @@ use Rattle.std.specs.Prelude.{◌≡◌, ℕ, ◌+◌, ◌-◌, ◌==◌, ◌&&�
 use Rattle.std.specs.List.{filter}
 use Rattle.arraystring.specs.Text.{size, cut}
 use Rattle.arraystring.specs.Edits.{Edit, Cause, Room, result_of, text_of, first_cause, part_in, addition, addition_of_cut, popping, truncation, trimming, is_white_space, removal, insertion, insertion_of_cut, split, clearing, draining, replacement, uppercase, lowercase}
-use Rattle.arraystring.specs.Refusals.{Error, OutOfBounds}
+use Rattle.arraystring.specs.Refusals.{Error}
 use Rattle.arraystring_run.specs.declared.commands.Command.{Command}
 use Rattle.arraystring_run.specs.declared.commands.Command.TheVariants as command
 use Rattle.arraystring_run.specs.declared.commands.Reply.{Reply}
@@ -95,11 +95,6 @@ effect command.Len t n = reply_and_text (Number (size t)) t
 effect command.Capacity t n = reply_and_text (Number n) t
 effect command.AsStr t n = reply_and_text (Text t) t
 
--- whether a result is the refusal of an index past the text, or of a result that does not fit
-abbrev pub is_out_of_bounds : {A : Type 0} → Result A Error → Bool
-is_out_of_bounds (Err OutOfBounds) = true
-is_out_of_bounds _ = false
-
 -- whether a cause is `Room`
 abbrev pub is_room : Option Cause → Bool
 is_room (Some Room) = true
@@ -158,18 +153,3 @@ NoneTight cs t n = (before : List Command) (c : Command) (later : List Command) 
 abbrev pub IsFirstTight : List Command → List ℕ → ℕ → ℕ → Type 0
 IsFirstTight cs t n k = (before : List Command) × (c : Command) × (later : List Command) × (cs ≡ before ++ c ∷ later)
     × (k ≡ length before) × (is_tight c (after before t n).text n ≡ true) × NoneTight before t n
-
--- whether some text refuses a command, at some capacity
-abbrev pub is_refusable : Command → Bool
-is_refusable (command.PushStr given) = false
-is_refusable command.Pop = false
-is_refusable command.Trim = false
-is_refusable (command.RetainNot c) = false
-is_refusable command.Clear = false
-is_refusable command.Upper = false
-is_refusable command.Lower = false
-is_refusable (command.Get start end) = false
-is_refusable command.Len = false
-is_refusable command.Capacity = false
-is_refusable command.AsStr = false
-is_refusable _ = true

@@ -8,3 +8,9 @@ pub record AppendsPrefix (old new : Option (List ℕ)) (bs : List ℕ) : Type 0 
   pub later : List ℕ
   pub whole : bs ≡ done ++ later
   pub appended : Appends old new done
+
+-- bs came to what waited: its front was appended, and the rest waits
+pub record IsPassed (old new : Option (List ℕ)) (waited waits bs : List ℕ) : Type 0 where
+  pub done : List ℕ
+  pub whole : waited ++ bs ≡ done ++ waits
+  pub appended : Appends old new done

@@ -4,7 +4,6 @@
 #![tactic(auto)]
 
 mod arguments;
-pub mod buffered;
 mod commands;
 mod execute;
 mod find;
@@ -15,10 +14,12 @@ mod printing;
 pub mod program;
 mod runs;
 mod script;
+mod tight;
+mod waiting;
 mod writing;
 
 pub use commands::{Command, Reply};
 pub use line::command;
 pub use player::{PlayFault, play};
-pub use program::{names_capacity, serve};
+pub use program::serve;
 pub use runs::{Outcome, run, run_both};

@@ -1,20 +1,23 @@
 //! The lines that are printed of a run. Nothing here is given an allocator, so nothing takes
 //! memory.
-ghost use Rattle.std.specs.Prelude.{◌++◌, map, IfSome, OnOk};
+ghost use Rattle.std.specs.Prelude.{◌≡◌, ◌++◌, map, IfOk, IfSome, OnOk};
 ghost use Rattle.std.specs.Io.KnownBytes.{Appends};
+ghost use Rattle.arraystring.specs.Text.{bytes};
 ghost use Rattle.arraystring_run.specs.Runs.{view_of};
 ghost use Rattle.arraystring_run.specs.ScriptLines.{with_newline};
 ghost use Rattle.arraystring_run.specs.Printing.{printed, all_printed};
-ghost use Rattle.arraystring_run.specs.Writing.{AppendsPrefix};
+ghost use Rattle.arraystring_run.specs.Writing.{AppendsPrefix, IsPassed};
 
 use crate::Reply;
+use crate::waiting::Waiting;
 use crate::writing::write_text;
 use arraystring::ArrayString;
 use std::fmt::{Display, Write as _};
-use std::io;
 use std::io::Write;
+use std::{fmt, io};
 
-/// Writes a line for each reply, and one for the last text, and flushes the writer.
+/// Writes a line for each reply, and one for the last text, and flushes the writer. The lines wait in an
+/// array, which is written when it is full, and at the end.
 pub(crate) fn write_all_replies<const N: usize, O: Write>(
     output: &mut O,
     replies: &[Reply<N>],
@@ -25,32 +28,54 @@ pub(crate) fn write_all_replies<const N: usize, O: Write>(
     ensures part { AppendsPrefix (O.contents output.old) (O.contents output.new)
         (all_printed (map view_of replies.now) last.now.text) }
 {
+    let mut waiting = Waiting::new();
     for reply in replies {
-        write_reply(output, reply)?;
+        put_reply(&mut waiting, output, reply)?;
     }
-    write_text_line(output, "final ", last.as_str())?;
+    put_text_line(&mut waiting, output, "final ", last.as_str())?;
+    waiting.send(output)?;
     output.flush()
 }
 
-/// Writes the line of a reply.
-fn write_reply<const N: usize, O: Write>(output: &mut O, reply: &Reply<N>) -> io::Result<()>
-    ensures whole { OnOk result
-        (Appends (O.contents output.old) (O.contents output.new) (with_newline (printed (view_of reply.now)))) }
-    ensures part { AppendsPrefix (O.contents output.old) (O.contents output.new) (with_newline (printed (view_of reply.now))) }
+/// Lets the line of a reply wait.
+fn put_reply<const N: usize, O: Write>(
+    waiting: &mut Waiting,
+    output: &mut O,
+    reply: &Reply<N>,
+) -> io::Result<()>
+    ensures whole { OnOk result (IsPassed (O.contents output.old) (O.contents output.new) waiting.old waiting.new
+        (with_newline (printed (view_of reply.now)))) }
+    ensures part { AppendsPrefix (O.contents output.old) (O.contents output.new)
+        (waiting.old ++ with_newline (printed (view_of reply.now))) }
 {
     match reply {
-        Reply::Done => write_text(output, "done\n"),
-        Reply::Char(ch) => write_line_of(output, "char ", *ch),
-        Reply::NoChar => write_text(output, "no char\n"),
-        Reply::Text(text) => write_text_line(output, "text ", text.as_str()),
-        Reply::NoText => write_text(output, "no text\n"),
-        Reply::Number(number) => write_line_of(output, "number ", *number),
-        Reply::Refused(error) => write_line_of(output, "refused ", *error),
+        Reply::Done => waiting.put(output, "done\n"),
+        Reply::Char(ch) => put_line_of(waiting, output, "char ", *ch),
+        Reply::NoChar => waiting.put(output, "no char\n"),
+        Reply::Text(text) => put_text_line(waiting, output, "text ", text.as_str()),
+        Reply::NoText => waiting.put(output, "no text\n"),
+        Reply::Number(number) => put_line_of(waiting, output, "number ", *number),
+        Reply::Refused(error) => put_line_of(waiting, output, "refused ", *error),
     }
 }
 
-/// Writes a line of a word and a short value. It is made at once, in a string that is as long as
-/// `bad line `, the 20 digits of a `usize` and a line feed.
+/// Lets a line of a word and a short value wait.
+fn put_line_of<D: Display + Drop, O: Write>(
+    waiting: &mut Waiting,
+    output: &mut O,
+    word: &str,
+    value: D,
+) -> io::Result<()>
+    ensures whole { OnOk result (IfSome (D.output value)
+        (λ bs. IsPassed (O.contents output.old) (O.contents output.new) waiting.old waiting.new (with_newline (word.now ++ bs)))) }
+    ensures part { IfSome (D.output value)
+        (λ bs. AppendsPrefix (O.contents output.old) (O.contents output.new) (waiting.old ++ with_newline (word.now ++ bs))) }
+{
+    let line = line_of(word, value)?;
+    waiting.put(output, line.as_str())
+}
+
+/// Writes a line of a word and a short value at once.
 pub(crate) fn write_line_of<D: Display + Drop, O: Write>(
     output: &mut O,
     word: &str,
@@ -61,18 +86,34 @@ pub(crate) fn write_line_of<D: Display + Drop, O: Write>(
     ensures part { IfSome (D.output value)
         (λ bs. AppendsPrefix (O.contents output.old) (O.contents output.new) (with_newline (word.now ++ bs))) }
 {
-    let mut line = ArrayString::<30>::new();
-    writeln!(line, "{word}{value}")?;
+    let line = line_of(word, value)?;
     write_text(output, line.as_str())
 }
 
-/// Writes a line of a word and a text.
-#[inline(always)]
-fn write_text_line<O: Write>(output: &mut O, word: &str, text: &str) -> io::Result<()>
-    ensures whole { OnOk result (Appends (O.contents output.old) (O.contents output.new) (with_newline (word.now ++ text.now))) }
-    ensures part { AppendsPrefix (O.contents output.old) (O.contents output.new) (with_newline (word.now ++ text.now)) }
+/// Returns the line of a word and a short value. There is room for `bad line `, the 20 digits of a `usize`
+/// and a line feed.
+fn line_of<D: Display + Drop>(word: &str, value: D) -> Result<ArrayString<30>, fmt::Error>
+    ensures { IfOk result (λ line. IfSome (D.output value) (λ bs. bytes line.text ≡ with_newline (word.now ++ bs))) }
 {
-    write_text(output, word)?;
-    write_text(output, text)?;
-    write_text(output, "\n")
+    let mut line = ArrayString::<30>::new();
+    writeln!(line, "{word}{value}")?;
+    Ok(line)
+}
+
+/// Lets a line of a word and a text wait.
+#[inline(always)]
+fn put_text_line<O: Write>(
+    waiting: &mut Waiting,
+    output: &mut O,
+    word: &str,
+    text: &str,
+) -> io::Result<()>
+    ensures whole { OnOk result (IsPassed (O.contents output.old) (O.contents output.new) waiting.old waiting.new
+        (with_newline (word.now ++ text.now))) }
+    ensures part { AppendsPrefix (O.contents output.old) (O.contents output.new)
+        (waiting.old ++ with_newline (word.now ++ text.now)) }
+{
+    waiting.put(output, word)?;
+    waiting.put(output, text)?;
+    waiting.put(output, "\n")
 }

@@ -1,24 +1,15 @@
 //! What the `main` of a program calls. A script is played on a string whose capacity the program's argument
-//! names. `serve` writes the output directly, and `serve_buffered` through a buffer.
-ghost use Rattle.std.specs.Prelude.{◌≡◌, ◌≢◌, is_some, option_map, ℕ, List, [], None, vec_capacity};
+//! names.
+ghost use Rattle.std.specs.Prelude.{◌≡◌, option_map};
 ghost use Rattle.arraystring_run.specs.Writing.{AppendsPrefix};
 ghost use Rattle.arraystring_run.specs.Program.{IsServed, IsOutcomeAt, bytes_of, capacity_named, status_at, report_at};
-ghost use Rattle.std.specs.Io.KnownBytes.{append_known};
 
 pub use crate::arguments::{Arguments, given_word};
-use crate::buffered::Buffered;
 use crate::player::{PlayFault, play};
 use crate::printing::write_line_of;
 use crate::writing::write_text;
 use std::alloc::Global;
 use std::io::{Read, Write};
-
-/// Returns whether a word names a capacity for `serve`: whether it is `small`, `cache` or `max`.
-pub fn names_capacity(word: Option<&str>) -> bool
-    ensures { result ≡ is_some (capacity_named word.entry) }
-{
-    capacity_of(word).is_some()
-}
 
 /// A capacity that a word names.
 #[derive(Clone, Copy)]
@@ -111,51 +102,4 @@ fn report<E: Write>(played: Option<Result<(), PlayFault>>, errors: &mut E) -> u8
             4
         }
     }
-}
-
-/// How many bytes the buffer before the output has room for.
-pub const BUFFER: usize = 8192;
-
-/// Does what `serve` does, with a buffer before the output: so a line needs no system call of its own.
-/// Returns the status and the output.
-///
-/// If the word names no capacity, nothing is allocated. If memory runs out for the buffer, the output is
-/// not buffered. If a write fails, bytes may still wait in the buffer (`unsent`). They are dropped.
-pub fn serve_buffered<I: Read, O: Write + Drop, E: Write>(
-    alloc: Global,
-    word: Option<&str>,
-    input: &mut I,
-    output: O,
-    errors: &mut E,
-) -> (u8, O)
-    ensures { (unsent : List ℕ) × (result.0 ≢ 4 → unsent ≡ [])
-        × IsServed word.entry (I.remaining input.old) (O.contents output) (append_known (O.contents result.1) unsent)
-        (E.contents errors.old) (E.contents errors.new)
-        (input.new ≡ input.old) (result.1 ≡ output) (errors.new ≡ errors.old) result.0 }
-{
-    let (capacity, waiting) = capacity_and_buffer(alloc, word);
-    let mut buffered = Buffered { output, waiting };
-    let played = match play_at(alloc, capacity, input, &mut buffered) {
-        // after the flush of `play` nothing waits: `send` says so in its contract, and a writer's `flush` does not
-        Some(Ok(())) => Some(buffered.send().map_err(|_| PlayFault::Write)),
-        Some(Err(fault)) => Some(Err(fault)),
-        None => None,
-    };
-    (report(played, errors), buffered.output)
-}
-
-/// The capacity that a word names, and the room before the output: none if the word names no capacity,
-/// or if there is no memory. A list without room has taken no memory.
-fn capacity_and_buffer(alloc: Global, word: Option<&str>) -> (Option<Capacity>, Vec<u8>)
-    ensures capacity { option_map bytes_of result.0 ≡ capacity_named word.entry }
-    ensures empty { result.1.items ≡ [] }
-    ensures none_named { capacity_named word.entry ≡ None → vec_capacity result.1 ≡ 0 }
-{
-    let capacity = capacity_of(word);
-    if capacity.is_some() {
-        if let Ok(waiting) = Vec::with_capacity(alloc, BUFFER) {
-            return (capacity, waiting);
-        }
-    }
-    (capacity, Vec::new(alloc))
 }

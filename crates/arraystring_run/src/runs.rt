@@ -6,6 +6,7 @@ ghost use Rattle.arraystring_run.specs.Runs.{view_of, effect, is_tight, after, f
 ghost use Rattle.arraystring_run.specs.Agreement.{commands_before, AllAgree, IsNoSooner};
 
 use crate::execute::execute;
+use crate::tight::is_tight;
 use crate::{Command, Reply};
 use arraystring::ArrayString;
 use arraystring::laws::text_fits;
@@ -95,8 +96,8 @@ fn add_reply<const N: usize>(
     ensures text { text.new.text ≡ (effect command.now text.old.text (cap N)).text }
     ensures tight { result ≡ is_tight command.now text.old.text (cap N) }
 {
-    let (reply, is_tight) = execute(text, *command);
-    replies.push_reserved(reply);
+    let is_tight = is_tight(text, *command);
+    replies.push_reserved(execute(text, *command));
     is_tight
 }
 

@@ -10,23 +10,17 @@ use std::io::Write;
 
 /// Writes a text; an interrupted write is tried again. If another fails, a prefix of the text was
 /// written.
-// In its caller a constant text is copied without a call. Most writes take all of a text.
 #[inline(always)]
 pub(crate) fn write_text<O: Write>(output: &mut O, text: &str) -> io::Result<()>
     ensures whole { OnOk result (Appends (O.contents output.old) (O.contents output.new) text.now) }
     ensures part { AppendsPrefix (O.contents output.old) (O.contents output.new) text.now }
 {
-    let rest = write_some(output, text.as_bytes())?;
-    if rest.is_empty() {
-        return Ok(());
-    }
-    write_rest(output, rest)
+    write_bytes(output, text.as_bytes())
 }
 
-/// Writes the bytes that the first write left. If a write fails, a prefix of them was written.
-#[cold]
+/// Writes bytes, as `write_text` writes a text.
 #[inline(never)]
-fn write_rest<O: Write>(output: &mut O, bytes: &[u8]) -> io::Result<()>
+pub(crate) fn write_bytes<O: Write>(output: &mut O, bytes: &[u8]) -> io::Result<()>
     ensures whole { OnOk result (Appends (O.contents output.old) (O.contents output.new) bytes.now) }
     ensures part { AppendsPrefix (O.contents output.old) (O.contents output.new) bytes.now }
 {
@@ -57,7 +51,7 @@ fn write_some<'a, O: Write>(output: &mut O, bytes: &'a [u8]) -> io::Result<&'a [
 /// Writes bytes, of which there are some, by one call, and returns how many were taken. An
 /// interrupted write takes none. A writer that takes none has failed.
 #[inline(always)]
-pub(crate) fn write_once<O: Write>(output: &mut O, bytes: &[u8]) -> io::Result<usize>
+fn write_once<O: Write>(output: &mut O, bytes: &[u8]) -> io::Result<usize>
     ensures bound { WritesAtMost result bytes.now }
     ensures bytes { WriteAppends (O.contents output.old) (O.contents output.new) result bytes.now }
 {

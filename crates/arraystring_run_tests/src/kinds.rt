@@ -3,7 +3,6 @@
 use super::devices::FakeReader;
 use super::player::{OUTPUT, SCRIPT};
 use super::table::agree;
-use arraystring_run::buffered::Buffered;
 use arraystring_run::{PlayFault, play};
 use std::alloc::Global;
 use std::io;
@@ -93,21 +92,7 @@ fn reads_of_each_kind(rt: HostRuntime) {
     }
 }
 
-/// A writer of a script's output, before which there is a buffer of `room` bytes.
-fn plays_into(
-    rt: &impl Abort,
-    alloc: Global,
-    room: usize,
-    output: FakeWriter,
-) -> (Result<(), PlayFault>, FakeWriter) {
-    let waiting = Vec::with_capacity(alloc, room).expect(rt, "memory for a buffer");
-    let mut buffered = Buffered { output, waiting };
-    let mut input = SCRIPT.as_bytes();
-    let played = play::<23, &[u8], Buffered<FakeWriter>>(alloc, &mut input, &mut buffered);
-    (played, buffered.output)
-}
-
-/// With each kind of error, the write before each byte of the output fails, with a buffer and without.
+/// With each kind of error, the write before each byte of the output fails.
 #[test]
 fn writes_of_each_kind(rt: HostRuntime) {
     let whole = OUTPUT.as_bytes();
@@ -123,12 +108,6 @@ fn writes_of_each_kind(rt: HostRuntime) {
             let played = play::<23, &[u8], FakeWriter>(rt.alloc(), &mut input, &mut output);
             agree(&rt, "a write", played, outcome);
             agree(&rt, "the output", output.taken.as_slice(), wanted);
-            for room in [0, 1, 8, 20, whole.len()] {
-                let output = FakeWriter::new(rt.alloc(), taken, Some(kind));
-                let (played, output) = plays_into(&rt, rt.alloc(), room, output);
-                agree(&rt, "a buffered write", played, outcome);
-                agree(&rt, "the output", output.taken.as_slice(), wanted);
-            }
         }
     }
 }
@@ -156,30 +135,24 @@ impl Write for Unflushed {
     }
 }
 
-/// A flush that fails is not tried again, whatever the kind: the first and only one decides. So it is
-/// behind a buffer of each size, also if nothing waits in it.
+/// A flush that fails is not tried again, whatever the kind: the first and only one decides.
 #[test]
 fn flushes_of_each_kind(rt: HostRuntime) {
     for kind in KINDS {
-        for room in 0..=OUTPUT.len().saturating_add(1) {
-            let output = Unflushed {
-                taken: Vec::new(rt.alloc()),
-                kind,
-                flushes: 0,
-            };
-            let waiting = Vec::with_capacity(rt.alloc(), room).expect(&rt, "memory");
-            let mut buffered = Buffered { output, waiting };
-            let mut input = SCRIPT.as_bytes();
-            let played = play::<23, &[u8], Buffered<Unflushed>>(
-                rt.alloc(),
-                &mut input,
-                &mut buffered,
-            );
-            agree(&rt, "a flush", played, Err(PlayFault::Write));
-            let taken = buffered.output.taken.as_slice();
-            agree(&rt, "the output", taken, OUTPUT.as_bytes());
-            agree(&rt, "the flushes", buffered.output.flushes, 1);
-            agree(&rt, "what waits", buffered.waiting.len(), 0);
-        }
+        let mut output = Unflushed {
+            taken: Vec::new(rt.alloc()),
+            kind,
+            flushes: 0,
+        };
+        let mut input = SCRIPT.as_bytes();
+        let played = play::<23, &[u8], Unflushed>(rt.alloc(), &mut input, &mut output);
+        agree(&rt, "a flush", played, Err(PlayFault::Write));
+        agree(
+            &rt,
+            "the output",
+            output.taken.as_slice(),
+            OUTPUT.as_bytes(),
+        );
+        agree(&rt, "the flushes", output.flushes, 1);
     }
 }

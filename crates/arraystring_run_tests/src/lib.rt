@@ -7,8 +7,6 @@
 #![tactic(auto)]
 
 #[cfg(test)]
-mod buffered;
-#[cfg(test)]
 mod capacities;
 #[cfg(test)]
 mod devices;
@@ -34,6 +32,8 @@ mod runs;
 mod sizes;
 #[cfg(test)]
 mod table;
+#[cfg(test)]
+mod waiting;
 #[cfg(test)]
 mod words;
 #[cfg(test)]

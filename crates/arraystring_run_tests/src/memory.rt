@@ -6,7 +6,6 @@ use super::player::{EXAMPLE, EXAMPLE_OUTPUT};
 use super::runs::text_of;
 use super::table::agree;
 use arraystring::ArrayString;
-use arraystring_run::program::serve_buffered;
 use arraystring_run::{Command, PlayFault, Reply, play, run, run_both, serve};
 use std::alloc::Global;
 use std::io;
@@ -249,8 +248,8 @@ impl Write for MemoryProbe {
     }
 }
 
-/// Before the first read `play` has taken no memory, and `serve_buffered` has taken its buffer alone,
-/// if there is memory for one. For a word that names no capacity it has taken none when it says so.
+/// Before the first read `play` and `serve` have taken no memory, nor has `serve` when it says that a word
+/// names no capacity.
 #[test]
 fn no_memory_is_taken_before_the_first_read(rt: HostRuntime) -> Result<(), Fail> {
     let alloc = rt.alloc();
@@ -258,31 +257,20 @@ fn no_memory_is_taken_before_the_first_read(rt: HostRuntime) -> Result<(), Fail>
     let Some(mut scarce) = ScarceMemory::take(&rt)? else {
         return Ok(());
     };
-    // how much is left, how much a probe asks for, and whether it is there behind the buffer
-    for (left, size, is_behind) in [
-        (0, 0, 1),
-        (6000, 5000, 1),
-        (20000, 18000, 0),
-        (40000, 30000, 1),
-    ] {
+    // how much is left, and how much a probe asks for
+    for (left, size) in [(0, 0), (6000, 5000), (20000, 18000), (40000, 30000)] {
         scarce.leave(alloc, left)?;
-        let mut input = MemoryProbe::of(alloc, size);
         let mut none = io::sink();
+        let mut input = MemoryProbe::of(alloc, size);
         let _ = play::<23, MemoryProbe, io::Sink>(alloc, &mut input, &mut none);
         agree(&rt, "before a read", (input.calls, input.found), (1, 1));
         let mut input = MemoryProbe::of(alloc, size);
-        let word = Some("small");
-        let _ = serve_buffered(alloc, word, &mut input, io::sink(), &mut errors);
-        agree(
-            &rt,
-            "with a buffer",
-            (input.calls, input.found),
-            (1, is_behind),
-        );
+        let _ = serve(alloc, Some("small"), &mut input, &mut none, &mut errors);
+        agree(&rt, "served", (input.calls, input.found), (1, 1));
         errors.clear();
         let mut input = MemoryProbe::of(alloc, size);
         let mut usage = MemoryProbe::of(alloc, size);
-        let (status, _) = serve_buffered(alloc, Some("none"), &mut input, io::sink(), &mut usage);
+        let status = serve(alloc, Some("none"), &mut input, &mut none, &mut usage);
         agree(&rt, "another word", (status, input.calls), (2, 0));
         agree(&rt, "its line", (usage.calls, usage.found), (1, 1));
     }

@@ -1,7 +1,7 @@
 //! Scripts that are played and served over memory.
 use super::devices::FakeReader;
 use super::table::{agree, printed};
-use arraystring_run::{PlayFault, names_capacity, play, serve};
+use arraystring_run::{PlayFault, play, serve};
 use std::alloc::Global;
 use std::io::ErrorKind;
 use std::process::Abort;
@@ -69,16 +69,6 @@ fn characters_are_printed_in_utf8(rt: HostRuntime) {
     let wanted = b"done\ntext \xF0\x9D\x84\x9E\xEF\xBF\xBD\nchar \xEF\xBF\xBD\n\
         char \xF0\x9D\x84\x9E\ndone\nfinal \xF0\x9D\x84\x9E\n";
     plays(&rt, rt.alloc(), script.as_bytes(), Ok(()), wanted);
-}
-
-#[test]
-fn names_of_capacities(rt: HostRuntime) {
-    for word in ["small", "cache", "max"] {
-        assert!(rt; names_capacity(Some(word)));
-    }
-    for word in [None, Some(""), Some("Small"), Some("small "), Some("big")] {
-        assert!(rt; !names_capacity(word));
-    }
 }
 
 /// More than a thousand lines, 64 KiB, a hundred reads and a thousand bytes of capacity.

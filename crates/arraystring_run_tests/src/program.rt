@@ -1,13 +1,11 @@
-//! Arguments of an environment of the test's own, words that are served, and writers that fail behind
-//! the buffer.
+//! Arguments of an environment of the test's own, words that are served, and writers that fail while a
+//! script is served.
 use arraystring::MaxString;
-use arraystring_run::buffered::Buffered;
-use arraystring_run::program::{BUFFER, given_word, serve_buffered};
+use arraystring_run::program::{given_word, serve};
 use std::alloc::Global;
 use std::env::{Env, FillError};
 use std::fmt::Write as _;
-use std::io;
-use std::io::{ErrorKind, Write as _};
+use std::io::ErrorKind;
 use std::process::Abort;
 use std::test::Fail;
 use test_support::memory::ScarceMemory;
@@ -95,7 +93,7 @@ fn serves(
     let mut input: &[u8] = b"push_str ab\nlen\n";
     let mut output = Vec::new(alloc);
     let mut errors = Vec::new(alloc);
-    let (served, _) = serve_buffered(alloc, word, &mut input, &mut output, &mut errors);
+    let served = serve(alloc, word, &mut input, &mut output, &mut errors);
     assert_eq!(rt; served, status);
     assert_eq!(rt; output.as_slice(), wanted);
     assert_eq!(rt; errors.as_slice(), reported);
@@ -123,14 +121,14 @@ fn words_are_judged_without_memory(rt: HostRuntime) -> Result<(), Fail> {
     let Some(scarce) = ScarceMemory::take(&rt)? else {
         return Ok(());
     };
-    let (big, _) = serve_buffered(
+    let big = serve(
         rt.alloc(),
         Some("big"),
         &mut input,
         &mut output,
         &mut errors,
     );
-    let (max, _) = serve_buffered(
+    let max = serve(
         rt.alloc(),
         Some("max"),
         &mut input,
@@ -145,74 +143,10 @@ fn words_are_judged_without_memory(rt: HostRuntime) -> Result<(), Fail> {
     Ok(())
 }
 
-/// A writer that takes `wants` bytes of memory before it writes, and frees them again. `refused` says whether
-/// it got none.
-#[derive(Drop)]
-struct Wanting {
-    alloc: Global,
-    wants: usize,
-    refused: bool,
-}
-
-impl io::Write for Wanting {
-    fn write(&mut self, buf: &[u8]) -> io::Result<usize> {
-        self.refused = Vec::<u8>::with_capacity(self.alloc, self.wants).is_err();
-        Ok(buf.len())
-    }
-
-    fn flush(&mut self) -> io::Result<()> {
-        Ok(())
-    }
-}
-
-/// While the line of a word is written that names no capacity, all memory is there; while that of a bad
-/// line is, the buffer has some of it.
-#[test]
-fn no_buffer_is_taken_for_another_word(rt: HostRuntime) -> Result<(), Fail> {
-    let alloc = rt.alloc();
-    let Some(mut scarce) = ScarceMemory::take(&rt)? else {
-        return Ok(());
-    };
-    scarce.leave(alloc, 20000)?;
-    let mut none_refused = true;
-    for word in [
-        None,
-        Some(""),
-        Some("big"),
-        Some("smal"),
-        Some("max "),
-        Some("Max"),
-    ] {
-        let (status, is_refused) = wants_while_served(alloc, word);
-        none_refused = none_refused && status == 2 && !is_refused;
-    }
-    let mut all_refused = true;
-    for word in WORDS {
-        let (status, is_refused) = wants_while_served(alloc, Some(word));
-        all_refused = all_refused && status == 2 && is_refused;
-    }
-    drop(scarce);
-    assert!(rt; none_refused);
-    assert!(rt; all_refused);
-    Ok(())
-}
-
-/// Serves a script of a bad line, and returns the status and whether memory was refused to the writer of
-/// errors, which wants 15,000 bytes.
-fn wants_while_served(alloc: Global, word: Option<&str>) -> (u8, bool) {
-    let mut input: &[u8] = b"bad\n";
-    let mut errors = Wanting {
-        alloc,
-        wants: 15000,
-        refused: false,
-    };
-    let (status, _) = serve_buffered(alloc, word, &mut input, io::sink(), &mut errors);
-    (status, errors.refused)
-}
-
 pub(super) const WORDS: [&str; 3] = ["small", "cache", "max"];
 
-/// How many replies the scripts have. The replies of the last are longer than the buffer.
+/// How many replies the scripts have. Those of the last have more than 8,192 bytes, which is as much as waits
+/// at most.
 const COUNTS: [usize; 7] = [0, 1, 5, 6, 7, 100, MANY];
 
 const MANY: usize = 600;
@@ -240,20 +174,20 @@ fn script_of(rt: &(impl Abort + AllocGlobal), count: usize) -> (String, String) 
     (script, wanted)
 }
 
-/// Serves a script with a writer behind the buffer, and compares the status, what the writer took,
-/// and the line on `errors`, which only a failed write has.
+/// Serves a script with a writer, and compares the status, what the writer took, and the line on
+/// `errors`, which only a failed write has.
 fn writes(
     rt: &impl Abort,
     alloc: Global,
     word: &str,
     script: &str,
-    output: FakeWriter,
+    mut output: FakeWriter,
     status: u8,
     wanted: &[u8],
 ) {
     let mut input = script.as_bytes();
     let mut errors = Vec::new(alloc);
-    let (served, output) = serve_buffered(alloc, Some(word), &mut input, output, &mut errors);
+    let served = serve(alloc, Some(word), &mut input, &mut output, &mut errors);
     let reported: &[u8] = if status == 4 { b"write failed\n" } else { b"" };
     assert_eq!(rt; served, status, "the status at {word}");
     assert_eq!(rt; output.taken.as_slice(), wanted, "the output at {word}");
@@ -261,7 +195,7 @@ fn writes(
 }
 
 /// The writer takes little at a time, and is interrupted before each write. Of the longest output it
-/// takes more, since what waits is moved after each write.
+/// takes more.
 #[test]
 fn short_and_interrupted_writes_are_gone_on_with(rt: HostRuntime) {
     for count in COUNTS {
@@ -281,15 +215,6 @@ fn short_and_interrupted_writes_are_gone_on_with(rt: HostRuntime) {
     }
 }
 
-/// The replies of the last script do not fit into the buffer, those of the others do.
-#[test]
-fn only_the_last_script_fills_the_buffer(rt: HostRuntime) {
-    for count in COUNTS {
-        let (_, wanted) = script_of(&rt, count);
-        assert_eq!(rt; wanted.len() > BUFFER, count == MANY);
-    }
-}
-
 /// All is written, but the flush of the writer fails.
 #[test]
 fn a_failed_flush_is_reported(rt: HostRuntime) {
@@ -306,51 +231,8 @@ fn a_failed_flush_is_reported(rt: HostRuntime) {
     }
 }
 
-/// There is no memory for the buffer, and there is for the rest: each write goes through, and a flush
-/// that fails is reported.
-#[test]
-fn a_failed_flush_without_a_buffer_is_reported(rt: HostRuntime) -> Result<(), Fail> {
-    let alloc = rt.alloc();
-    let mut output = FakeWriter::new(alloc, usize::MAX, None);
-    output.taken = Vec::with_capacity(alloc, 1000)?;
-    output.flushes = false;
-    let mut errors = Vec::with_capacity(alloc, 1000)?;
-    let (lines, replies) = ("len\n".repeat(alloc, 2)?, "number 0\n".repeat(alloc, 2)?);
-    let Some(mut scarce) = ScarceMemory::take(&rt)? else {
-        return Ok(());
-    };
-    scarce.leave(alloc, 7000)?;
-    let is_refused = Vec::<u8>::with_capacity(alloc, BUFFER).is_err();
-    let mut served = 0usize;
-    for word in WORDS {
-        for count in 0..=2usize {
-            let mut input = lines.as_bytes().get(..count * 4).unwrap_or(b"none");
-            output.taken.clear();
-            errors.clear();
-            let (status, _) = serve_buffered(
-                alloc,
-                Some(word),
-                &mut input,
-                &mut output,
-                &mut errors,
-            );
-            let wanted = replies.as_bytes().get(..count * 9).unwrap_or(b"none");
-            if status == 4
-                && output.taken.strip_prefix(wanted) == Some(b"final \n".as_slice())
-                && errors.as_slice() == b"write failed\n".as_slice()
-            {
-                served = served.saturating_add(1);
-            }
-        }
-    }
-    drop(scarce);
-    assert!(rt; is_refused);
-    assert_eq!(rt; served, 9);
-    Ok(())
-}
-
 /// Serves a script with a writer that fails after each number of bytes, and after all. Of the two
-/// longest outputs, these are every 17th number and every 601st.
+/// longest outputs, these are every 17th number and every 601st, and those within 40 of 8,192.
 fn fails_after_each(rt: &(impl Abort + AllocGlobal), word: &str, kind: Option<ErrorKind>) {
     let mut served = 0u32;
     for count in COUNTS {
@@ -364,7 +246,8 @@ fn fails_after_each(rt: &(impl Abort + AllocGlobal), word: &str, kind: Option<Er
             1
         };
         for room in 0..=whole.len() {
-            if room % stride != 0 && room < whole.len() {
+            let is_near = room.abs_diff(8192) <= 40;
+            if room % stride != 0 && room < whole.len() && !is_near {
                 continue;
             }
             let output = FakeWriter::new(rt.alloc(), room, kind);
@@ -381,8 +264,8 @@ fn fails_after_each(rt: &(impl Abort + AllocGlobal), word: &str, kind: Option<Er
             served = served.wrapping_add(1);
         }
     }
-    // The outputs have 7, 35, 69, 80, 92, 1,739 and 10,529 bytes.
-    assert_eq!(rt; served, 8 + 36 + 70 + 81 + 93 + 104 + 19);
+    // The outputs have 7, 35, 69, 80, 92, 1,739 and 10,529 bytes. Of the 81 numbers near 8,192 none is a multiple of 601.
+    assert_eq!(rt; served, 8 + 36 + 70 + 81 + 93 + 104 + 19 + 81);
 }
 
 /// What the writer took before it failed is all that it had room for.
@@ -399,26 +282,4 @@ fn a_write_of_nothing_is_reported(rt: HostRuntime) {
     for word in WORDS {
         fails_after_each(&rt, word, None);
     }
-}
-
-/// What a failed write leaves waits, and the next flush writes it.
-#[test]
-fn what_is_not_written_waits(rt: HostRuntime) -> Result<(), Fail> {
-    let (_, wanted) = script_of(&rt, 100);
-    let whole = wanted.as_bytes();
-    for room in 0..whole.len() {
-        for kind in [Some(ErrorKind::Other), None] {
-            let waiting = Vec::with_capacity(rt.alloc(), BUFFER)?;
-            let output = FakeWriter::new(rt.alloc(), room, kind);
-            let mut buffered = Buffered { output, waiting };
-            buffered.write_all(whole)?;
-            assert_eq!(rt; buffered.output.taken.len(), 0);
-            assert!(rt; buffered.flush().is_err());
-            assert_eq!(rt; buffered.output.taken.as_slice(), &whole[..room]);
-            buffered.flush()?;
-            assert_eq!(rt; buffered.output.taken.as_slice(), whole);
-            assert_eq!(rt; buffered.waiting.len(), 0);
-        }
-    }
-    Ok(())
 }

@@ -11,7 +11,7 @@ use super::runs::text_of;
 use super::table::agree;
 use arraystring::error::Error;
 use arraystring_run::{
-    Command, Outcome, PlayFault, Reply, command, laws, names_capacity, play, run, run_both, serve,
+    Command, Outcome, PlayFault, Reply, command, laws, play, run, run_both, serve,
 };
 use std::fmt::Debug;
 
@@ -101,12 +101,7 @@ fn each_path_is_there(rt: HostRuntime) {
         &mut output,
         &mut errors,
     );
-    agree(
-        &rt,
-        "a word",
-        (status, names_capacity(Some("max"))),
-        (0, true),
-    );
+    agree(&rt, "a word", status, 0);
 }
 
 /// Each law is called by its path; it does nothing.

@@ -3,8 +3,8 @@
 use super::program::{Arguments, USAGE, WORDS};
 use super::table::agree;
 use arraystring::MaxString;
-use arraystring_run::program::{given_word, serve_buffered};
-use arraystring_run::{names_capacity, serve};
+use arraystring_run::program::given_word;
+use arraystring_run::serve;
 use std::process::Abort;
 
 /// What may stand before a word or behind it: white space, signs, quotes, zero, other letters, and
@@ -24,20 +24,13 @@ fn is_refused(rt: &(impl Abort + AllocGlobal), word: &str) {
 
 /// The word names no capacity, and nothing is read or written for it.
 fn names_none(rt: &(impl Abort + AllocGlobal), case: &str, word: Option<&str>) {
-    agree(rt, case, names_capacity(word), false);
     let script: &[u8] = b"len\n";
-    for buffer in [false, true] {
-        let mut input = script;
-        let mut output = Vec::new(rt.alloc());
-        let mut errors = Vec::new(rt.alloc());
-        let status = if buffer {
-            serve_buffered(rt.alloc(), word, &mut input, &mut output, &mut errors).0
-        } else {
-            serve(rt.alloc(), word, &mut input, &mut output, &mut errors)
-        };
-        agree(rt, case, (status, input.len(), output.len()), (2, 4, 0));
-        agree(rt, case, errors.as_slice(), USAGE);
-    }
+    let mut input = script;
+    let mut output = Vec::new(rt.alloc());
+    let mut errors = Vec::new(rt.alloc());
+    let status = serve(rt.alloc(), word, &mut input, &mut output, &mut errors);
+    agree(rt, case, (status, input.len(), output.len()), (2, 4, 0));
+    agree(rt, case, errors.as_slice(), USAGE);
 }
 
 /// Puts each of `MORE` before each word, after it, on both sides and inside, and puts two words together. Each

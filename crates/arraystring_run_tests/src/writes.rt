@@ -1,10 +1,12 @@
-//! How many writes a script takes: one for each block of the buffer's size, and one for the rest; and one
-//! flush.
+//! How many writes a script takes: one for each 8,192 bytes, and one for the rest; and one flush.
 use super::program::WORDS;
 use super::table::agree;
-use arraystring_run::program::{BUFFER, serve_buffered};
+use arraystring_run::serve;
 use std::io;
 use std::process::Abort;
+
+/// How many bytes wait before they are written together.
+const BLOCK: usize = 8192;
 
 /// Takes all, and counts the writes, the bytes that they take, and the flushes.
 #[derive(Drop)]
@@ -31,15 +33,15 @@ impl io::Write for CountingWriter {
 fn takes_few_writes(rt: &(impl Abort + AllocGlobal), word: &str, script: &str, bytes: usize) {
     let mut input = script.as_bytes();
     let mut errors = Vec::new(rt.alloc());
-    let output = CountingWriter {
+    let mut output = CountingWriter {
         writes: 0,
         bytes: 0,
         flushes: 0,
     };
-    let (status, output) = serve_buffered(rt.alloc(), Some(word), &mut input, output, &mut errors);
+    let status = serve(rt.alloc(), Some(word), &mut input, &mut output, &mut errors);
     agree(rt, word, (status, output.bytes), (0, bytes));
     agree(rt, word, output.flushes, 1);
-    let (writes, most) = (output.writes, bytes / BUFFER + 1);
+    let (writes, most) = (output.writes, bytes / BLOCK + 1);
     assert!(rt; writes <= most, "{word}: {writes} writes of {bytes} bytes");
 }
 
@@ -47,19 +49,19 @@ fn takes_few_writes(rt: &(impl Abort + AllocGlobal), word: &str, script: &str, b
 #[test]
 fn a_script_of_5000_lines_takes_six_writes(rt: HostRuntime) {
     let script = "len\n".repeat(rt.alloc(), 5000).expect(&rt, "memory");
-    agree(&rt, "the most", 45007 / BUFFER + 1, 6);
+    agree(&rt, "the most", 45007 / BLOCK + 1, 6);
     for word in WORDS {
         takes_few_writes(&rt, word, &script, 45007);
     }
 }
 
-/// Each number of bytes from ten before a multiple of the buffer's size to ten behind it. Of letters that
+/// Each number of bytes from ten before a multiple of 8,192 to ten behind it. Of letters that
 /// are pushed, fewer than ten, `done`, a line `number` of nine bytes for each `len`, and `final` are printed.
 #[test]
 fn outputs_of_each_size_take_few_writes(rt: HostRuntime) {
     for blocks in 1..=4usize {
         for more in 0..=20usize {
-            let bytes = (blocks * BUFFER + more).saturating_sub(10);
+            let bytes = (blocks * BLOCK + more).saturating_sub(10);
             let printed = bytes.saturating_sub("done\nfinal \n".len());
             let letters = "abcdefgh".get(..printed % 9).unwrap_or("none");
             let lines = "len\n"

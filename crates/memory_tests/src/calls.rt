@@ -1,7 +1,6 @@
 //! The calls, and a line or more of what came back of each.
 use crate::device::{SlowReader, TextWriter};
 use arraystring::{ArrayString, MaxString};
-use arraystring_run::program::serve_buffered;
 use arraystring_run::{Command, play, run, run_both, serve};
 use bounded_records::{Directory, User};
 use serde_json::Value;
@@ -24,7 +23,6 @@ pub fn make(rt: &(impl Print + AllocGlobal), name: &str) -> io::Result<()> {
         "insert" => make_directory(rt),
         "play" => make_play(rt),
         "serve" => make_serve(rt),
-        "serve_buffered" => make_serve_buffered(rt),
         _ => Err(ErrorKind::InvalidInput.into()),
     }
 }
@@ -125,30 +123,11 @@ fn make_serve(rt: &(impl Print + AllocGlobal)) -> io::Result<()> {
         &mut output,
         &mut errors,
     );
-    print!(rt; "serve: {status}, the output is {:?}", output.text.as_str())?;
-    println!(rt; ", the errors are {:?}", errors.text.as_str())
-}
-
-fn make_serve_buffered(rt: &(impl Print + AllocGlobal)) -> io::Result<()> {
-    let mut input = SlowReader {
-        bytes: SCRIPT.as_bytes(),
-    };
-    let mut errors = TextWriter::new();
-    let (status, output) = serve_buffered(
-        rt.alloc(),
-        Some("small"),
-        &mut input,
-        TextWriter::new(),
-        &mut errors,
-    );
     let writes = match output.writes {
         0 => "no write",
         1 => "one write",
         _ => "several writes",
     };
-    print!(rt;
-        "serve_buffered: {status}, the output is {:?}",
-        output.text.as_str()
-    )?;
+    print!(rt; "serve: {status}, the output is {:?}", output.text.as_str())?;
     println!(rt; " in {writes}, the errors are {:?}", errors.text.as_str())
 }

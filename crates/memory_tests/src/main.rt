@@ -11,7 +11,7 @@ use std::io;
 
 /// The names of the calls. Each allocates, or may. A call whose name ends in `_nothing` runs no commands, or
 /// makes a value of an empty text.
-const CALLS: [&str; 10] = [
+const CALLS: [&str; 9] = [
     "run",
     "run_nothing",
     "run_both",
@@ -21,7 +21,6 @@ const CALLS: [&str; 10] = [
     "insert",
     "play",
     "serve",
-    "serve_buffered",
 ];
 
 fn main(rt: HostRuntime) -> io::Result<()> {

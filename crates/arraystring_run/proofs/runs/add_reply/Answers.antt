@@ -6,8 +6,8 @@ use Rattle.arraystring_run.proofs.runs.add_reply.Goals as goal
 pub returns-clause-reply : goal.returns-clause-reply
 returns-clause-reply g c =
     let done = c.args.replies.now.items in
-    ap (map view_of) c.push_reserved.ensures.items ∙ map-append view_of done (c.execute-reply.result.0 ∷ [])
-    ∙ ap (λ r. map view_of done ++ r ∷ []) c.execute-reply.ensures.reply
+    ap (map view_of) c.push_reserved.ensures.items ∙ map-append view_of done (c.execute.result ∷ [])
+    ∙ ap (λ r. map view_of done ++ r ∷ []) c.execute.ensures.reply
 
 pub returns-clause-one_more : goal.returns-clause-one_more
 returns-clause-one_more g c = c.push_reserved.ensures.len

@@ -1,0 +1,103 @@
+//! Bytes that wait in an array until they are written.
+ghost use Rattle.std.specs.Prelude.{◌≡◌, ◌+◌, ◌<◌, ◌≤◌, ◌++◌, [], OnOk, length};
+ghost use Rattle.std.specs.Io.KnownBytes.{Appends};
+ghost use Rattle.arraystring_run.specs.Writing.{AppendsPrefix, IsPassed};
+
+use crate::writing::write_bytes;
+use std::io;
+use std::io::Write;
+use std::marker::Model;
+
+/// How many bytes can wait.
+const BUFFER: usize = 8192;
+
+/// Bytes that wait to be written. In contracts they are the list of these bytes.
+#[derive(Drop)]
+pub(crate) struct Waiting {
+    /// The first `count` bytes wait.
+    bytes: [u8; BUFFER],
+    /// At most `BUFFER`.
+    count: usize,
+}
+
+impl Model for Waiting {
+    ghost use Rattle.std.specs.Prelude.{ℕ, ◌≤◌, List, take};
+
+    ghost Value = { List ℕ };
+
+    ghost view = { λ w. take w.count w.bytes };
+
+    ghost invariant = { λ w. w.count ≤ 8192 };
+}
+
+impl Waiting {
+    /// Returns room for bytes, of which none wait.
+    #[inline(always)]
+    pub(crate) fn new() -> Self
+        ensures { result ≡ [] }
+    {
+        Waiting {
+            bytes: [0; BUFFER],
+            count: 0,
+        }
+    }
+
+    /// Lets a text wait. Only if there is not enough room, what waits is written first, in a whole block.
+    #[inline(always)]
+    pub(crate) fn put<O: Write>(&mut self, output: &mut O, text: &str) -> io::Result<()>
+        ensures whole { OnOk result (IsPassed (O.contents output.old) (O.contents output.new) self.old self.new text.now) }
+        ensures part { AppendsPrefix (O.contents output.old) (O.contents output.new) (self.old ++ text.now) }
+        ensures unsent { length self.old + length text.now ≤ 8192 → output.new ≡ output.old }
+        ensures block { OnOk result (8192 < length self.old + length text.now
+            → length self.new + 8192 ≤ length self.old + length text.now) }
+    {
+        let bytes = text.as_bytes();
+        if bytes.len() > BUFFER - self.count {
+            return self.put_more(output, bytes);
+        }
+        self.add(bytes);
+        Ok(())
+    }
+
+    /// Fills the array with the front of bytes for which there is not enough room, writes it, and lets the
+    /// rest wait.
+    #[cold]
+    #[inline(never)]
+    fn put_more<O: Write>(&mut self, output: &mut O, bytes: &[u8]) -> io::Result<()>
+        requires { 8192 < length self.old + length bytes.now }
+        ensures whole { OnOk result (IsPassed (O.contents output.old) (O.contents output.new) self.old self.new bytes.now) }
+        ensures part { AppendsPrefix (O.contents output.old) (O.contents output.new) (self.old ++ bytes.now) }
+        ensures block { OnOk result (length self.new + 8192 ≤ length self.old + length bytes.now) }
+    {
+        let (first, rest) = bytes.split_at(BUFFER - self.count);
+        self.add(first);
+        self.send(output)?;
+        if rest.len() > BUFFER {
+            return write_bytes(output, rest);
+        }
+        self.add(rest);
+        Ok(())
+    }
+
+    /// Writes all that waits. If a write fails, a prefix of it was written.
+    pub(crate) fn send<O: Write>(&mut self, output: &mut O) -> io::Result<()>
+        ensures sent { OnOk result (self.new ≡ []) }
+        ensures whole { OnOk result (Appends (O.contents output.old) (O.contents output.new) self.old) }
+        ensures part { AppendsPrefix (O.contents output.old) (O.contents output.new) self.old }
+    {
+        write_bytes(output, &self.bytes[..self.count])?;
+        self.count = 0;
+        Ok(())
+    }
+
+    /// Adds bytes for which there is room.
+    #[inline(always)]
+    fn add(&mut self, bytes: &[u8])
+        requires { length self.old + length bytes.now ≤ 8192 }
+        ensures { self.new ≡ self.old ++ bytes.now }
+    {
+        let end = self.count + bytes.len();
+        self.bytes[self.count..end].copy_from_slice(bytes);
+        self.count = end;
+    }
+}
