@@ -7,9 +7,13 @@ The crates are arraystring_cli, the program with scripts of each kind of reply a
 makes one call of a library and prints what came back. `rt try --fail-alloc N` refuses the Nth allocation of a run and no
 other; it builds for each N, and then runs all cases of a crate. It proves nothing.
 
-It says "allocations: at least 0" of any run, so how many growths a call has is known only from where refusals end. So N goes from
-1 to one past the most growths of any case. A call with a growth less than is written down here is not refused at its last N,
-and one with a growth more is refused past it. With each case stand its growths, in order, and why they are so many.
+It says "allocations: at least 0" of any run, so how many growths a call has is known only from where refusals end. So each case has
+its first growth refused, its second, and so on to one past the most of any case. A call with a growth less than is written down here
+is not refused at its last, and one with a growth more is refused past it. With each case stand its growths, in order, and why they
+are so many.
+
+The program takes a build for each number. memory_tests takes one for all: it makes an allocation for each `+` behind its word, before
+the call, so that the one that is refused is any growth of the call.
 """
 import re
 import subprocess
@@ -133,21 +137,24 @@ def answers(output, errors):
         yield name, Answer(int(status[1]) if status else how, outputs.get(name), re.sub(r"^allocations: .*\n", "", said))
 
 
-def differing(folder, cases, number):
-    """What differs if the allocation of this number is refused in each case of the crate in a folder."""
+def differing(folder, tries):
+    """What differs in one build of the crate in a folder, in which each case of the tries has its growth of a number refused."""
+    last = max(number for _, number in tries)
     with tempfile.TemporaryDirectory(prefix="arraystring-") as room:
-        for case in cases:
-            Path(room, case.name).write_text(case.script, encoding="utf-8")
-            Path(room, f"{case.name}.args").write_text("".join(f"{it}\n" for it in case.words), encoding="utf-8")
-        run = subprocess.run(["rt", "try", "--cases", room, "--fail-alloc", str(number)], cwd=folder, stdin=subprocess.DEVNULL,
+        for case, number in tries:
+            words = [f"{it}{'+' * (last - number)}\n" for it in case.words]
+            Path(room, f"{case.name}_at_{number}").write_text(case.script, encoding="utf-8")
+            Path(room, f"{case.name}_at_{number}.args").write_text("".join(words), encoding="utf-8")
+        run = subprocess.run(["rt", "try", "--cases", room, "--fail-alloc", str(last)], cwd=folder, stdin=subprocess.DEVNULL,
                              stdout=subprocess.PIPE, stderr=subprocess.PIPE, encoding="utf-8", errors="replace")
     told = dict(answers(run.stdout, run.stderr))
     if run.returncode or not told:
-        last = (run.stderr.splitlines() or ["it says nothing"])[-1]
-        yield f"{folder.name} at {number}: rt try ends with {run.returncode}: {last}"
-    for case in cases if told else []:
-        if told.get(case.name) != case.due(number):
-            yield f"{folder.name} {case.name} at {number}: {told.get(case.name)}, where due is {case.due(number)}"
+        said = (run.stderr.splitlines() or ["it says nothing"])[-1]
+        yield f"{folder.name} at {last}: rt try ends with {run.returncode}: {said}"
+    for case, number in tries if told else []:
+        answer = told.get(f"{case.name}_at_{number}")
+        if answer != case.due(number):
+            yield f"{folder.name} {case.name} at {number}: {answer}, where due is {case.due(number)}"
 
 
 def show(crate, cases):
@@ -168,7 +175,8 @@ def main(arguments, root):
     for crate, cases in tried.items():
         show(crate, cases)
         beyond = max(len(it.growths) for it in cases) + 1
-        runs += [(root / "crates" / crate, cases, number) for number in range(1, beyond + 1)]
+        tries = [[(case, number) for case in cases] for number in range(1, beyond + 1)]
+        runs += [(root / "crates" / crate, it) for it in ([sum(tries, [])] if crate == "memory_tests" else tries)]
     with ThreadPoolExecutor(JOBS) as pool:
         faults = [fault for told in pool.map(lambda it: list(differing(*it)), runs) for fault in told]
     print("".join(f"{it}\n" for it in faults), end="")

@@ -1,6 +1,7 @@
 //! Makes the call that its only argument names, and prints what came back and what is there then; with no
-//! argument, each call in turn. `tools/run refused` runs it with each allocation refused. So nothing but
-//! the call may take memory. It is no product.
+//! argument, each call in turn. `tools/run refused` runs it with one allocation refused. So nothing but the
+//! call may take memory, and as many allocations as the argument has signs `+` behind the name come before
+//! it: in `play++` the third allocation is the first one of `play`. It is no product.
 #![tactic(auto)]
 
 mod calls;
@@ -24,8 +25,12 @@ const CALLS: [&str; 9] = [
 ];
 
 fn main(rt: HostRuntime) -> io::Result<()> {
-    if let Some(name) = given_word(&rt) {
-        return calls::make(&rt, name.as_str());
+    if let Some(word) = given_word(&rt) {
+        let name = word.as_str().trim_end_matches('+');
+        for _ in name.len()..word.len() as usize {
+            let _ = Vec::<u8>::with_capacity(rt.alloc(), 1);
+        }
+        return calls::make(&rt, name);
     }
     for name in CALLS {
         calls::make(&rt, name)?;

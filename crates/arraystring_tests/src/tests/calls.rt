@@ -31,22 +31,31 @@ use test_support::table::{column, rows};
 pub(crate) fn check_table(rt: &(impl Abort + AllocGlobal), table: &str) {
     for block in table.split('#') {
         let (heading, rows) = block.split_once('\n').unwrap_or_default();
-        match column(heading, 0).parse().unwrap_or(u16::MAX) {
-            0 => check_rows::<0>(rt, rows),
-            1 => check_rows::<1>(rt, rows),
-            3 => check_rows::<3>(rt, rows),
-            4 => check_rows::<4>(rt, rows),
-            5 => check_rows::<5>(rt, rows),
-            8 => check_rows::<8>(rt, rows),
-            9 => check_rows::<9>(rt, rows),
-            10 => check_rows::<10>(rt, rows),
-            23 => check_rows::<23>(rt, rows),
-            32 => check_rows::<32>(rt, rows),
-            255 => check_rows::<255>(rt, rows),
-            300 => check_rows::<300>(rt, rows),
-            _ => agree(rt, "rows of no such capacity", block.trim(), ""),
+        let capacity = column(heading, 0).parse().unwrap_or(u16::MAX);
+        if !check_block(rt, capacity, rows) {
+            agree(rt, "rows of no such capacity", block.trim(), "");
         }
     }
+}
+
+/// Makes the calls of a block. If no string here has its capacity, the function returns `false`.
+fn check_block(rt: &(impl Abort + AllocGlobal), capacity: u16, rows: &str) -> bool {
+    match capacity {
+        0 => check_rows::<0>(rt, rows),
+        1 => check_rows::<1>(rt, rows),
+        3 => check_rows::<3>(rt, rows),
+        4 => check_rows::<4>(rt, rows),
+        5 => check_rows::<5>(rt, rows),
+        8 => check_rows::<8>(rt, rows),
+        9 => check_rows::<9>(rt, rows),
+        10 => check_rows::<10>(rt, rows),
+        23 => check_rows::<23>(rt, rows),
+        32 => check_rows::<32>(rt, rows),
+        255 => check_rows::<255>(rt, rows),
+        300 => check_rows::<300>(rt, rows),
+        _ => return false,
+    }
+    true
 }
 
 /// Makes the calls of a table on strings of one capacity, the first on a default string if its row

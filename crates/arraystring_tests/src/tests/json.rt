@@ -23,6 +23,26 @@ fn prefix(text: &str, most: usize) -> &str {
     text
 }
 
+/// 350 bytes of letters, and 350 of characters of each width.
+fn long_texts(rt: &(impl Abort + AllocGlobal)) -> (String, String) {
+    let letters = "abcdefg".repeat(rt.alloc(), 50);
+    let wide = "aé€🤔".repeat(rt.alloc(), 35);
+    (
+        letters.expect(rt, "memory for the letters"),
+        wide.expect(rt, "memory for the others"),
+    )
+}
+
+/// A JSON text.
+fn json_text(rt: &(impl Abort + AllocGlobal), text: &str) -> Value {
+    Value::String(String::from_str(rt.alloc(), text).expect(rt, "memory for the text"))
+}
+
+/// The value of a JSON text.
+fn parsed(rt: &(impl Abort + AllocGlobal), json: &str) -> Value {
+    Value::from_str(rt.alloc(), json).expect(rt, "a value of the JSON text")
+}
+
 /// Asserts that the string that is read from the JSON text `given` has the text `wanted`, is written as a JSON
 /// text of `wanted`, and is read back from that.
 fn kept<S: Json>(rt: &(impl Abort + AllocGlobal), given: &Value, wanted: &str) {
@@ -39,15 +59,14 @@ fn kept<S: Json>(rt: &(impl Abort + AllocGlobal), given: &Value, wanted: &str) {
 
 /// Texts of each size up to 300 bytes, of letters and of characters of each width.
 #[test]
-fn texts_of_each_size_are_read_back(rt: HostRuntime) -> Result<(), Fail> {
-    let letters = "abcdefg".repeat(rt.alloc(), 50)?;
-    let wide = "aé€🤔".repeat(rt.alloc(), 35)?;
+fn texts_of_each_size_are_read_back(rt: HostRuntime) {
+    let (letters, wide) = long_texts(&rt);
     let mut count = 0u32;
     for text in [letters.as_str(), wide.as_str()] {
         for start in 0..10usize {
             for size in 0..301usize {
                 if let Some(text) = text.get(start..start + size) {
-                    let given = Value::String(String::from_str(rt.alloc(), text)?);
+                    let given = json_text(&rt, text);
                     kept::<ArrayString<8>>(&rt, &given, prefix(text, 8));
                     kept::<ArrayString<63>>(&rt, &given, prefix(text, 63));
                     kept::<ArrayString<255>>(&rt, &given, prefix(text, 255));
@@ -59,42 +78,40 @@ fn texts_of_each_size_are_read_back(rt: HostRuntime) -> Result<(), Fail> {
     }
     // Of the letters all, of the others those that begin and end at one of the four boundaries in ten.
     agree(&rt, "texts", count, 10 * 301 + 4 * 121);
-    Ok(())
 }
 
 #[test]
-fn a_text_is_cut_to_63_bytes(rt: HostRuntime) -> Result<(), Fail> {
+fn a_text_is_cut_to_63_bytes(rt: HostRuntime) {
     let json = "\"abcdefghijabcdefghijabcdefghijabcdefghijabcdefghijabcdefghijabcdefghij\"";
-    let value = Value::from_str(rt.alloc(), json)?;
+    let value = parsed(&rt, json);
     let cut = "abcdefghijabcdefghijabcdefghijabcdefghijabcdefghijabcdefghijabc";
-    let string = ArrayString::<63>::from_value(&value)?;
+    let string = ArrayString::<63>::from_value(&value).expect(&rt, "a string of a text");
     agree(&rt, "the text", string.as_str(), cut);
-    let cached = CacheString::from_value(&value)?;
+    let cached = CacheString::from_value(&value).expect(&rt, "a string of a text");
     agree(&rt, "the cached text", cached.0, string);
-    Ok(())
 }
 
 #[test]
-fn escapes_are_characters(rt: HostRuntime) -> Result<(), Fail> {
-    let value = Value::from_str(rt.alloc(), "\"a\\u00e9\\n\"")?;
-    let string = ArrayString::<8>::from_value(&value)?;
+fn escapes_are_characters(rt: HostRuntime) {
+    let value = parsed(&rt, "\"a\\u00e9\\n\"");
+    let string = ArrayString::<8>::from_value(&value).expect(&rt, "a string of a text");
     agree(&rt, "a, é and the end of a line", string.as_str(), "aé\n");
-    Ok(())
+}
+
+/// Asserts that a value is no text.
+fn is_no_text<S: Json>(rt: &impl Abort, json: &str, value: &Value) {
+    agree(rt, json, S::read(value).err(), Some(NotText));
 }
 
 #[test]
-fn other_values_are_not_texts(rt: HostRuntime) -> Result<(), Fail> {
+fn other_values_are_not_texts(rt: HostRuntime) {
     for json in "null true false 7 -7 0.5 1e300 [] [\"a\"] {}".split(' ') {
-        let value = Value::from_str(rt.alloc(), json)?;
-        let string = ArrayString::<8>::from_value(&value);
-        agree(&rt, json, string, Err(NotText));
-        let string = ArrayString::<23>::from_value(&value);
-        agree(&rt, json, string, Err(NotText));
-        let string = ArrayString::<63>::from_value(&value);
-        agree(&rt, json, string, Err(NotText));
-        agree(&rt, json, CacheString::from_value(&value), Err(NotText));
+        let value = parsed(&rt, json);
+        is_no_text::<ArrayString<8>>(&rt, json, &value);
+        is_no_text::<ArrayString<23>>(&rt, json, &value);
+        is_no_text::<ArrayString<63>>(&rt, json, &value);
+        is_no_text::<CacheString>(&rt, json, &value);
     }
-    Ok(())
 }
 
 /// Asserts that a JSON text is read whole at this capacity, and is then written as it, or is
@@ -136,15 +153,14 @@ fn cached_or_refused(rt: &(impl Abort + AllocGlobal), given: &Value, text: &str)
 
 /// Texts of each size up to 300 bytes, of letters and of characters of each width.
 #[test]
-fn texts_of_each_size_are_whole_or_refused(rt: HostRuntime) -> Result<(), Fail> {
-    let letters = "abcdefg".repeat(rt.alloc(), 50)?;
-    let wide = "aé€🤔".repeat(rt.alloc(), 35)?;
+fn texts_of_each_size_are_whole_or_refused(rt: HostRuntime) {
+    let (letters, wide) = long_texts(&rt);
     let mut count = 0u32;
     for text in [letters.as_str(), wide.as_str()] {
         for start in 0..10usize {
             for size in 0..301usize {
                 if let Some(text) = text.get(start..start + size) {
-                    let given = Value::String(String::from_str(rt.alloc(), text)?);
+                    let given = json_text(&rt, text);
                     whole_or_refused::<0>(&rt, &given, text, 0);
                     whole_or_refused::<8>(&rt, &given, text, 8);
                     whole_or_refused::<255>(&rt, &given, text, 255);
@@ -157,47 +173,48 @@ fn texts_of_each_size_are_whole_or_refused(rt: HostRuntime) -> Result<(), Fail> 
     }
     // Of the letters all, of the others those that begin and end at one of the four boundaries in ten.
     agree(&rt, "texts", count, 10 * 301 + 4 * 121);
-    Ok(())
 }
 
 /// Each character below U+0100 at each index of a text, of which JSON writes some as escapes: NUL, a quote,
 /// a backslash, the end of a line, DEL.
 #[test]
-fn each_character_is_kept(rt: HostRuntime) -> Result<(), Fail> {
+fn each_character_is_kept(rt: HostRuntime) {
     for ch in '\0'..='\u{FF}' {
         for index in 0..7usize {
             let mut text = ArrayString::<8>::from("aaaaaa");
-            text.try_insert(index as u8, ch)?;
-            let text = text.as_str();
-            let given = Value::String(String::from_str(rt.alloc(), text)?);
-            let parsed = Value::from_str(rt.alloc(), given.to_string(rt.alloc())?.as_str())?;
-            agree(&rt, text, parsed.as_str(), Some(text));
-            whole_or_refused::<7>(&rt, &parsed, text, 7);
-            whole_or_refused::<300>(&rt, &parsed, text, 255);
-            cached_or_refused(&rt, &parsed, text);
+            agree(&rt, "a character", text.try_insert(index as u8, ch), Ok(()));
+            is_kept(&rt, text.as_str());
         }
     }
-    Ok(())
+}
+
+/// Asserts that a text is kept when it is written as JSON and read.
+fn is_kept(rt: &(impl Abort + AllocGlobal), text: &str) {
+    let written = json_text(rt, text).to_string(rt.alloc());
+    let written = written.expect(rt, "memory for what is written");
+    let value = parsed(rt, written.as_str());
+    agree(rt, text, value.as_str(), Some(text));
+    whole_or_refused::<7>(rt, &value, text, 7);
+    whole_or_refused::<300>(rt, &value, text, 255);
+    cached_or_refused(rt, &value, text);
 }
 
 #[test]
-fn escapes_take_the_room_of_their_characters(rt: HostRuntime) -> Result<(), Fail> {
-    let value = Value::from_str(rt.alloc(), "\"a\\u00e9\\n\\ud83e\\udd14\"")?;
+fn escapes_take_the_room_of_their_characters(rt: HostRuntime) {
+    let value = parsed(&rt, "\"a\\u00e9\\n\\ud83e\\udd14\"");
     whole_or_refused::<8>(&rt, &value, "aé\n🤔", 8);
     whole_or_refused::<7>(&rt, &value, "aé\n🤔", 7);
-    Ok(())
 }
 
 #[test]
-fn what_is_no_text_has_its_own_refusal(rt: HostRuntime) -> Result<(), Fail> {
+fn what_is_no_text_has_its_own_refusal(rt: HostRuntime) {
     for json in "null true false 7 -7 0.5 1e300 [] [\"a\"] {} {\"a\":\"a\"}".split(' ') {
-        let value = Value::from_str(rt.alloc(), json)?;
+        let value = parsed(&rt, json);
         let string = ArrayString::<63>::try_from_value(&value);
         agree(&rt, json, string, Err(ValueError::NotText));
         let cached = CacheString::try_from_value(&value);
         agree(&rt, json, cached, Err(ValueError::NotText));
     }
-    Ok(())
 }
 
 /// A string that becomes a JSON value.

@@ -59,12 +59,12 @@ pub(crate) fn returned<T: Debug + Drop>(rt: &(impl Abort + AllocGlobal), row: &s
 
 /// What was made as it is written in a table: the text itself, a refusal by its name.
 pub(crate) fn text_or_error<const N: usize>(made: &Result<ArrayString<N>, Error>) -> MaxString {
-    match made {
-        Ok(made) => string(made.as_str()),
-        Err(Error::Utf8) => string("Utf8"),
-        Err(Error::Utf16) => string("Utf16"),
-        Err(Error::OutOfBounds) => string("OutOfBounds"),
-    }
+    string(match made {
+        Ok(made) => made.as_str(),
+        Err(Error::Utf8) => "Utf8",
+        Err(Error::Utf16) => "Utf16",
+        Err(Error::OutOfBounds) => "OutOfBounds",
+    })
 }
 
 /// The hash of a value.
