@@ -1,4 +1,4 @@
-//! Prints the tables of docs/speed.md: see README.md.
+//! Prints the tables of rust/SPEED.md and docs/speed.md: see README.md.
 
 use std::env;
 use std::process::ExitCode;

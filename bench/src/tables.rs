@@ -32,13 +32,8 @@ fn head(title: &str, columns: impl Iterator<Item = String>) {
 
 /// A column for each side at each capacity.
 fn columns() -> impl Iterator<Item = String> {
-    CAPACITIES.into_iter().flat_map(|capacity| {
-        let name = move |(place, side): (usize, &Side)| match place {
-            0 => format!("{capacity} {}", side.name()),
-            _ => side.name().to_string(),
-        };
-        SIDES.iter().enumerate().map(name)
-    })
+    let of = |capacity| SIDES.iter().map(move |side| format!("{capacity} {}", side.name()));
+    CAPACITIES.into_iter().flat_map(of)
 }
 
 /// A table of a row for each title, with the counts of each side at each capacity.

@@ -1,4 +1,4 @@
-//! The program that both pages begin with. A comment says what a line prints.
+//! The program that README.md begins with. A comment says what a line prints.
 
 use arraystring::{ArrayString, OutOfBounds};
 

@@ -160,17 +160,11 @@ fn each_contract_is_folded_and_says_how_to_read_it() {
 
 /// Pages beside those of the crate, where the repository is around it.
 fn pages_of_the_repository() -> Vec<(String, String)> {
-    let pages = ["../../README.md", "../arraystring_serde/README.md"].map(Path::new).into_iter();
+    let pages = ["../../README.md", "../CONTRIBUTING.md", "../DECISIONS.md", "../SPEED.md"].map(Path::new).into_iter();
     let read = |page: &Path| (page.display().to_string(), fs::read_to_string(page).expect("a text"));
-    let mut found: Vec<_> = pages.filter(|page| page.exists()).map(read).collect();
-    found.extend(
-        ["../../docs", "../arraystring_serde/examples"]
-            .map(Path::new)
-            .into_iter()
-            .filter(|it| it.exists())
-            .flat_map(files),
-    );
-    found
+    let found = pages.filter(|page| page.exists()).map(read);
+    let folders = ["../../docs", "../with_serde/examples"].map(Path::new).into_iter().filter(|it| it.exists());
+    found.chain(folders.flat_map(files)).collect()
 }
 
 /// Whether a line casts to a number. What is copied from there would make 0 of 256.
