@@ -4,8 +4,9 @@ tools/run controls [CRATE..]             those of these crates, or of all
 tools/run controls CRATE --edits NAME    of the function NAME alone, and its wrong bodies, with what refuses each
 
 It is run when a control is written, and before a release; docs/review.md has the day of the last whole run. A wrong body is the
-file crates/CRATE/must-fail/NAME.edit: lines `file: PATH`, `old: TEXT` and `new: TEXT`, each on what the ones before made. Its control
-has the text of the line `# right: TEXT` behind a `new:` in the place of that, or the same text where there is none.
+file NAME.edit in must-fail/ or more-wrong-bodies/ of its crate: lines `file: PATH`, `old: TEXT` and `new: TEXT`, each on what the ones
+before made. Its control has the text of the line `# right: TEXT` behind a `new:` in the place of that, or the same text where there is
+none.
 
 Each is checked in a copy of the repository among the temporary files, with what earlier checks kept in out/; no other `rt` may
 write there while the copy is made. A control takes some seconds. It fails where a control is refused, where a wrong body or its crate
@@ -16,9 +17,10 @@ import shutil
 import subprocess
 import sys
 import tempfile
+from contextlib import contextmanager
 from pathlib import Path
 
-from repository import crates, read
+from repository import crates, read, wrong_bodies
 
 PART = re.compile(r"file: ?(.+)\n|old: ?(.*)\nnew: ?(.*)\n(?:# right: ?(.*)\n)?")
 
@@ -41,11 +43,16 @@ def applied(edit, is_right):
     return texts
 
 
+def rt(folder, *words):
+    """What `rt` has done in a folder, and has said."""
+    return subprocess.run(["rt", *words], cwd=folder, stdin=subprocess.DEVNULL, stdout=subprocess.PIPE, stderr=subprocess.STDOUT,
+                          encoding="utf-8", errors="replace")
+
+
 def checked(folder):
     """Whether `rt check` proves the crate in a folder, and its first message about a goal of src/, or else the first that names a
     place and is no advice on the proof there, or the last line."""
-    run = subprocess.run(["rt", "check"], cwd=folder, stdin=subprocess.DEVNULL, stdout=subprocess.PIPE, stderr=subprocess.STDOUT,
-                         encoding="utf-8", errors="replace")
+    run = rt(folder, "check")
     lines = run.stdout.strip().splitlines() or ["nothing was said"]
     forms = (r"(note: )?(\./)?src/\S+:\d+:\d+: ", r"(note: )?\S+:\d+:\d+:(?! note:)")
     told = [line for form in forms for line in lines if re.match(form, line)]
@@ -80,19 +87,16 @@ def outcomes(copy, named, function):
             print(f"{crate} is not proved: {message}")
             yield False
             continue
-        for edit in sorted((copy / "crates" / crate).glob(f"must-fail/{f'{function}.' if function else ''}*.edit")):
+        for edit in wrong_bodies(copy / "crates" / crate, f"{function}.*" if function else "*"):
             if function:
                 yield is_as_due(edit, False)
             if re.search("(?m)^# right:", read(edit)):
                 yield is_as_due(edit, True)
 
 
-def main(arguments, root):
-    function = arguments[2] if arguments[1:2] == ["--edits"] and len(arguments) == 3 else ""
-    named = arguments[:1] if function else arguments or crates(root)
-    unknown = [it for it in named if it not in crates(root)]
-    if unknown:
-        return f"no crate is named {unknown[0]}"
+@contextmanager
+def copied(root, named):
+    """A copy of the repository, with what earlier checks of some crates kept."""
     if root in Path(tempfile.gettempdir()).resolve().parents:
         sys.exit("the folder for temporary files is inside the repository, so a copy would copy itself")
 
@@ -102,7 +106,16 @@ def main(arguments, root):
         return {".git", "target", *["incremental"] * is_of_another}.intersection(names)
 
     with tempfile.TemporaryDirectory(prefix="arraystring-") as room:
-        copy = Path(shutil.copytree(root, Path(room, "copy"), ignore=left_out, symlinks=True))
+        yield Path(shutil.copytree(root, Path(room, "copy"), ignore=left_out, symlinks=True))
+
+
+def main(arguments, root):
+    function = arguments[2] if arguments[1:2] == ["--edits"] and len(arguments) == 3 else ""
+    named = arguments[:1] if function else arguments or crates(root)
+    unknown = [it for it in named if it not in crates(root)]
+    if unknown:
+        return f"no crate is named {unknown[0]}"
+    with copied(root, named) as copy:
         told = list(outcomes(copy, named, function))
     print(f"{sum(told)} are as they have to be, {len(told) - sum(told)} are not")
     return not all(told) or not told

@@ -1,12 +1,15 @@
 """Fails where a public function or impl has no wrong body of its name, and where something else than a goal refused one.
 
 tools/run evidence           looks at the files alone, also whether each wrong body can be put into its crate
-tools/run evidence LOG       also at what `rt ci` or `rt must-fail` said in LOG of each wrong body
+tools/run evidence LOG       also at what `rt ci` said in LOG of each wrong body in must-fail/
+tools/run evidence --more [CRATE..]
+                             at what `rt must-fail` says of those in more-wrong-bodies/, in a copy where they are in must-fail/;
+                             before a release, and of a crate whose public contract was changed
 
-A wrong body is crates/CRATE/must-fail/FUNCTION.WHAT_IS_WRONG.edit. FUNCTION is the name of a function of the crate, as
-`pop`. It has the type in front if two have that name, as `Drain.next_back`, and the trait in the function's place if that
-does not tell them apart, as `Error.Display` and `Error.From.Utf8`. What breaks in a private function is named for a public one
-that names it, directly or by others.
+A wrong body is FUNCTION.WHAT_IS_WRONG.edit in one of the two folders of its crate. FUNCTION is the name of a function of the
+crate, as `pop`. It has the type in front if two have that name, as `Drain.next_back`, and the trait in the function's place if
+that does not tell them apart, as `Error.Display` and `Error.From.Utf8`. What breaks in a private function is named for a public
+one that names it, directly or by others.
 
 Every public function that has a body is asked for, each function of a trait's impl that has clauses or ghost members and
 whose type is public, and of a program all functions but `main`; tests, what a trait declares and the crates FOR_TESTS are
@@ -21,11 +24,12 @@ proof of such a one. Then it has a control, or the prover shows values at which 
 counts refuses only what is named for a function that counts.
 """
 import re
+import shutil
 from collections import Counter, namedtuple
 from pathlib import Path
 
 import controls
-from repository import closed, crates, public_types, read, sources
+from repository import MORE, closed, crates, public_types, read, sources, wrong_bodies
 
 # Only tests call test_support, and memory_tests is one: what is wrong there its own tests and theirs see, or `tools/run refused`.
 FOR_TESTS = {"test_support", "memory_tests"}
@@ -92,7 +96,7 @@ class Crate:
     """A crate: its wrong bodies, its functions by their files and together, and those by name for which one is asked."""
 
     def __init__(self, folder):
-        self.folder, self.edits, files = folder, sorted(folder.glob("must-fail/*.edit")), sources(folder)
+        self.folder, self.edits, files = folder, wrong_bodies(folder), sources(folder)
         public = frozenset(public_types(files))
         self.functions = {it: functions_of(read(it), it.name == "main.rt", public) for it in files}
         self.everything = [it for of_file in self.functions.values() for it in of_file]
@@ -150,13 +154,30 @@ def faults_of(crate, log):
         fault = fault_of_text(edit)
         if crate.folder.name not in FOR_TESTS and not crate.owner(edit):
             fault = "no public function has this name"
-        elif log is not None:
+        elif not fault and log is not None and edit.parent.name == "must-fail":
             said = told.get(edit.stem)
             fault = crate.fault_of_refusal(edit, said) if said else "the log does not say that it is refused"
         yield from [f"{crate.folder.name} {edit.stem}: {fault}"] * bool(fault)
 
 
+def more(root, named):
+    """Tries the wrong bodies in more-wrong-bodies/ of some crates: whether one is not refused as it has to be."""
+    with controls.copied(root, named) as copy:
+        folders = [copy / "crates" / it for it in named]
+        for folder in folders:
+            shutil.rmtree(folder / "must-fail", ignore_errors=True)
+            (folder / MORE).rename(folder / "must-fail")
+        log = controls.rt(copy, "must-fail", *named).stdout
+        faults = [fault for folder in folders for fault in faults_of(Crate(folder), log)]
+    print(log + "\n".join(faults or ["each is refused as it has to be"]))
+    return bool(faults)
+
+
 def main(arguments, root):
+    if arguments[:1] == ["--more"]:
+        have = [it for it in crates(root) if (root / "crates" / it / MORE).is_dir()]
+        lacking = sorted(set(arguments[1:]).difference(have))
+        return f"no wrong bodies are in crates/{lacking[0]}/{MORE}" if lacking else more(root, arguments[1:] or have)
     log = read(Path(arguments[0])) if arguments else None
     known = [Crate(root / "crates" / it) for it in crates(root)]
     asked = [it for it in known if it.folder.name not in FOR_TESTS]

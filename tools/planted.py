@@ -1,10 +1,12 @@
 """Small trees in which tests plant mistakes, and what the commands say of them."""
 import io
+import os
 import re
 import tempfile
 import unittest
 from contextlib import contextmanager, redirect_stderr, redirect_stdout
 from pathlib import Path
+from unittest import mock
 
 from repository import read
 
@@ -33,6 +35,13 @@ class TreeTest(unittest.TestCase):
     def write_program(self, path, text):
         self.write(path, text)
         (self.root / path).chmod(0o755)
+
+    def stand_in_for_rt(self, text):
+        """A program of this text is what `rt` names, to the end of the test."""
+        self.write_program("bin/rt", text)
+        paths = mock.patch.dict(os.environ, {"PATH": f"{self.root}/bin:{os.environ['PATH']}"})
+        paths.start()
+        self.addCleanup(paths.stop)
 
     @contextmanager
     def changed(self, *changes):

@@ -1,10 +1,7 @@
 """How a wrong body and its control are read, and what is told of those that are tried: over a stand-in for `rt`."""
-import os
-from unittest import mock
-
 import controls
 from planted import TreeTest
-from repository import read
+from repository import MORE, read
 
 FOLDER = "crates/numbers"
 SOURCE, EDIT = f"{FOLDER}/src/lib.rt", f"{FOLDER}/must-fail/one.is_two.edit"
@@ -27,10 +24,7 @@ class Controls(TreeTest):
 
     def setUp(self):
         super().setUp()
-        self.write_program("bin/rt", RT)
-        paths = mock.patch.dict(os.environ, {"PATH": f"{self.root}/bin:{os.environ['PATH']}"})
-        paths.start()
-        self.addCleanup(paths.stop)
+        self.stand_in_for_rt(RT)
 
     def applied(self, text, is_right=False):
         """The texts that a wrong body of this text makes, or its control, by their paths."""
@@ -54,7 +48,8 @@ class Controls(TreeTest):
     def test_a_control_has_to_prove(self):
         proves = "numbers one.is_two: the control proves\n1 are as they have to be, 0 are not\n"
         self.assertEqual(self.told(controls), (False, proves))
-        self.assertEqual(self.told(controls, "numbers"), (False, proves))
+        with self.changed((EDIT, None), (EDIT.replace("must-fail", MORE), PAIR + RIGHT)):
+            self.assertEqual(self.told(controls, "numbers"), (False, proves))
         with self.changed((EDIT, r"\{ 1 \}", "{ 2 }")):
             refused = "numbers one.is_two: the control is refused: note: src/lib.rt:2:5: open\n0 are as they have to be, 1 are not\n"
             self.assertEqual(self.told(controls, "numbers"), (True, refused))

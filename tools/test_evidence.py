@@ -1,6 +1,7 @@
 """Which functions a wrong body is asked for, how it is named, what it touches, and what has to refuse it."""
 import evidence
 from planted import TreeTest
+from repository import MORE
 
 SOURCE = """\
 pub struct Number {
@@ -115,6 +116,13 @@ class Evidence(TreeTest):
             ("numbers doubled.is_once: no line of a wrong body: what: 1", (f"{FOLDER}/doubled.is_once.edit", END, "what: 1\n")),
         )
 
+    def test_those_of_the_other_folder_count_and_have_to_fit(self):
+        here, there = f"{FOLDER}/doubled.is_once.edit", f"crates/numbers/{MORE}/doubled.is_once.edit"
+        lacks = "numbers doubled.is_once: src/lib.rt does not have this once: three"
+        self.assert_finds(evidence, ("", (here, None), (there, ONCE)),
+                          (lacks, (here, None), (there, "file: src/lib.rt\nold: three\nnew: 3\n")),
+                          (NO_NAME("is_once"), (there.replace("doubled.", ""), ONCE)))
+
     def test_the_type_and_the_trait_tell_equal_names_apart(self):
         letter = SOURCE.replace("Number", "Letter").partition("\nfn twice")[0]
         self.write("crates/numbers/src/letter.rt", letter)
@@ -180,6 +188,15 @@ pub fn other()
 GOAL = "note: src/lib.rt:{}:1: it is not proved that what the function ensures holds when it returns (`{}`); `search` gave up"
 STORED = "./proofs/{}/Answers.antt:12:4: error: `returns-clause-text`: {}"
 MOVES = "crates/moves/must-fail"
+# Refuses what has no `0` in it.
+RT = f"""#!/bin/sh
+[ "$*" = "must-fail moves" ] || exit 9
+for it in crates/moves/must-fail/*.edit; do
+    told='refused, as it must be: {GOAL.format(13, "returns-clause-text")}'
+    ! grep -q 'new:.*0' "$it" || told='NOT REFUSED'
+    printf '%s\\n' "rt: must-fail moves/${{it##*/}}: $told"
+done
+"""
 
 
 class Refusals(TreeTest):
@@ -243,3 +260,20 @@ class Refusals(TreeTest):
                 self.assertIn("refused neither by a goal of src/ nor over a stored proof",
                               self.told_of("plain.is_one", STORED.format(name, "expected another"))[1])
             self.assertIn("refused neither by a goal", self.told_of("plain.is_one", "the machine stopped")[1])
+
+    def test_those_of_the_other_folder_are_tried_in_a_copy_and_in_no_log(self):
+        self.stand_in_for_rt(RT)
+        path, source = f"crates/moves/{MORE}/plain.is_two.edit", "crates/moves/src/lib.rt"
+        self.write(path, "file: src/lib.rt\nold:     0\nnew:     2\n")
+        self.assertEqual(self.told_of(), (False, "3 functions have 4 wrong bodies\n"))
+        for words in (["--more"], ["--more", "moves"]):
+            is_bad, said = self.told(evidence, *words)
+            self.assertEqual((is_bad, said.splitlines()[1:]), (False, ["each is refused as it has to be"]))
+            self.assert_finds(
+                evidence,
+                ("moves plain.is_two: the log does not say that it is refused", (path, "2", "0 + 0")),
+                ("moves plain.is_two: no line of a wrong body: right: 0", (path, END, "right: 0\n")),
+                ("moves plain.is_two: refused at src/lib.rt:13, where nothing is", (source, "^fn move", "fn f() {\n    9\n}\n\n\n\n\n\nfn move")),
+                words=words)
+        self.assertEqual(self.told(evidence, "--more", "none"), (True, f"no wrong bodies are in crates/none/{MORE}"))
+        self.assertTrue((self.root / path).exists() and (self.root / MOVES / "plain.is_one.edit").exists())
