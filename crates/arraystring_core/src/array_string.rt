@@ -190,7 +190,7 @@ impl<const N: usize> ArrayString<N> {
     /// The offset at which the text ends.
     #[tactic(auto, using(crate::proofs::StoredLaws::opened_end))]
     #[inline(always)]
-    pub(crate) fn end(&self) -> usize
+    fn end(&self) -> usize
         ensures value { result ≡ start_of self.now + size self.now.text }
         ensures within { result ≤ cap N }
     {

@@ -1,7 +1,7 @@
 //! Laws of strings, which callers may rely on. Each carries its fact in its contract and changes
 //! nothing. `text_fits`, `text_spelled` and `left_fits` call `len` or `as_str`, the others do nothing
 //! when called.
-ghost use Rattle.std.specs.Prelude.{◌≡◌, ◌≢◌, ◌+◌, ◌-◌, ◌<◌, ◌≤◌, ◌++◌, ◌∷◌, ◌↔◌, ℕ, Bool, false, List, [], All, IfSome, IsTrue, None, Some, Result, IsOkAnd, length, map, nat_eq, option_map, reverse, chars};
+ghost use Rattle.std.specs.Prelude.{◌≡◌, ◌+◌, ◌-◌, ◌<◌, ◌≤◌, ◌++◌, ◌∷◌, ◌↔◌, ℕ, Bool, false, List, [], All, IfSome, IsTrue, None, Some, Result, IsOkAnd, length, map, nat_eq, option_map, reverse, chars};
 ghost use Rattle.std.specs.Char.{is_whitespace};
 ghost use Rattle.std.specs.Iterator.{AlwaysYields, YieldsFirst};
 ghost use Rattle.std.specs.Cmp.Lexicographic.{pointwise};

@@ -11,8 +11,8 @@ use arraystring_base::error::OutOfBounds;
 use arraystring_base::utils::{Steps, encode, shift, truncate_str, write_over};
 
 impl<const N: usize> ArrayString<N> {
-    /// Whether there is room for `ch` after `len` bytes. ASCII has a test of its own, which the
-    /// compiler joins with that of `encode`. The width of others is not tested if four more fit.
+    /// Whether there is room for `ch` after `len` bytes. The last test alone would do. With those
+    /// before it `try_push` takes 12 instructions, and not 22.
     #[inline(always)]
     pub(super) fn has_room(len: usize, ch: char) -> bool
         requires { len ≤ 255 }

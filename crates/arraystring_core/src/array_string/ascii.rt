@@ -1,5 +1,5 @@
 //! The ASCII letters of a string or of a range of it, made upper or lower case.
-ghost use Rattle.std.specs.Prelude.{◌≡◌, ◌-◌, ◌≤◌, ◌++◌, Ok, IsTrue, length, take, drop, map};
+ghost use Rattle.std.specs.Prelude.{◌≡◌, ◌-◌, ◌≤◌, ◌++◌, Ok, IsTrue, take, drop, map};
 ghost use Rattle.std.specs.Char.{to_ascii_uppercase, to_ascii_lowercase};
 ghost use Rattle.std.specs.Range.Bound.{start_index, end_index};
 ghost use Rattle.arraystring_base.specs.Text.{size, front, back, boundary};

@@ -189,7 +189,7 @@ impl<const N: usize> ArrayString<N> {
     }
 
     /// The character that begins at a boundary before the end, and how many bytes it takes.
-    pub(super) fn char_at(&self, at: usize) -> (char, usize)
+    fn char_at(&self, at: usize) -> (char, usize)
         requires boundary { IsTrue (boundary self.now.text at) }
         requires before_end { at < size self.now.text }
         ensures first { result.0 ≡ slice_index (back self.now.text at) 0 }

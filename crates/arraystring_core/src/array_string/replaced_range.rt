@@ -87,7 +87,7 @@ impl<const N: usize> ArrayString<N> {
     }
 
     /// Replaces the bytes from `start` to `end`.
-    pub(super) fn replace_between(
+    fn replace_between(
         &mut self,
         start: u8,
         end: u8,

@@ -62,9 +62,8 @@ impl<const N: usize> ArrayString<N> {
         write_over(&mut self.array, start, given.as_bytes());
     }
 
-    /// Puts `ch` at a boundary, as `splice` does with a text. The new text must fit. The UTF-8 of `ch` is written straight
-    /// into the array if there is room behind the text. By a text of four bytes `try_insert` would take some ten
-    /// instructions more.
+    /// Puts `ch` at a boundary, as `splice` does with a text. The new text must fit. If there is room behind the
+    /// text, the UTF-8 of `ch` is written straight into the array, which takes ten instructions less than `splice`.
     #[tactic(auto, using(crate::proofs::StoredLaws::within))]
     pub(super) fn splice_char(&mut self, at: usize, ch: char)
         requires boundary { IsTrue (boundary self.old.text at) }

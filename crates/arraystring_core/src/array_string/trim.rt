@@ -65,7 +65,7 @@ impl<const N: usize> ArrayString<N> {
     /// Drops the characters at the end for which `drops` returns true, back to the last for which
     /// it does not. It moves no byte. It looks at each character that it drops and at the one before
     /// them: at each at least once, and at most four times.
-    pub(super) fn drop_trailing<F: Fn(char) -> bool + Drop>(&mut self, drops: F, steps: &mut Steps)
+    fn drop_trailing<F: Fn(char) -> bool + Drop>(&mut self, drops: F, steps: &mut Steps)
         requires callable { F.IsAlwaysCallable drops }
         requires looks { steps.old.looked ≤ 2 ^ 63 }
         ensures text { (passes : ℕ → Bool) → ReturnsAs F.post drops passes
@@ -89,7 +89,7 @@ impl<const N: usize> ArrayString<N> {
 
     /// Drops the characters at the start for which `drops` returns true, up to the first for which
     /// it does not.
-    pub(super) fn drop_leading<F: Fn(char) -> bool + Drop>(&mut self, drops: F)
+    fn drop_leading<F: Fn(char) -> bool + Drop>(&mut self, drops: F)
         requires callable { F.IsAlwaysCallable drops }
         ensures { (passes : ℕ → Bool) → ReturnsAs F.post drops passes
             → self.new.text ≡ without_leading passes self.old.text }
@@ -105,7 +105,7 @@ impl<const N: usize> ArrayString<N> {
 
 /// Whether `ch` has the property White_Space.
 #[tactic(auto, using(crate::proofs::EditLaws::is_white_space_std))]
-pub(super) fn is_white_space(ch: char) -> bool
+fn is_white_space(ch: char) -> bool
     ensures { result ≡ is_white_space ch }
 {
     ch.is_whitespace()
