@@ -91,13 +91,12 @@ fn each_is_printed_for_debugging(rt: HostRuntime) {
     let (names, all) = (users.names(), users.users());
     let printed = format!(in rt.alloc(); "{users:?}|{names:?}|{all:?}|{names:#?}");
     let printed = printed.expect(&rt, "memory");
-    let a =
-        "User { username: ArrayString { array: \"a\", size: 1 }, role: ArrayString { array: \"x\", size: 1 } }";
-    let b =
-        "User { username: ArrayString { array: \"b\", size: 1 }, role: ArrayString { array: \"x\", size: 1 } }";
-    let (name_a, name_b) = (&a[17..52], &b[17..52]);
-    let lines =
-        "[\n    ArrayString {\n        array: \"a\",\n        size: 1,\n    },\n    ArrayString {\n        array: \"b\",\n        size: 1,\n    },\n]";
-    let wanted = format!(in rt.alloc(); "{{{a}, {b}}}|[{name_a}, {name_b}]|[{a}, {b}]|{lines}");
-    agree(&rt, printed.as_str(), wanted.expect(&rt, "memory").as_str());
+    let wanted =
+        "{User { username: ArrayString { array: \"a\", size: 1 }, role: ArrayString { array: \"x\", size: 1 } }, \
+        User { username: ArrayString { array: \"b\", size: 1 }, role: ArrayString { array: \"x\", size: 1 } }}|\
+        [ArrayString { array: \"a\", size: 1 }, ArrayString { array: \"b\", size: 1 }]|\
+        [User { username: ArrayString { array: \"a\", size: 1 }, role: ArrayString { array: \"x\", size: 1 } }, \
+        User { username: ArrayString { array: \"b\", size: 1 }, role: ArrayString { array: \"x\", size: 1 } }]|\
+        [\n    ArrayString {\n        array: \"a\",\n        size: 1,\n    },\n    ArrayString {\n        array: \"b\",\n        size: 1,\n    },\n]";
+    agree(&rt, printed.as_str(), wanted);
 }

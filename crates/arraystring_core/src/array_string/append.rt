@@ -67,7 +67,8 @@ impl<const N: usize> ArrayString<N> {
     /// from `push_str`, which would be twice as long.
     #[inline(never)]
     pub(super) fn push_str_behind_start(&mut self, string: &str)
-        ensures { Makes (addition_of_cut self.old.text (chars string.now) (cap N)) self.old.text (Ok result) self.new.text }
+        ensures { Makes (addition_of_cut self.old.text (chars string.now) (cap N))
+            self.old.text (Ok result) self.new.text }
     {
         let room = Self::capacity() - self.len();
         self.push_str_unchecked(truncate_str(string, room));

@@ -53,11 +53,7 @@ impl<const N: usize> ArrayString<N> {
     /// Drains the part in the range. What is removed goes through `removed`, which is the caller's: the compiler copies a local
     /// of this function once more.
     #[inline(always)]
-    pub(super) fn drain_through<R: RangeBounds<u8>>(
-        &mut self,
-        range: R,
-        removed: &mut Drain<N>,
-    ) -> Result<Drain<N>, Error> {
+    fn drain_through<R: RangeBounds<u8>>(&mut self, range: R, removed: &mut Drain<N>) -> Result<Drain<N>, Error> {
         let (from, to) = saturating_ends(range, self.len());
         self.check_part(from, to)?;
         // SAFETY: the `to - from` bytes of `self.array` from `self.start + from` on are UTF-8 and end within the

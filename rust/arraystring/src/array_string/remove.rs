@@ -248,7 +248,7 @@ impl<const N: usize> ArrayString<N> {
     /// - `at` is a boundary of `self`
     /// - `at < self.len()`
     #[inline]
-    pub(super) unsafe fn char_at(&self, at: usize) -> (char, usize) {
+    unsafe fn char_at(&self, at: usize) -> (char, usize) {
         // SAFETY: `0 < self.as_str()[at..].len()`: by this function's `# Safety`.
         // SAFETY: this is within: by this function's `# Safety`.
         unsafe { first_char(get_unchecked!(self.as_str(), at..)) }

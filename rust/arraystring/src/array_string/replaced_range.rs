@@ -56,7 +56,7 @@ impl<const N: usize> ArrayString<N> {
 
     /// Replaces the bytes from `start` to `end`.
     #[inline]
-    pub(super) fn replace_between(&mut self, start: u8, end: u8, with: &str) -> Result<(), Error> {
+    fn replace_between(&mut self, start: u8, end: u8, with: &str) -> Result<(), Error> {
         self.check_replacement(start, end, with.len())?;
         let (from, to) = (start as usize, end as usize);
         // SAFETY: `from <= to`; `from` is a boundary of `self`; `to` is a boundary of `self`;

@@ -68,7 +68,7 @@ impl<const N: usize> ArrayString<N> {
     /// them: at each at least once, and at most four times.
     #[inline]
     #[expect(clippy::cast_possible_truncation, reason = "`start` is an index in a text of at most 255 bytes")]
-    pub(super) fn drop_trailing<F: Fn(char) -> bool>(&mut self, drops: F) {
+    fn drop_trailing<F: Fn(char) -> bool>(&mut self, drops: F) {
         while let Some((start, ch)) = last_char(self.as_str()) {
             if !drops(ch) {
                 break;
@@ -82,7 +82,7 @@ impl<const N: usize> ArrayString<N> {
     /// Drops the characters at the start for which `drops` returns true, up to the first for which
     /// it does not.
     #[inline]
-    pub(super) fn drop_leading<F: Fn(char) -> bool>(&mut self, drops: F) {
+    fn drop_leading<F: Fn(char) -> bool>(&mut self, drops: F) {
         while let Some(ch) = self.as_str().chars().next() {
             if !drops(ch) {
                 break;
@@ -96,7 +96,7 @@ impl<const N: usize> ArrayString<N> {
 
 /// Whether `ch` has the property White_Space.
 #[inline]
-pub(super) fn is_white_space(ch: char) -> bool {
+fn is_white_space(ch: char) -> bool {
     ch.is_whitespace()
 }
 
