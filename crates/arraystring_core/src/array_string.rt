@@ -1,12 +1,12 @@
-//! `ArrayString`: the type, and the calls that read all of it.
+//! `ArrayString`: the type, how its text lies in the array, and the calls that measure or borrow all of the text.
 //!
-//! The modules below have its other calls:
+//! The modules below have its other calls. `traits` has its impls of traits, and `unchecked` the calls that leave a
+//! test to the caller. These have what the others rest on:
 //!
-//! - `traits` has its impls of traits;
-//! - `unchecked` has the calls that leave a test to the caller, of which most programs need none;
-//! - `boundary` has the test for a boundary, and `checks` those of the rows;
-//! - `splice` replaces a part of the text, `append` appends what the text has to move for, and `remove` takes out
-//!   a part, a front or an end.
+//! - `boundary` has the test for a boundary, and `checks` the tests of the table of edits (docs/definitions.md);
+//! - `splice` replaces a part of the text by another;
+//! - `append` appends the items of an iterator, and to a text that begins past offset 0;
+//! - `remove` also takes out a part, a front or an end.
 //!
 //! # How a string lies in its array
 //!
@@ -74,16 +74,18 @@ pub use boundary::is_char_boundary;
 ///
 /// - **Cut**, to the whole characters that fit: `from` and so `into`, `from_str_truncate`,
 ///   `from_chars`, `from_iterator`, `from_utf8`, `from_utf16`, `from_utf16_lossy`, `push_str`, `+`,
-///   `extend_chars`, `extend_strs`, `insert_str`.
+///   `extend_chars`, `extend_strs`, `insert_str`, `from_value`.
 /// - **Refused**, and then nothing has changed: `parse`, `try_from_str`, `try_from_chars`,
 ///   `try_from_iterator`, `try_from_utf8`, `try_from_utf16`, `try_push`, `try_push_str`, `try_insert`,
-///   `try_insert_str`, `replace_range`, and each piece that `write!` writes.
+///   `try_insert_str`, `replace_range`, the counted forms of these two, `try_from_value`, and each
+///   piece that `write!` writes.
 ///
 /// A *boundary* is an index at which a character begins or the text ends. An index is *past* the
 /// text if it is greater than the length, and *inside* a character if it is less and no boundary.
 ///
 /// A range that is passed in may be any `RangeBounds<u8>`. An iterator is asked for no item behind
-/// the first that does not fit.
+/// the first that does not fit. Ranges, iterators and closures have the bound `Drop`, since a call
+/// drops them.
 #[derive(Clone, Copy)]
 pub struct ArrayString<const N: usize> {
     /// The `size` bytes from `start` on are the text. They are UTF-8, and the others have no meaning.

@@ -12,10 +12,10 @@ mod traits;
 /// once, from the front or from the back, and borrows nothing.
 ///
 /// Contracts name the list of the characters that are left. A drain has a copy of the string's
-/// array, and takes no memory.
+/// array, and allocates nothing.
 #[derive(Clone, Copy)]
 pub struct Drain<const N: usize> {
-    // The numbers lie before the array: so the compiler knows that no read of a byte of it reads them.
+    // The numbers lie before the array. So the compiler sees that a read of the array, at whatever offset, reads none of them.
     /// What is left begins at this index of the removed text. It is a boundary of the first `size` bytes of
     /// that text, so it is at most `size`.
     front: u8,

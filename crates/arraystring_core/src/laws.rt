@@ -26,7 +26,7 @@ use crate::{ArrayString, Drain};
 pub fn text_fits<const N: usize>(string: &ArrayString<N>)
     ensures { size string.now.text ≤ cap N }
 {
-    // The invariant of a type is known of a value only after a call on it.
+    // Outside of the module of a type, its invariant is known of a value only after a call on it.
     let _ = string.len();
 }
 
@@ -102,7 +102,7 @@ pub fn popped()
     ensures empty { ((popping []).result ≡ None) × ((popping []).after ≡ []) }
 {}
 
-/// Trim all characters that pass a test from both ends of a text. The text before was some
+/// A trim drops all characters that pass a test from both ends of a text. The text before was some
 /// characters that pass, then what the trim leaves, then some characters that pass. What it leaves
 /// neither begins nor ends with a character that passes.
 pub fn trimmed()
@@ -143,10 +143,10 @@ pub fn replaced_back()
         (part t start end) n).after ≡ t }
 {}
 
-/// Steps at both ends of an iterator, in any mix, give each character at most once. Its characters
-/// are what came from the front, then what is left, then what came from the back in reversed order.
-/// While a character is left, each step takes one. So after as many steps as there are characters
-/// nothing is left, and a step then gives nothing.
+/// Calls of `next` and `next_back`, in any mix, give each character at most once. The characters are
+/// what came from the front, then what is left, then what came from the back in reversed order.
+/// While a character is left, each call takes one. So after as many calls as there are characters
+/// nothing is left, and a call then gives nothing.
 pub fn walks()
     ensures whole { (ends : List End) (t : List ℕ)
         → (walked ends t).fronts ++ ((walked ends t).left ++ reverse (walked ends t).backs) ≡ t }
@@ -171,8 +171,8 @@ pub fn equal_texts()
         → fed.str (bytes a) ≡ fed.str (bytes b) }
 {}
 
-/// Make a JSON value of a text of at most `n` bytes. Read back and cut to `n` bytes, it gives that
-/// text.
+/// A JSON value that is made of a text of at most `n` bytes, read back and cut to `n` bytes, gives
+/// that text.
 #[tactic(auto, using(crate::proofs::JsonLaws::reads_back))]
 pub fn json_reads_back()
     ensures { (t : List ℕ) (n : ℕ) → IsText t → size t ≤ n → text_within (json_text t) n ≡ Some t }

@@ -24,7 +24,7 @@ pub(crate) fn saturating_ends<R: RangeBounds<u8> + Drop>(range: R, len: u8) -> (
     (start, end)
 }
 
-/// The ends in a text of `len` bytes, as plain numbers.
+/// The ends in a text of `len` bytes. An excluded start and an included end add 1, also to 255.
 pub(crate) fn plain_ends<R: RangeBounds<u8> + Drop>(range: R, len: u8) -> (usize, usize)
     ensures { OfReturnedBounds R.has_bounds R.start_bound R.end_bound range (λ start end.
         (result.0 ≡ start_index start) × (result.1 ≡ end_index end len)) }

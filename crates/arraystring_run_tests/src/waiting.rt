@@ -28,15 +28,13 @@ fn script_of(rt: &(impl Abort + AllocGlobal), bytes: usize) -> (String, String) 
     writeln!(script, "push_str {LETTERS}").expect(rt, "memory for a line");
     writeln!(replies, "done").expect(rt, "memory for a reply");
     let mut left = bytes.saturating_sub(5);
-    let mut size = 7usize;
-    while left >= 36 {
+    for at in 0..bytes {
+        if left < 36 {
+            break;
+        }
+        let size = 7 + at % 23;
         ask(rt, &mut script, &mut replies, size);
         left = left.saturating_sub(size);
-        size = if size == 29 {
-            7
-        } else {
-            size.saturating_add(1)
-        };
     }
     if left > 29 {
         ask(rt, &mut script, &mut replies, 12);

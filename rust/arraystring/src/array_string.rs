@@ -1,13 +1,13 @@
 // Proved sources: crates/arraystring_core/src/array_string.rt
-//! `ArrayString`: the type, and the calls that read all of it.
+//! `ArrayString`: the type, and how its text lies in the array.
 //!
-//! The modules below have its other calls:
+//! The modules below have its calls. `traits` has its impls of traits, and `unchecked` the calls that leave a test to
+//! the caller. These have what the others rest on:
 //!
-//! - `traits` has its impls of traits;
-//! - `unchecked` has calls that leave a test to the caller;
-//! - `checks` has the tests of the rows;
-//! - `splice` replaces a part of the text, `append` appends what the text has to move for, and `remove` takes out
-//!   a part, a front or an end.
+//! - `boundary` has the test for a boundary, and `checks` the tests of the table of edits (docs/definitions.md);
+//! - `splice` replaces a part of the text by another;
+//! - `append` appends the items of an iterator, and to a text that begins past offset 0;
+//! - `remove` also takes out a part, a front or an end.
 //!
 //! # How a string lies in its array
 //!

@@ -1,4 +1,4 @@
-//! The private calls that append: what an iterator gives, and what needs the text to move to the start of the array.
+//! The private calls that append: what an iterator gives, and what is added to a text that begins past offset 0.
 ghost use Rattle.std.specs.Prelude.{◌≡◌, ◌+◌, ◌-◌, ◌<◌, ◌≤◌, ◌↔◌, [], ◌∷◌, ◌++◌, IsTrue, chars, ℕ, List, MatchResult, Ok};
 ghost use Rattle.arraystring_base.specs.Text.{size, width, cap, cut};
 ghost use Rattle.arraystring_core.specs.Edits.{Makes, from_out_of_bounds, addition, addition_of_cut};
@@ -25,7 +25,7 @@ impl<const N: usize> ArrayString<N> {
         len + 4 <= capacity || len + ch.len_utf8() <= capacity
     }
 
-    /// Appends `ch` to a text that has to move to the start of the array for it, if it fits so. It stands
+    /// Appends `ch` to a text that has to move to the start of the array for it, if it fits then. It stands
     /// apart from `try_push`, each of whose calls would be longer.
     #[cold]
     #[inline(never)]
@@ -44,7 +44,7 @@ impl<const N: usize> ArrayString<N> {
         Ok(())
     }
 
-    /// Appends `string` to a text that has to move to the start of the array for it, if it fits so. It
+    /// Appends `string` to a text that has to move to the start of the array for it, if it fits then. It
     /// stands apart from `try_push_str`, as `compact_and_push` does from `try_push`.
     #[cold]
     #[inline(never)]

@@ -1,5 +1,5 @@
-//! What each kind of edit refuses, in the order of its errors: a row of the table of edits (docs/definitions.md) has these
-//! tests. The first that finds a cause decides which error it is.
+//! The tests by which edits are refused. A row of the table of edits (docs/definitions.md) lists them in order. The first
+//! that holds decides which error is returned.
 ghost use Rattle.std.specs.Prelude.{◌≡◌, ◌+◌, ◌-◌, ◌≤◌, ◌∷◌, []};
 ghost use Rattle.arraystring_base.specs.Text.{cap, size};
 ghost use Rattle.arraystring_core.specs.Edits.{first_cause, ok_unless, past, crossed, at_end, inside, no_room};

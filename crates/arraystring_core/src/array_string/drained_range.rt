@@ -83,9 +83,8 @@ impl<const N: usize> ArrayString<N> {
         self.drain_through(range, steps, &mut Drain::default())
     }
 
-    /// Drains as `drain_counted` does. What is removed goes through `removed`, which is the caller's: the compiler
-    /// copies a local once more, and a drained and walked text takes 21 and 22 nanoseconds, not 14 and 16, at 23 and
-    /// 63 bytes.
+    /// Drains as `drain_counted` does. What is removed goes through `removed`, which is the caller's: a local would be
+    /// copied once more (docs/DECISIONS.md has what that takes).
     #[inline(always)]
     fn drain_through<R: RangeBounds<u8> + Drop>(
         &mut self,

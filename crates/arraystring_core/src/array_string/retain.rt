@@ -23,8 +23,8 @@ impl<const N: usize> ArrayString<N> {
     }
 }
 
-/// Calls `f` once with each character of a text, in order, and moves those for which it returns
-/// true together. The text is the `size` bytes of the array from `offset` on, and keeps
+/// Calls `f` once with each character of a text, in order, and closes the gaps between those for
+/// which it returns true. The text is the `size` bytes of the array from `offset` on, and keeps
 /// its offset; `kept` becomes the size of what is kept. Each kept character is moved on its own, and
 /// only to the left. At each call of `f` the `kept` bytes from `offset` on are those of the
 /// characters that were kept so far. If `f` panics, the text is those bytes.
@@ -47,11 +47,11 @@ fn retain_at<const N: usize, F: FnMut(char) -> bool + Drop>(
         (chars (take size (drop offset array.old)))
         (chars (take kept.new (drop offset array.new))) }
 {
-    // From `read` on no byte was written over.
     *kept = 0;
     let mut read = 0;
+    // At the start of each turn no byte from `read` on was written over.
     while read < size {
-        // A byte of ASCII is its character; others take the decoder.
+        // A byte of ASCII is its character; `first_char` reads the others.
         let first = array[offset + read];
         if first < 0x80 {
             if f(first as char) {
@@ -63,7 +63,7 @@ fn retain_at<const N: usize, F: FnMut(char) -> bool + Drop>(
         } else {
             let all = &array[..];
             // SAFETY: the `size` bytes from `offset` on were UTF-8 at the start. No byte from `read` on was
-            // written over, since `*kept <= read`: each turn adds no more to it. `read` goes on by whole
+            // written over, since `*kept <= read`: each turn adds to it at most what it adds to `read`. `read` goes on by whole
             // characters, so one begins there, whatever the closure answers.
             let text = unsafe { str::from_utf8_unchecked(&all[offset + read..offset + size]) };
             let (ch, width) = first_char(text);

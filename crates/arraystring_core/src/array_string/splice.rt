@@ -1,6 +1,6 @@
 //! How a part between two boundaries becomes another text. What follows it moves. If there is no room behind the text,
 //! what precedes it moves to the start of the array, too. Appends, and removals at the front and at the end, move nothing
-//! or all of the text: `append` and `remove` have them.
+//! or all of the text: `push`, `append` and `remove` have them.
 ghost use Rattle.std.specs.Prelude.{◌≡◌, ◌+◌, ◌-◌, ◌^◌, ◌≤◌, ◌∷◌, ◌++◌, IsTrue, chars};
 ghost use Rattle.arraystring_base.specs.Text.{size, width, cap, front, back, boundary};
 ghost use Rattle.arraystring_core.specs.Splice.{ReplacesPart};
@@ -25,7 +25,7 @@ impl<const N: usize> ArrayString<N> {
     {
         let (offset, size) = (self.start as usize, self.size as usize);
         let (len, tail) = (given.len(), size - end);
-        // The text grows by the first test. Tested again, this branch is left out where nothing is given.
+        // That the text grows follows from the first test. The compiler drops the branch by it if nothing is given.
         if offset + (start + (len + tail)) > Self::capacity() as usize && len > end - start {
             return self.compact_and_splice(start, end, given, steps);
         }
@@ -75,7 +75,7 @@ impl<const N: usize> ArrayString<N> {
         if offset + size + len > Self::capacity() as usize {
             let mut utf8 = [0; 4];
             encode(ch, &mut utf8, 0);
-            // SAFETY: `encode` wrote the `len` bytes of the UTF-8 of `ch` in front.
+            // SAFETY: `encode` wrote the `len` bytes of the UTF-8 of `ch` at the start of `utf8`.
             let given = unsafe { str::from_utf8_unchecked(&utf8[..len]) };
             return self.compact_and_splice(at, at, given, &mut Steps::new());
         }

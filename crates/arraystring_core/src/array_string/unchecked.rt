@@ -1,4 +1,5 @@
-//! The calls that leave a test to the caller, of which most programs need none.
+//! The calls that leave a test to the caller, of which most programs need none. They are safe, since each caller proves
+//! the precondition.
 ghost use Rattle.std.specs.Prelude.{◌≡◌, ◌+◌, ◌≤◌, ◌∷◌, [], ◌++◌, ℕ, List, IsTrue, chars, length};
 ghost use Rattle.std.specs.Borrow.{Bor};
 ghost use Rattle.std.specs.Iterator.{IsFiniteIterable};

@@ -5,7 +5,7 @@ ghost use Rattle.arraystring_base.specs.Text.{cap, cut};
 ghost use Rattle.arraystring_base.specs.Utf16.{IsReading, first_stop, shown, lossy_text};
 ghost use Rattle.arraystring_core.specs.FromUtf16.{GivesWhole, GivesPrefix, stop_at};
 
-use super::ArrayString;
+use crate::ArrayString;
 use arraystring_base::error::{Error, Utf16};
 use arraystring_base::laws::only_reading;
 use arraystring_base::utf16::{Unit16, Units};
@@ -58,7 +58,7 @@ impl<const N: usize> ArrayString<N> {
         ensures { (items : List Unit16) → IsReading units.now items
             → result.text ≡ cut (lossy_text items) (cap N) }
     {
-        only_reading(units);
+        only_reading(units); // gives the prover that what `Units` reads is the only reading
         let mut made = Self::new();
         for item in Units::new(units) {
             match made.try_push(shown(item)) {
@@ -69,14 +69,14 @@ impl<const N: usize> ArrayString<N> {
         made
     }
 
-    /// Appends the longest prefix of characters of `units` that fits to the empty text. Returns the item
+    /// Appends to the empty text the longest prefix of characters of `units` that fits. Returns the item
     /// right after it.
     fn add_units(&mut self, units: &[u16]) -> Option<Unit16>
         requires { self.old.text ≡ [] }
         ensures { (items : List Unit16) → IsReading units.now items
             → first_stop items (cap N) ≡ stop_at result self.new.text }
     {
-        only_reading(units);
+        only_reading(units); // gives the prover that what `Units` reads is the only reading
         for item in Units::new(units) {
             match item {
                 Unit16::Char(ch) => match self.try_push(ch) {

@@ -79,7 +79,7 @@ impl<const N: usize> Iterator for Drain<N> {
         if self.front == self.size {
             return None;
         }
-        // A byte of ASCII is its character; others take the decoder.
+        // A byte of ASCII is its character; `chars` reads the others.
         let first = self.array[self.start as usize + self.front as usize];
         if first < 0x80 {
             self.front += 1;

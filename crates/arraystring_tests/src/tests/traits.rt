@@ -1,6 +1,6 @@
 //! The order, the equality and the hash of strings, and what is added to them by `+` and written to them, on
-//! values worked out by hand. The order and the equality go through texts in blocks of bytes: so these are
-//! also of each size that a string has, and differ at each index.
+//! values worked out by hand. For the order and the equality the texts are also of each size that a string
+//! has, and differ at each index.
 ghost use Rattle.std.specs.Prelude.{◌≤◌};
 
 use super::calls::check_table;

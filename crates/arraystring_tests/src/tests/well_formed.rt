@@ -1,6 +1,5 @@
-//! Reading, which goes through bytes in blocks, beside std's: bytes of each size that a string has and
-//! a little more, with a fault or a character at each offset, so that one lies at each end of each
-//! block.
+//! Reading of UTF-8, beside what a table says and what std reads: bytes of each size that a string has
+//! and a little more, with a fault or a character at each offset.
 ghost use Rattle.std.specs.Prelude.{◌<◌};
 
 use super::table::agree;

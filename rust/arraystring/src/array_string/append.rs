@@ -79,7 +79,7 @@ impl<const N: usize> ArrayString<N> {
     /// Appends the characters before the first that does not fit. Returns `Err` if there is such a one: what fitted stays.
     #[inline]
     pub(super) fn add_chars<I: IntoIterator<Item = char>>(&mut self, characters: I) -> Result<(), OutOfBounds> {
-        let _ = &self.array; // gives the prover that the text fits
+        let _ = &self.array; // in the source this gives the prover that the text fits
         for ch in characters {
             match self.try_push(ch) {
                 Ok(()) => {}
@@ -93,7 +93,7 @@ impl<const N: usize> ArrayString<N> {
     /// if there is such a one: what fitted stays.
     #[inline]
     pub(super) fn add_strs<U: AsRef<str>, I: IntoIterator<Item = U>>(&mut self, pieces: I) -> Result<(), OutOfBounds> {
-        let _ = &self.array; // gives the prover that the text fits
+        let _ = &self.array; // in the source this gives the prover that the text fits
         for piece in pieces {
             let piece = piece.as_ref();
             match self.try_push_str(piece) {

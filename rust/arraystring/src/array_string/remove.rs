@@ -208,7 +208,7 @@ impl<const N: usize> ArrayString<N> {
             // SAFETY: `end` is a boundary of `self`: by this function's `# Safety`.
             return unsafe { self.drop_front(end) };
         }
-        let _ = &self.array; // gives the prover that the text fits
+        let _ = &self.array; // in the source this gives the prover that the text fits
         // SAFETY: `start <= end`; `start` is a boundary of `self`; `end` is a boundary of `self`;
         // `self.len() - (end - start) + "".len() <= Self::capacity()`: by this function's `# Safety`, and since the text
         // fits.
