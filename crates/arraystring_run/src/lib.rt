@@ -6,6 +6,7 @@
 mod arguments;
 mod commands;
 mod execute;
+mod find;
 pub mod laws;
 mod line;
 mod player;

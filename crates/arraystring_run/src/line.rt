@@ -5,7 +5,7 @@ ghost use Rattle.arraystring_run.specs.Line.{word as word_of, arguments, Number,
 ghost use Rattle.arraystring_run.specs.declared.commands.Command.{Command};
 
 use crate::Command;
-use memchr::memchr;
+use crate::find::find_byte;
 use std::str;
 
 /// Returns the command of a line of a script. `line` has no line feed, and the command borrows its text
@@ -34,7 +34,10 @@ fn split_at_space(text: &str) -> Option<(&str, &str)>
     ensures some { IfSome result (λ parts. (text.now ≡ parts.0.now ++ space ∷ parts.1.now) × IsOneWord parts.0.now) }
     ensures none { IfNone result (IsOneWord text.now) }
 {
-    let end = memchr(b' ', text.as_bytes())?;
+    let end = find_byte(b' ', text.as_bytes());
+    if end == text.len() {
+        return None;
+    }
     Some((&text[..end], &text[end + 1..]))
 }
 

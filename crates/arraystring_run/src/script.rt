@@ -1,15 +1,15 @@
 //! The commands of a script.
-ghost use Rattle.std.specs.Prelude.{◌≡◌, ◌≢◌, ◌<◌, ◌≤◌, ℕ, length, IfSome, IfNone, IfOk, IfErr, slice_index, slice_range};
+ghost use Rattle.std.specs.Prelude.{◌≡◌, ◌≢◌, ◌≤◌, length, IfSome, IfNone, IfOk, IfErr, slice_range};
 ghost use Rattle.std.specs.Str.{IsCharBoundary};
 ghost use Rattle.arraystring_run.specs.Line.{IsLineOf};
-ghost use Rattle.arraystring_run.specs.ScriptLines.{lines, line_feed, AreLinesOf, IsBadAt};
+ghost use Rattle.arraystring_run.specs.ScriptLines.{lines, AreLinesOf, IsBadAt};
 ghost use Rattle.arraystring_run.specs.Player.{IfBadLine};
 ghost use Rattle.arraystring_run.specs.declared.commands.Command.{Command};
 
 use crate::Command;
+use crate::find::find_byte;
 use crate::line::command_of_text;
 use crate::player::PlayFault;
-use memchr::memchr;
 use std::alloc::Global;
 use std::str;
 
@@ -25,7 +25,7 @@ pub(crate) fn parse_script(alloc: Global, script: &[u8]) -> Result<Vec<Command<'
     let mut number = 0usize;
     while start < script.len() {
         number += 1;
-        let end = start + line_len(&script[start..]);
+        let end = start + find_byte(b'\n', &script[start..]);
         let Some(command) = command_between(script, text, start, end) else {
             return Err(PlayFault::BadLine(number));
         };
@@ -35,16 +35,6 @@ pub(crate) fn parse_script(alloc: Global, script: &[u8]) -> Result<Vec<Command<'
         start = end + 1;
     }
     Ok(commands)
-}
-
-/// How many bytes there are before the first line feed; all if there is none.
-#[inline(always)]
-fn line_len(bytes: &[u8]) -> usize
-    ensures at_most { result ≤ length bytes.now }
-    ensures found { result < length bytes.now → slice_index bytes.now result ≡ line_feed }
-    ensures before { (i : ℕ) → i < result → slice_index bytes.now i ≢ line_feed }
-{
-    memchr(b'\n', bytes).unwrap_or(bytes.len())
 }
 
 /// The command of the line from `start` to `end`. `text` is the whole script as a text, if it is UTF-8. Then

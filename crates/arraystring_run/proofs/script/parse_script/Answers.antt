@@ -91,7 +91,7 @@ loop-start-init c =
 
 pub returns-in_default-clause-bad_line : goal.returns-in_default-clause-bad_line
 returns-in_default-clause-bad_line c =
-    let found = c.line_len.ensures in
+    let found = c.find_byte.ensures in
     read-bad (next-line _ _ _ c.loop-start.invariant.read c.loop-start-test.true found.at_most found.found found.before) c.in_default.ensures.none
 
 pub loop-start-preserved : goal.loop-start-preserved
@@ -99,7 +99,7 @@ loop-start-preserved c =
     let bs = c.args.script.now in
     let start = c.loop-start.start in
     let way = c.loop-start.invariant in
-    let found = c.line_len.ensures in
+    let found = c.find_byte.ensures in
     let here = next-line _ _ _ way.read c.loop-start-test.true found.at_most found.found found.before in
     let pushed : c.push.new.self.items ≡ c.loop-start.commands.items ++ c.in-Some.command ∷ [] = search rules in
     record {
@@ -107,7 +107,7 @@ loop-start-preserved c =
       within = omega (arith, length-take (length bs - start) (drop start bs), length-drop start bs);
       read = rw pushed (read-more here c.in-Some.command c.in-Some.ensures.some);
       text = way.text;
-      boundary = after-line_feed bs start c.line_len.result found.found;
+      boundary = after-line_feed bs start c.find_byte.result found.found;
     }
 
 pub returns-clause-accepted : goal.returns-clause-accepted
