@@ -2,6 +2,7 @@
 //! moves in MOVING.md, which says of the others what to write, and those of the faults in docs/differences.md. Then the tables of
 //! moves from arrayvec, heapless and `String`: what is said of `String` and of this crate is run.
 
+use std::collections::{BTreeMap, BTreeSet};
 use std::fmt::{Debug, Display, Write};
 use std::hash::Hash;
 use std::iter::FusedIterator;
@@ -368,7 +369,11 @@ fn what_the_same_code_leaves_in_other_places() -> Result<(), std::convert::Infal
     let mut s = Name::from("ab");
     s.extend("cde".chars());
     let units: Vec<u16> = "abcde".encode_utf16().collect();
-    assert_eq!((s.as_str(), Name::from_utf16(units).as_deref()), ("abcd", Ok("abcd")));
+    assert_eq!((s.as_str(), Name::from_utf16(&units).as_deref()), ("abcd", Ok("abcd")));
+    let lossy = (Name::from_utf8_lossy("abcde"), Name::from_utf16_lossy(&units), Name::from("ab") + "cde");
+    assert_eq!((lossy.0.as_str(), lossy.1.as_str(), lossy.2.as_str()), ("abcd", "abcd", "abcd"));
+    let lone = |at: usize| [&units[..at], &[0xD800], &units[at..]].concat();
+    assert_eq!((Name::from_utf16(lone(4)), Name::from_utf16(lone(5))), (Err(Utf16), Ok(Name::from("abcd"))));
     Ok(())
 }
 
@@ -402,6 +407,26 @@ fn what_a_string_inside_prints() {
     assert_eq!(format!("{:?}", Some(name)), r#"Some(ArrayString { array: "ab", size: 2 })"#);
     assert_eq!(format!("{:?} {:?}", Some(name).as_deref(), Padded(name)), r#"Some("ab") Padded { name: "ab" }"#);
     assert_eq!(format!("{:_>4} {:_>4}", Shown(name), Padded(name)), "ab __ab");
+}
+
+/// An `Option`, a `Result`, a map and a set of strings, of which a lookup lends one.
+#[test]
+fn what_a_string_in_a_collection_prints() {
+    type Name = ArrayString<4>;
+    let map: BTreeMap<Name, CacheString> = [("ab".into(), "cd".into())].into();
+    let (list, set) = ([Name::from("ab")], BTreeSet::from([Name::from("ab")]));
+    assert_eq!(format!("{:?}", list.first()), r#"Some(ArrayString { array: "ab", size: 2 })"#);
+    assert_eq!(format!("{:?}", list.first().as_ref().map(|name| name.as_str())), r#"Some("ab")"#);
+    assert_eq!(format!("{:?}", map.get("ab").as_ref().map(|name| name.as_str())), r#"Some("cd")"#);
+    let found: [Result<&Name, Error>; 2] = [list.first().ok_or(Error::OutOfBounds), Err(Error::Utf8)];
+    assert_eq!(format!("{:?}", found[0].as_ref().map(|name| name.as_str())), r#"Ok("ab")"#);
+    assert_eq!(format!("{:?}", found[1].as_ref().map(|name| name.as_str())), "Err(Error::Utf8)");
+    let made = (Some(CacheString::from("ab")), Name::try_from_str("abcde"));
+    assert_eq!(format!("{:?}", made.0.as_ref().map(|name| name.as_str())), r#"Some("ab")"#);
+    assert_eq!(format!("{:?}", made.1.as_ref().map(|name| name.as_str())), "Err(OutOfBounds)");
+    let shown = map.iter().map(|(k, v)| (k.as_str(), v.as_str())).collect::<BTreeMap<_, _>>();
+    assert_eq!(format!("{shown:?}"), r#"{"ab": "cd"}"#);
+    assert_eq!(format!("{:?}", set.iter().map(|k| k.as_str()).collect::<BTreeSet<_>>()), r#"{"ab"}"#);
 }
 
 fn lengths_are_added(table: &mut Table) {
@@ -452,8 +477,9 @@ impl<const N: usize> Elsewhere for ArrayString<N> {}
 /// The second column of the table of what does not compile or is warned of, behind that of whose call it is.
 const WRITTEN: usize = 1;
 
+/// The `?` of each row compiles where `Error` is returned.
 #[test]
-fn what_does_not_compile_is_written_in_another_way() -> Result<(), Box<dyn std::error::Error>> {
+fn what_does_not_compile_is_written_in_another_way() -> Result<(), Error> {
     type Name = ArrayString<4>;
     let (mut table, at) = (Table::below("| Code | Of | Here |"), 1usize);
     let mut s = Name::from("ab");
@@ -463,12 +489,7 @@ fn what_does_not_compile_is_written_in_another_way() -> Result<(), Box<dyn std::
     written!(table.row("s.insert(1, 'c')"), WRITTEN, s.try_insert(1, 'c')?);
     assert_eq!(s, "acbc");
     s = Name::from("ab");
-    written!(table.row("s.push_str(\"c\").unwrap()"), WRITTEN, s.try_push_str("c").unwrap());
-    assert_eq!(s, "abc");
-    let row = table.row("s.try_push_str(\"cde\").map_err(CapacityError::element)");
-    assert_eq!(written!(row, WRITTEN, s.try_push_str("cde").or(Err("cde"))), Err("cde"));
-    written!(table.row("s.try_push_str(\"c\")?"), WRITTEN, s.try_push_str("c").map_err(Error::from)?);
-    assert_eq!(s, "abcc");
+    refusals_are_written_in_another_way(&mut table, s)?;
     makes_are_written_in_another_way(&mut table, at)?;
     s = Name::from("ab");
     assert_eq!(written!(table.row("s.capacity()"), WRITTEN, Name::capacity()), 4);
@@ -490,7 +511,10 @@ fn what_does_not_compile_is_written_in_another_way() -> Result<(), Box<dyn std::
     assert!(written!(table.row("s.remove(0) == 'a'"), WRITTEN, s.remove(0)? == 'a'));
     s = Name::from("ab");
     let row = table.row("s.drain(..at).collect::<String>()");
-    assert_eq!(written!(row, WRITTEN, s.drain(..u8::try_from(at)?)?.collect::<String>()), "a");
+    assert_eq!(
+        written!(row, WRITTEN, s.drain(..u8::try_from(at).or(Err(Error::OutOfBounds))?)?.collect::<String>()),
+        "a"
+    );
     s = Name::from("ab");
     assert_eq!((s.insert_str(1, "cde"), s.as_str()), (Ok(()), "acdb"));
     s = Name::from("ab");
@@ -500,8 +524,12 @@ fn what_does_not_compile_is_written_in_another_way() -> Result<(), Box<dyn std::
     assert_eq!((written!(table.row("s.split_off(1)"), WRITTEN, s.split_off(1)?).as_str(), s.as_str()), ("b", "c"));
     s = Name::from(" ab ");
     assert!(written!(table.row("s.trim() == \"ab\""), WRITTEN, s.as_str().trim() == "ab"));
-    s.trim();
+    let () = s.trim();
     assert_eq!(s, "ab");
+    let row = table.row("s.as_bytes()[i]");
+    for i in 0..s.len() {
+        assert_eq!(written!(row, WRITTEN, s.as_bytes()[usize::from(i)]), b"ab"[usize::from(i)]);
+    }
     assert_eq!(written!(table.row("s.into_bytes()"), WRITTEN, s.as_bytes()), b"ab");
     // SAFETY: the bytes are looked at, and stay as they are.
     assert_eq!(written!(table.row("unsafe { s.as_mut_vec() }"), WRITTEN, unsafe { s.as_bytes_mut() }), b"ab");
@@ -509,13 +537,28 @@ fn what_does_not_compile_is_written_in_another_way() -> Result<(), Box<dyn std::
     Ok(())
 }
 
+/// The rows of what is added, of which each string of the others refuses too much with an error of its own.
+fn refusals_are_written_in_another_way(table: &mut Table, mut s: ArrayString<4>) -> Result<(), Error> {
+    written!(table.row("s.push_str(\"c\").unwrap()"), WRITTEN, s.try_push_str("c").unwrap());
+    assert_eq!(s, "abc");
+    let row = table.row("s.try_push_str(\"cde\").map_err(CapacityError::element)");
+    assert_eq!(written!(row, WRITTEN, s.try_push_str("cde").or(Err("cde"))), Err("cde"));
+    s = ArrayString::from("a");
+    written!(table.row("s.try_push_str(\"c\")?"), WRITTEN, s.try_push_str("c").map_err(Error::from)?);
+    written!(table.row("s.try_push('c')?"), WRITTEN, s.try_push('c').map_err(Error::from)?);
+    written!(table.row("s.push_str(\"c\")?"), WRITTEN, s.try_push_str("c").map_err(Error::from)?);
+    assert_eq!(s, "accc");
+    Ok(())
+}
+
 /// The rows of constructors.
-fn makes_are_written_in_another_way(table: &mut Table, at: usize) -> Result<(), Box<dyn std::error::Error>> {
+fn makes_are_written_in_another_way(table: &mut Table, at: usize) -> Result<(), Error> {
     type Name = ArrayString<4>;
     let text = String::from("ab");
     let row = table.row("Name::from(\"ab\").unwrap()");
     assert_eq!(written!(row, WRITTEN, Name::try_from_str("ab").unwrap()), "ab");
     assert_eq!(written!(table.row("Name::from(text)"), WRITTEN, Name::try_from_str(text.as_str())?), "ab");
+    assert_eq!(written!(table.row("Name::from(&text)"), WRITTEN, Name::try_from_str(&text)?), "ab");
     assert_eq!(written!(table.row("text.into()"), WRITTEN, Name::try_from_str(text)?), "ab");
     assert_eq!(written!(table.row("Name::new_const()"), WRITTEN, Name::new()), "");
     assert_eq!(written!(table.row("Name::with_capacity(at)"), WRITTEN, Name::new()), "");

@@ -90,8 +90,15 @@ impl From<CapacityError<&str>> for Refused {
     }
 }
 
+impl From<CapacityError<char>> for Refused {
+    fn from(_: CapacityError<char>) -> Self {
+        Refused
+    }
+}
+
 fn is_refused_as_its_own(table: &mut Table, s: &mut Name) -> Result<(), Refused> {
     is_of!(table, "arrayvec", s.try_push_str("c")?);
+    is_of!(table, "arrayvec", s.try_push('c')?);
     Ok(())
 }
 
@@ -104,9 +111,13 @@ fn what_does_not_compile_beside_it_compiles_here() {
     table.row("s.push_str(\"c\").unwrap()").says(0, "heapless");
     let () = s.push_str("c");
     assert_eq!(is_of!(table, "arrayvec", s.try_push_str("cde").map_err(CapacityError::element)), Err("cde"));
+    s.clear();
     assert!(is_refused_as_its_own(&mut table, &mut s).is_ok());
+    table.row("s.push_str(\"c\")?").says(0, "heapless");
     s = is_of!(table, "arrayvec", Name::from("ab").unwrap());
     table.row("Name::from(text)").says(0, "String");
+    let text = String::from("ab");
+    assert_eq!(is_of!(table, "arrayvec, `String`", Name::from(&text)).as_deref(), Ok("ab"));
     table.row("text.into()").says(0, "String");
     assert_eq!(is_of!(table, "arrayvec", Name::new_const()).as_str(), "");
     table.row("Name::with_capacity(at)").says(0, "String");
@@ -136,6 +147,8 @@ fn what_does_not_compile_beside_it_compiles_here() {
     table.row("s.split_off(1)").says(0, "String");
     s = Name::from(" ab ").expect("it fits");
     assert!(is_of!(table, "all three", s.trim() == "ab"));
+    let i = s.len() - 3;
+    assert_eq!(is_of!(table, "all three", s.as_bytes()[i]), b'a');
     table.row("s.into_bytes()").says(0, "heapless, `String`");
     table.row("unsafe { s.as_mut_vec() }").says(0, "heapless, `String`");
     table.assert_all_met();

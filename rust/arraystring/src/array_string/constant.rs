@@ -48,7 +48,7 @@ macro_rules! arraystring {
 ///
 /// # Errors
 ///
-/// Returns `Err(fmt::Error)` if not all of it fits, or if a `Display` in it fails.
+/// Returns [`Err(fmt::Error)`](core::fmt::Error) if not all of it fits, or if a `Display` in it fails.
 ///
 /// ```
 /// use arraystring::{ArrayString, Error, try_format};

@@ -55,7 +55,7 @@ impl<const N: usize> ArrayString<N> {
     ///
     /// # Errors
     ///
-    /// Returns `Err(fmt::Error)` if not all of it fits, or if a `Display` in it fails.
+    /// Returns [`Err(fmt::Error)`](core::fmt::Error) if not all of it fits, or if a `Display` in it fails.
     ///
     /// # Examples
     ///
@@ -132,7 +132,7 @@ impl CacheString {
     ///
     /// # Errors
     ///
-    /// Returns `Err(fmt::Error)` if not all of it fits, or if a `Display` in it fails.
+    /// Returns [`Err(fmt::Error)`](core::fmt::Error) if not all of it fits, or if a `Display` in it fails.
     ///
     /// # Examples
     ///

@@ -15,8 +15,8 @@ impl<const N: usize> ArrayString<N> {
     ///
     /// # Errors
     ///
-    /// Returns `Err(fmt::Error)` if not all of it fits, or if a `Display` in it fails. The text is then unchanged. It is so, too,
-    /// where a `Display` panics.
+    /// Returns [`Err(fmt::Error)`](core::fmt::Error) if not all of it fits, or if a `Display` in it fails. The text is then
+    /// unchanged. It is so, too, where a `Display` panics.
     ///
     /// # Examples
     ///
@@ -55,8 +55,8 @@ impl<const N: usize> ArrayString<N> {
     ///
     /// # Errors
     ///
-    /// Returns `Err(fmt::Error)` if a `Display` in it fails before anything is cut off. The text is then unchanged. It is so, too,
-    /// where a `Display` panics.
+    /// Returns [`Err(fmt::Error)`](core::fmt::Error) if a `Display` in it fails before anything is cut off. The text is then
+    /// unchanged. It is so, too, where a `Display` panics.
     ///
     /// # Examples
     ///
