@@ -1,8 +1,8 @@
 // By hand: no proof stands behind this file.
 //! How to read a contract.
 //!
-//! Each proved call folds out its *Contract*: what is proved of it, in the language of the proofs. A program needs none of it: the words,
-//! errors and examples of the call stand above. This page explains each word of the contracts of public calls. It leaves out the
+//! Each proved call folds out its *Contract*: what is proved of its source, in the language of the proofs. A program needs none of it: the
+//! words, errors and examples of the call stand above. This page explains each word of the contracts of public calls. It leaves out the
 //! names in the call's own signature, and those that the contract itself gives: `λ x.`, `let x =` and `(x : List ℕ)`.
 //!
 //! - `requires { .. }` is a precondition: it holds when the call is made. `ensures { .. }` holds when the call returns. A name

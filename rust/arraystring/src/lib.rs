@@ -1,10 +1,6 @@
 // Proved sources: crates/arraystring/src/lib.rt
+#![doc = "[FEATURES.md]: features\n[MOVING.md]: moving\n[TRUST.md]: trust\n"]
 #![doc = include_str!("../README.md")]
-//!
-//! # Pages
-//!
-//! [`features`] says what each feature adds, [`moving`] what to write in place of calls of other strings, [`contracts`] how to read a
-//! contract, and [`trust`] what is proved and what has to be trusted.
 #![no_std]
 #![cfg_attr(docsrs, feature(doc_cfg))]
 #![deny(unsafe_op_in_unsafe_fn, missing_docs)]

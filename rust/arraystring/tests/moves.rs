@@ -234,7 +234,7 @@ fn panics_and_errors() {
     assert_eq!(Box::<dyn std::error::Error>::from(OutOfBounds).to_string(), "OutOfBounds");
 }
 
-/// The table of what is as in 0.3.0, and is easily missed.
+/// What is as in 0.3.0, and is easily missed.
 #[test]
 #[allow(clippy::unnecessary_fallible_conversions, reason = "that it can't fail is what is shown")]
 fn what_is_easily_missed() {
