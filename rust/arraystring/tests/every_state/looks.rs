@@ -104,7 +104,7 @@ fn is_beside<const N: usize>(string: &ArrayString<N>, text: &str, other: &str) {
 }
 
 #[test]
-fn strings_beside_texts() {
+fn each_string_is_compared_with_each_text() {
     fn beside<const N: usize>() -> (usize, usize) {
         let mut made = 0;
         let texts = texts(&WIDTHS, N + 2);
