@@ -21,13 +21,6 @@ use arraystring::{ArrayString, MaxString};
 use crate::at_capacity;
 use crate::rows::{column, hash_of, parsed, returned, rows};
 
-/// The calls of the tables.
-const CALLS: &str = "add as_bytes capacity clear clone cmp drain extend_chars extend_strs get hash insert_str insert_str_unchecked \
-                     insert_unchecked is_char_boundary len make_ascii_lowercase make_ascii_lowercase_in make_ascii_uppercase \
-                     make_ascii_uppercase_in pop push_str push_str_unchecked push_unchecked remove replace_range retain_in_turn \
-                     retain_without slice split_off trim trim_spaces truncate try_insert try_insert_str try_push try_push_str \
-                     write_str";
-
 /// The calls that rows have made.
 static MADE: Mutex<BTreeSet<String>> = Mutex::new(BTreeSet::new());
 
@@ -36,15 +29,22 @@ fn plain(call: &str) -> &str {
     call.strip_suffix("_counted").unwrap_or(call)
 }
 
+/// The calls of the tables: those with an arm in a function below `make`.
+fn calls() -> impl Iterator<Item = &'static str> {
+    let (_, below) = include_str!("calls.rs").split_once("\nfn make<").expect("the function");
+    let arms = below.lines().filter(|line| line.trim_start().starts_with('"')).filter_map(|line| line.split_once("=>"));
+    arms.flat_map(|(names, _)| names.split('"').skip(1).step_by(2))
+}
+
 /// Whether this is the name of a call of the tables.
 pub fn is_call(name: &str) -> bool {
-    CALLS.split(' ').any(|known| known == plain(name))
+    calls().any(|known| known == plain(name))
 }
 
 /// The calls of the tables that no row has made.
 pub fn not_made() -> Vec<&'static str> {
     let made = MADE.lock().expect("no panic");
-    CALLS.split(' ').filter(|name| !made.contains(*name)).collect()
+    calls().filter(|name| !made.contains(*name)).collect()
 }
 
 /// Makes the calls of blocks. The line over a block is `# 8 | what it shows`, where 8 is the capacity.
@@ -106,7 +106,6 @@ fn hold_from<const N: usize>(table: &str, string: impl Fn(&str) -> ArrayString<N
 
 /// Makes a call, and asserts what it returns.
 fn make<const N: usize>(text: &mut ArrayString<N>, call: &str, row: &str) {
-    assert!(is_call(call), "no call of the tables: {call} in {row}");
     let call = plain(call);
     let is_made =
         whole(text, call, row) || compared(text, call, row) || at_index(text, call, row) || in_range(text, call, row);
