@@ -10,31 +10,18 @@ use arraystring::{ArrayString, CacheString, Drain, MaxString, SmallString};
 use crate::at_capacity;
 use crate::rows::{Table, column, hash_of, parsed, returned, rows};
 
-/// The players, and how many rows they play at least.
-pub const PLAYERS: &[(&str, usize)] = &[
-    ("check_comparisons", 4),
-    ("check_cuts", 18),
-    ("check_orders", 6),
-    ("check_reading", 18),
-    ("check_trims", 23),
-    ("check_units", 9),
-    ("check_walks", 7),
-];
+/// A player: its name, how many rows it plays at least, and what plays a table and returns how many rows it has played.
+type Player = (&'static str, usize, fn(&Table) -> usize);
 
-/// Plays a table, where its player is one of these, and returns how many rows it has played.
-pub fn play(table: &Table) -> Option<usize> {
-    let text = table.text.as_str();
-    Some(match table.player.as_str() {
-        "check_comparisons" => comparisons(text),
-        "check_cuts" => cuts(text),
-        "check_orders" => at_capacity!(table.capacity.unwrap_or(255), orders, text, 63 128 255),
-        "check_reading" => reading(text),
-        "check_trims" => trims(text),
-        "check_units" => units(text),
-        "check_walks" => walks(text),
-        _ => return None,
-    })
-}
+pub const PLAYERS: &[Player] = &[
+    ("check_comparisons", 4, |table| comparisons(&table.text)),
+    ("check_cuts", 18, |table| cuts(&table.text)),
+    ("check_orders", 6, |table| at_capacity!(table.capacity.unwrap_or(255), orders, &table.text, 63 128 255)),
+    ("check_reading", 18, |table| reading(&table.text)),
+    ("check_trims", 23, |table| trims(&table.text)),
+    ("check_units", 9, |table| units(&table.text)),
+    ("check_walks", 7, |table| walks(&table.text)),
+];
 
 /// How bytes among letters are read. The columns are, in hexadecimal but for the last,
 ///
