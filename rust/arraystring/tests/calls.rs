@@ -1,5 +1,4 @@
-//! One list of calls, by the compiler: each public function of the sources is tried on every small string or by a table, and stands on
-//! the page of the crate.
+//! Each public function of the sources is tried on every small string or by a table. The page of the crate names none that is gone.
 
 use std::collections::BTreeSet;
 use std::fs;
@@ -14,16 +13,6 @@ const TRIED_ELSEWHERE: &[(&str, &str)] = &[
     ("serialize", "rust/with_serde of the repository"),
     ("try_from_format", "tests/by_hand/made.rs, and tests/both.rs of both types"),
 ];
-
-/// What the page does not name, and why.
-const OFF_THE_PAGE: &[(&str, &str)] = &[
-    ("deserialize", "the page has `with = \"arraystring::cut\"`, which calls it"),
-    ("of_constant", "the page has `arraystring!`, which calls it"),
-    ("serialize", "the page has `with = \"arraystring::cut\"`, which calls it"),
-];
-
-/// What else the list of calls names.
-const OTHER_WORDS: &[&str] = &["checked", "const", "split_at_mut", "str", "unsafe", "utf16", "utils"];
 
 /// The texts of the files below a folder.
 fn texts(folder: &Path) -> Vec<String> {
@@ -45,36 +34,37 @@ fn public_function(line: &str) -> Option<&str> {
     name.split(['(', '<']).next()
 }
 
-/// The functions that lack a word, but those of a list, of which each is one that lacks it.
-fn lacking<'a>(calls: &BTreeSet<&'a str>, words: &BTreeSet<&str>, listed: &[(&'a str, &str)]) -> Vec<&'a str> {
-    let lacking: BTreeSet<_> = calls.iter().copied().filter(|call| !words.contains(call)).collect();
-    let listed = listed.iter().map(|(call, _)| *call).collect();
-    lacking.symmetric_difference(&listed).copied().collect()
+/// The names of the public functions of some sources.
+fn public_functions(sources: &[String]) -> BTreeSet<&str> {
+    let calls: BTreeSet<_> = sources.iter().flat_map(|text| text.lines()).filter_map(public_function).collect();
+    assert!(["get", "try_from_format", "shift", "as_str"].iter().all(|call| calls.contains(call)), "{calls:?}");
+    calls
 }
 
 #[test]
-fn each_public_call_is_tried_and_stands_on_the_page() {
+fn each_public_call_is_tried() {
     let sources = texts(Path::new("src"));
-    let calls: BTreeSet<_> = sources.iter().flat_map(|text| text.lines()).filter_map(public_function).collect();
-    assert!(["get", "try_from_format", "shift", "as_str"].iter().all(|call| calls.contains(call)), "{calls:?}");
     // (the package has no tables)
     let folders = ["tests/every_state", "tests/tables"].map(Path::new).into_iter().filter(|folder| folder.exists());
     let tests: Vec<_> = folders.flat_map(texts).collect();
-    let tried = tests.iter().flat_map(|text| words(text)).collect();
-    assert_eq!(
-        lacking(&calls, &tried, TRIED_ELSEWHERE),
-        [""; 0],
-        "neither tests/every_state nor tests/tables makes these, or their entry fits nothing"
+    let tried: BTreeSet<_> = tests.iter().flat_map(|text| words(text)).collect();
+    let untried: BTreeSet<_> = public_functions(&sources).into_iter().filter(|call| !tried.contains(call)).collect();
+    let elsewhere = TRIED_ELSEWHERE.iter().map(|(call, _)| *call).collect();
+    let wrong: Vec<_> = untried.symmetric_difference(&elsewhere).collect();
+    assert!(
+        wrong.is_empty(),
+        "neither tests/every_state nor tests/tables makes these, or their entry fits nothing: {wrong:?}"
     );
-    let page = fs::read_to_string("README.md").expect("a text");
-    assert!(page.contains("The `.._unchecked` calls are `unsafe`."), "so the page has these, too");
-    let named = words(&page).chain(calls.iter().copied().filter(|call| call.ends_with("_unchecked"))).collect();
-    assert_eq!(lacking(&calls, &named, OFF_THE_PAGE), [""; 0], "the page lacks these, or their entry fits nothing");
-    let (_, list) = page.split_once("\n## The calls\n").expect("a list of calls");
-    let (list, _) = list.split_once("\n## ").expect("another part");
-    let rows = list.lines().filter(|line| line.starts_with(['-', ' ']));
-    let is_name = |code: &&str| code.chars().all(|ch| ch.is_ascii_lowercase() || ch.is_ascii_digit() || ch == '_');
-    let listed: BTreeSet<_> = rows.flat_map(|row| row.split('`').skip(1).step_by(2)).filter(is_name).collect();
-    let others = listed.iter().copied().filter(|code| !calls.contains(code));
-    assert_eq!(others.collect::<Vec<_>>(), OTHER_WORDS, "the page has these, and no source");
+}
+
+/// This looks at the names with a `_` in them, as most calls have.
+#[test]
+fn the_page_names_no_call_that_is_gone() {
+    let (sources, page) = (texts(Path::new("src")), fs::read_to_string("README.md").expect("a text"));
+    let is_letter = |ch: char| ch == '_' || ch.is_ascii_lowercase() || ch.is_ascii_digit();
+    let names = page.split('`').filter(|code| code.contains('_') && code.chars().all(is_letter));
+    let named: BTreeSet<_> = names.collect();
+    assert!(named.contains("push_str"), "{named:?}");
+    let others: Vec<_> = named.difference(&public_functions(&sources)).copied().collect();
+    assert_eq!(others, ["try_from"], "which is a call of std");
 }

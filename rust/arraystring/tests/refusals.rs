@@ -137,6 +137,32 @@ fn refuse_what_is_no_text() -> Vec<Refusal> {
 }
 
 const CUT: &str = "| To | Cuts | Refuses |";
+const ERRORS: &str = "| Error | Returned by | It means |";
+
+/// The safe calls of a string that have one of some words in their signature, by the sources.
+fn calls_with(words: &[&str]) -> Vec<String> {
+    let files = fs::read_dir("src/array_string").expect("a folder").map(|file| file.expect("a file").path());
+    let sources: String = files.map(|path| fs::read_to_string(path).expect("a text")).collect();
+    let safe = sources.split("\n    pub ").filter_map(|item| item.trim_start_matches("const ").strip_prefix("fn "));
+    let signatures = safe.filter_map(|item| item.split_once('{')?.0.split_once(['<', '(']));
+    let found = signatures.filter(|(_, rest)| words.iter().any(|word| rest.contains(word)));
+    found.map(|(name, _)| name.to_string()).collect()
+}
+
+#[test]
+fn each_call_that_is_given_a_text_or_returns_an_error_is_in_its_table() {
+    let given = &["AsRef<", "IntoIterator<", "ch: char", "Arguments<"];
+    let tables = [
+        (given.as_slice(), [column(CUT, 1), column(CUT, 2)].concat()),
+        (&["Result<", "fmt::Result"], column(ERRORS, 1)),
+    ];
+    for (words, listed) in tables {
+        let calls = calls_with(words);
+        assert!(calls.len() > 20, "{calls:?}");
+        let missing: Vec<_> = calls.iter().filter(|call| !listed.contains(call)).collect();
+        assert!(missing.is_empty(), "the table lacks {missing:?}");
+    }
+}
 
 #[test]
 fn what_the_page_says_cuts_leaves_what_fits() {
@@ -171,9 +197,8 @@ fn short(name: &str) -> &str {
 
 #[test]
 fn each_call_refuses_with_what_the_page_says() {
-    let head = "| Error | Returned by | It means |";
     let mut listed: Vec<(String, String)> = Vec::new();
-    for row in rows(head) {
+    for row in rows(ERRORS) {
         let [error, ..] = codes(&row[0])[..] else { panic!("no error in {row:?}") };
         listed.extend(codes(&row[1]).iter().map(|call| (call.to_string(), error.to_string())));
     }
