@@ -1,5 +1,5 @@
-//! The tables of README.md on what cuts and what refuses, and the rule of it at the type: each call that they name is made here with
-//! a text that does not fit, or is none, and answers as they say.
+//! The tables of README.md on what cuts and what refuses, and the rule of it at the type: no call of a string is missing there, and each
+//! that they name is made here with a text that does not fit, or is none, and answers as they say.
 
 use std::any::type_name;
 use std::fmt::{self, Write};
