@@ -151,9 +151,8 @@ fn calls_with(words: &[&str]) -> Vec<String> {
 
 #[test]
 fn each_call_that_is_given_a_text_or_returns_an_error_is_in_its_table() {
-    let given = &["AsRef<", "IntoIterator<", "ch: char", "Arguments<"];
-    let tables = [
-        (given.as_slice(), [column(CUT, 1), column(CUT, 2)].concat()),
+    let tables: [(&[&str], _); 2] = [
+        (&["AsRef<", "IntoIterator<", "ch: char", "Arguments<"], [column(CUT, 1), column(CUT, 2)].concat()),
         (&["Result<", "fmt::Result"], column(ERRORS, 1)),
     ];
     for (words, listed) in tables {
