@@ -1,7 +1,7 @@
 //! The private calls that append: what an iterator gives, and what is added to a text that begins past offset 0.
 ghost use Rattle.std.specs.Prelude.{◌≡◌, ◌+◌, ◌-◌, ◌<◌, ◌≤◌, ◌↔◌, [], ◌∷◌, ◌++◌, IsTrue, chars, ℕ, List, MatchResult, Ok};
 ghost use Rattle.arraystring_base.specs.Text.{size, width, cap, cut};
-ghost use Rattle.arraystring_core.specs.Edits.{Makes, from_out_of_bounds, addition, addition_of_cut};
+ghost use Rattle.arraystring_core.specs.Edits.{Makes, addition_of_cut};
 ghost use Rattle.std.specs.Borrow.{Bor};
 ghost use Rattle.std.specs.Iterator.{IsFiniteIterable};
 ghost use Rattle.arraystring_core.specs.Taken.{Takes, joined_pieces};
@@ -19,48 +19,40 @@ impl<const N: usize> ArrayString<N> {
         ensures { IsTrue result ↔ (len + width ch ≤ cap N) }
     {
         let capacity = Self::capacity() as usize;
-        if (ch as u32) < 0x80 {
+        if ch.is_ascii() {
             return len < capacity;
         }
         len + 4 <= capacity || len + ch.len_utf8() <= capacity
     }
 
-    /// Appends `ch` to a text that has to move to the start of the array for it, if it fits then. It stands
-    /// apart from `try_push`, each of whose calls would be longer.
+    /// Moves the text to the start of the array, and appends `ch`. It stands apart from `try_push`, each of
+    /// whose calls would be longer.
     #[cold]
     #[inline(never)]
-    pub(super) fn compact_and_push(&mut self, ch: char) -> Result<(), OutOfBounds>
-        ensures { Makes (addition self.old.text (ch ∷ []) (cap N))
-            self.old.text (from_out_of_bounds result) self.new.text }
+    pub(super) fn compact_and_push(&mut self, ch: char)
+        requires { size self.old.text + width ch ≤ cap N }
+        ensures { self.new.text ≡ self.old.text ++ (ch ∷ []) }
     {
         let (start, size) = (self.start as usize, self.size as usize);
-        if !Self::has_room(size, ch) {
-            return Err(OutOfBounds);
-        }
         shift(&mut self.array, start, 0, size, &mut Steps::new());
         let width = encode(ch, &mut self.array, size);
         self.start = 0;
         self.size += width as u8;
-        Ok(())
     }
 
-    /// Appends `string` to a text that has to move to the start of the array for it, if it fits then. It
-    /// stands apart from `try_push_str`, as `compact_and_push` does from `try_push`.
+    /// Moves the text to the start of the array, and appends `string`. It stands apart from `try_push_str`, as
+    /// `compact_and_push` does from `try_push`.
     #[cold]
     #[inline(never)]
-    pub(super) fn compact_and_push_str(&mut self, string: &str) -> Result<(), OutOfBounds>
-        ensures { Makes (addition self.old.text (chars string.now) (cap N))
-            self.old.text (from_out_of_bounds result) self.new.text }
+    pub(super) fn compact_and_push_str(&mut self, string: &str)
+        requires { size self.old.text + size (chars string.now) ≤ cap N }
+        ensures { self.new.text ≡ self.old.text ++ chars string.now }
     {
         let (from, size) = (self.start as usize, self.size as usize);
-        if size + string.len() > Self::capacity() as usize {
-            return Err(OutOfBounds);
-        }
         self.start = 0;
         self.size += string.len() as u8;
         shift(&mut self.array, from, 0, size, &mut Steps::new());
         write_over(&mut self.array, size, string.as_bytes());
-        Ok(())
     }
 
     /// Appends what fits of `string` to a text that need not begin at the start of the array. It stands apart

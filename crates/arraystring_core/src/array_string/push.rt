@@ -23,14 +23,20 @@ impl<const N: usize> ArrayString<N> {
     {
         let end = self.end();
         if Self::has_room(end, ch) {
-            let width = encode(ch, &mut self.array, end);
-            self.size += width as u8;
+            // With one sum for all widths, a loop of pushes takes one instruction more for each character.
+            if ch.is_ascii() {
+                encode(ch, &mut self.array, end);
+                self.size += 1;
+            } else {
+                self.size += encode(ch, &mut self.array, end) as u8;
+            }
             return Ok(());
         }
-        if self.start == 0 {
+        if !Self::has_room(self.size as usize, ch) {
             return Err(OutOfBounds);
         }
-        self.compact_and_push(ch)
+        self.compact_and_push(ch);
+        Ok(())
     }
 
     /// Appends `string`.
@@ -49,10 +55,11 @@ impl<const N: usize> ArrayString<N> {
             write_over(&mut self.array, end, string.as_bytes());
             return Ok(());
         }
-        if self.start == 0 {
+        if self.size as usize + string.len() > Self::capacity() as usize {
             return Err(OutOfBounds);
         }
-        self.compact_and_push_str(string)
+        self.compact_and_push_str(string);
+        Ok(())
     }
 
     /// Appends the longest prefix of whole characters of `string` that fits.

@@ -16,54 +16,53 @@ impl<const N: usize> ArrayString<N> {
     #[inline(always)]
     pub(super) unsafe fn has_room(len: usize, ch: char) -> bool {
         let capacity = Self::capacity() as usize;
-        if (ch as u32) < 0x80 {
+        if ch.is_ascii() {
             return len < capacity;
         }
         len + 4 <= capacity || len + ch.len_utf8() <= capacity
     }
 
-    /// Appends `ch` to a text that has to move to the start of the array for it, if it fits so. It stands
-    /// apart from `try_push`, each of whose calls would be longer.
+    /// Moves the text to the start of the array, and appends `ch`. It stands apart from `try_push`, each of
+    /// whose calls would be longer.
+    ///
+    /// # Safety
+    ///
+    /// - `self.len() + ch.len_utf8() <= Self::capacity()`
     #[expect(clippy::cast_possible_truncation, reason = "a character takes at most four bytes")]
     #[cold]
     #[inline(never)]
-    pub(super) fn compact_and_push(&mut self, ch: char) -> Result<(), OutOfBounds> {
+    pub(super) unsafe fn compact_and_push(&mut self, ch: char) {
         let (start, size) = (self.start as usize, self.size as usize);
-        // SAFETY: `size <= 255`: as the fields of `ArrayString` say, the text is not larger than the capacity.
-        if !unsafe { Self::has_room(size, ch) } {
-            return Err(OutOfBounds);
-        }
         // SAFETY: `start + size <= N`; `size <= N`: as the fields of `ArrayString` say.
         unsafe { shift_by_call(&mut self.array, start, 0, size) };
-        // SAFETY: `size + ch.len_utf8() <= N`: `has_room` returned true, and the capacity is at most `N`.
+        // SAFETY: `size + ch.len_utf8() <= N`: by this function's `# Safety`, and the capacity is at most `N`.
         let width = unsafe { encode(ch, &mut self.array, size) };
         // FIELDS: `shift_by_call` moved the text there, and `encode` wrote `ch` at its end.
         self.start = 0;
-        // FIELDS: `has_room` returned true, so the text with `ch` is at most the capacity.
+        // FIELDS: by this function's `# Safety` the text with `ch` is at most the capacity.
         self.size += width as u8;
-        Ok(())
     }
 
-    /// Appends `string` to a text that has to move to the start of the array for it, if it fits so. It
-    /// stands apart from `try_push_str`, as `compact_and_push` does from `try_push`.
-    #[expect(clippy::cast_possible_truncation, reason = "by the test above it is at most the capacity")]
+    /// Moves the text to the start of the array, and appends `string`. It stands apart from `try_push_str`, as
+    /// `compact_and_push` does from `try_push`.
+    ///
+    /// # Safety
+    ///
+    /// - `self.len() + string.len() <= Self::capacity()`
+    #[expect(clippy::cast_possible_truncation, reason = "by this function's `# Safety` it is at most the capacity")]
     #[cold]
     #[inline(never)]
-    pub(super) fn compact_and_push_str(&mut self, string: &str) -> Result<(), OutOfBounds> {
+    pub(super) unsafe fn compact_and_push_str(&mut self, string: &str) {
         let (from, size) = (self.start as usize, self.size as usize);
-        if size + string.len() > Self::capacity() as usize {
-            return Err(OutOfBounds);
-        }
         // FIELDS: `shift_by_call` moves the text there.
         self.start = 0;
-        // FIELDS: the text with `string` is at most the capacity by the test above, and `write_by_call` writes `string`
-        // at its end.
+        // FIELDS: by this function's `# Safety` the text with `string` is at most the capacity, and `write_by_call`
+        // writes `string` at its end.
         self.size += string.len() as u8;
         // SAFETY: `from + size <= N`; `size <= N`: as the fields of `ArrayString` say.
         unsafe { shift_by_call(&mut self.array, from, 0, size) };
-        // SAFETY: `size + string.as_bytes().len() <= N`: by the test above, and the capacity is at most `N`.
+        // SAFETY: `size + string.as_bytes().len() <= N`: by this function's `# Safety`, and the capacity is at most `N`.
         unsafe { write_by_call(&mut self.array, size, string.as_bytes()) };
-        Ok(())
     }
 
     /// Appends what fits of `string` to a text that need not begin at the start of the array. It stands apart

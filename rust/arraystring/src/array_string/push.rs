@@ -43,17 +43,28 @@ impl<const N: usize> ArrayString<N> {
         let end = self.end();
         // SAFETY: `end <= 255`: as the fields of `ArrayString` say, the text ends within the capacity.
         if unsafe { Self::has_room(end, ch) } {
-            // SAFETY: `end + ch.len_utf8() <= N`: `has_room` returned true, and the capacity is at most `N`.
-            let width = unsafe { encode(ch, &mut self.array, end) };
-            // FIELDS: `has_room` returned true, so the text with `ch`, which `encode` wrote at its end, ends within the
-            // capacity.
-            self.size += width as u8;
+            // With one sum for all widths, a loop of pushes takes one instruction more for each character.
+            if ch.is_ascii() {
+                // SAFETY: `end + ch.len_utf8() <= N`: `has_room` returned true, and the capacity is at most `N`.
+                unsafe { encode(ch, &mut self.array, end) };
+                // FIELDS: `has_room` returned true, so the text with `ch`, which takes one byte and which `encode` wrote
+                // at its end, ends within the capacity.
+                self.size += 1;
+            } else {
+                // SAFETY: `end + ch.len_utf8() <= N`: `has_room` returned true, and the capacity is at most `N`.
+                // FIELDS: `has_room` returned true, so the text with `ch`, which `encode` wrote at its end, ends within
+                // the capacity.
+                self.size += unsafe { encode(ch, &mut self.array, end) } as u8;
+            }
             return Ok(());
         }
-        if self.start == 0 {
+        // SAFETY: `self.size as usize <= 255`: as the fields of `ArrayString` say, the text is not larger than the capacity.
+        if !unsafe { Self::has_room(self.size as usize, ch) } {
             return Err(OutOfBounds);
         }
-        self.compact_and_push(ch)
+        // SAFETY: `self.len() + ch.len_utf8() <= Self::capacity()`: `has_room` returned true.
+        unsafe { self.compact_and_push(ch) };
+        Ok(())
     }
 
     /// Appends `string`.
@@ -97,10 +108,12 @@ impl<const N: usize> ArrayString<N> {
             unsafe { write_over(&mut self.array, end, string.as_bytes()) };
             return Ok(());
         }
-        if self.start == 0 {
+        if self.size as usize + string.len() > Self::capacity() as usize {
             return Err(OutOfBounds);
         }
-        self.compact_and_push_str(string)
+        // SAFETY: `self.len() + string.len() <= Self::capacity()`: by the test above.
+        unsafe { self.compact_and_push_str(string) };
+        Ok(())
     }
 
     /// Appends the longest prefix of whole characters of `string` that fits.

@@ -3,9 +3,9 @@ use Rattle.std.proofs.lemmas.Bool.{le-leb, leb-true, lt-ltb, ltb-true}
 use Rattle.arraystring_base.proofs.TextLaws.{width-is, width-bounds, utf8-one, length-utf8}
 use Rattle.arraystring_core.proofs.array_string.ArrayString.has_room.Goals as goal
 
-pub returns-then-ch-lt128 : goal.returns-then-ch-lt128
-returns-then-ch-lt128 g c =
-    let narrow = sym (length-utf8 c.args.ch) ∙ ap length (utf8-one c.args.ch c.if-ch-lt128.true) in
+pub returns-then-is_ascii : goal.returns-then-is_ascii
+returns-then-is_ascii g c =
+    let narrow = sym (length-utf8 c.args.ch) ∙ ap length (utf8-one c.args.ch (ltb-true _ _ (sym c.is_ascii.ensures ∙ c.if-is_ascii.true))) in
     (λ is. let below = ltb-true _ _ is in omega arith, λ fits. lt-ltb _ _ (omega arith))
 
 pub returns-then-len-capacity : goal.returns-then-len-capacity

@@ -27,7 +27,15 @@ returns-then-end-string g c =
     let ended = c.end-end.ensures.value ∙ opened-end c.self.invariant c.self.view_is in
     makes-addition _ (omega (arith, ended, size-borrowed c.utf8.string, opened-size c.self.invariant c.self.view_is)) (written g c).shown
 
-pub returns-then-self-eq0 : goal.returns-then-self-eq0
-returns-then-self-eq0 g c =
-    let ended = c.end-end.ensures.value ∙ opened-end c.self.invariant c.self.view_is in
-    refuses-addition _ (omega (arith, ended, size-borrowed c.utf8.string, opened-size c.self.invariant c.self.view_is))
+pub returns-then-self-string : goal.returns-then-self-string
+returns-then-self-string g c =
+    refuses-addition _ (omega (arith, size-borrowed c.utf8.string, opened-size c.self.invariant c.self.view_is))
+
+pub compact_and_push_str-requires : goal.compact_and_push_str-requires
+compact_and_push_str-requires g c =
+    let at_end = opened-size c.self.invariant c.self.view_is in
+    omega (arith, size-borrowed c.utf8.string, at_end)
+
+pub returns : goal.returns
+returns g c =
+    makes-addition _ (omega (arith, size-borrowed c.utf8.string, opened-size c.self.invariant c.self.view_is)) c.compact_and_push_str.ensures
