@@ -53,8 +53,7 @@ pub fn truncate_str_counted<'a>(text: &'a str, size: u8, steps: &mut Steps) -> &
     &text[..end]
 }
 
-/// The last boundary that is not past `limit`. It looks once at each byte from `limit` back to it,
-/// but for the first byte of the text.
+/// The last boundary that is not past `limit`. It looks once at each byte from `limit` back to it.
 fn last_boundary(text: &str, limit: usize, steps: &mut Steps) -> usize
     requires within { limit < length text.now }
     requires countable { steps.old.looked ≤ 2 ^ 63 }
@@ -62,15 +61,14 @@ fn last_boundary(text: &str, limit: usize, steps: &mut Steps) -> usize
     ensures boundary { IsCharBoundary text.now result }
     ensures nearest { (i : ℕ) → result < i → i ≤ limit → ¬ (IsCharBoundary text.now i) }
     ensures looked { steps.new.looked ≤ steps.old.looked + 4 }
-    ensures least { 0 < limit → steps.old.looked < steps.new.looked }
-    ensures each { 0 < result → steps.new.looked + result ≡ steps.old.looked + limit + 1 }
-    ensures counted { steps.old.looked ≤ steps.new.looked }
+    ensures each { steps.new.looked + result ≡ steps.old.looked + limit + 1 }
     ensures moved { steps.new.moved ≡ steps.old.moved }
 {
     let all = text.as_bytes();
     let mut end = limit;
-    // At most three bytes continue a character. The bound is for the compiler, which unrolls the loop.
-    while end > 0 && continues(look(all, end, steps)) && limit - end < 3 {
+    // The first byte of a text continues no character, and at most three bytes in a row do. The bound is for
+    // the compiler, which unrolls the loop.
+    while continues(look(all, end, steps)) && limit - end < 3 {
         end -= 1;
     }
     end

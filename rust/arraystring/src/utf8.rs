@@ -78,7 +78,7 @@ unsafe fn last_boundary(text: &str, limit: usize) -> usize {
     let mut end = limit;
     // At most three bytes continue a character. The bound is for the compiler, which unrolls the loop.
     // SAFETY: `end < all.len()`: `end` is at most `limit`, which is below `text.len()` by this function's `# Safety`.
-    while end > 0 && continues(*unsafe { get_unchecked!(all, end) }) && limit - end < 3 {
+    while continues(*unsafe { get_unchecked!(all, end) }) && limit - end < 3 {
         end -= 1;
     }
     end

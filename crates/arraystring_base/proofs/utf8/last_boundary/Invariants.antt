@@ -1,8 +1,8 @@
 use Rattle.std.proofs.Common.{◌≡◌, ℕ, ◌+◌, ◌<◌, ◌≤◌, IsCharBoundary}
 use Rattle.arraystring_base.proofs.utf8.last_boundary.Given as goal
 
-abbrev pub invariant-loop-end : goal.invariant-loop-end
-invariant-loop-end l = record {
+abbrev pub invariant-loop-all : goal.invariant-loop-all
+invariant-loop-all l = record {
   at_most : l.end ≤ l.limit;
   near : l.limit < l.end + 4;
   nearest : (i : ℕ) → l.end < i → i ≤ l.limit → IsCharBoundary l.text i → ⊥;
@@ -10,5 +10,5 @@ invariant-loop-end l = record {
   moves : l.steps.moved ≡ l.initial.steps.moved;
 }
 
-abbrev pub decreases-loop-end : goal.decreases-loop-end
-decreases-loop-end l = l.end
+abbrev pub decreases-loop-all : goal.decreases-loop-all
+decreases-loop-all l = l.end
