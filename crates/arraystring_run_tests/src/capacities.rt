@@ -96,35 +96,40 @@ const COMMANDS: [Command<'static>; 7] = [
     Command::Capacity,
 ];
 
-/// Plays the script, and makes the run on one full text and on two.
-fn at_capacity<const N: usize>(rt: &(impl Abort + AllocGlobal))
-    requires { N ≤ 300 }
-{
+/// Plays the script at a capacity of which `fit` bytes fit.
+fn plays_at<const N: usize>(rt: &(impl Abort + AllocGlobal), fit: u8) {
     let script = filling_script(rt);
     let mut input = script.as_bytes();
     let mut output = Vec::new(rt.alloc());
     let played = play::<N, &[u8], Vec<u8>>(rt.alloc(), &mut input, &mut output);
-    let wanted = filling_printed(rt, u8::try_from(N).unwrap_or(u8::MAX));
-    agree(
-        rt,
-        "a script",
-        (played, output.as_slice()),
-        (Ok(()), wanted.as_bytes()),
-    );
+    agree(rt, "what is returned", played, Ok(()));
+    let wanted = filling_printed(rt, fit);
+    agree(rt, "the output", output.as_slice(), wanted.as_bytes());
+}
+
+/// Makes the run on two full texts.
+fn runs_both<const N: usize, const M: usize>(rt: &(impl Abort + AllocGlobal), given: &str)
+    requires first { N ≤ 300 }
+    requires second { M ≤ 300 }
+{
+    let mut first: ArrayString<N> = text_of(given);
+    let mut second: ArrayString<M> = text_of(given);
+    let both = run_both(rt.alloc(), &mut first, &mut second, &COMMANDS).expect(rt, "memory");
+    check_replies(rt, &both.0, &first);
+    check_replies(rt, &both.1, &second);
+}
+
+/// Plays the script, and makes the run on one full text and on two.
+fn at_capacity<const N: usize>(rt: &(impl Abort + AllocGlobal))
+    requires { N ≤ 300 }
+{
+    plays_at::<N>(rt, u8::try_from(N).unwrap_or(u8::MAX));
     let given = letters(rt, 300);
-    let full: ArrayString<N> = text_of(&given);
-    let most: ArrayString<255> = text_of(&given);
-    let mut text = full;
+    let mut text: ArrayString<N> = text_of(&given);
     let outcome = run(rt.alloc(), &mut text, &COMMANDS).expect(rt, "memory");
     check_replies(rt, &outcome, &text);
-    let (mut first, mut second) = (full, most);
-    let both = run_both(rt.alloc(), &mut first, &mut second, &COMMANDS).expect(rt, "memory");
-    check_replies(rt, &both.0, &first);
-    check_replies(rt, &both.1, &second);
-    let (mut first, mut second) = (most, full);
-    let both = run_both(rt.alloc(), &mut first, &mut second, &COMMANDS).expect(rt, "memory");
-    check_replies(rt, &both.0, &first);
-    check_replies(rt, &both.1, &second);
+    runs_both::<N, 255>(rt, &given);
+    runs_both::<255, N>(rt, &given);
 }
 
 #[test]
@@ -157,29 +162,18 @@ fn full_texts_at_each_word(rt: HostRuntime) {
     }
 }
 
-/// Plays the script at a capacity of which 255 bytes fit.
-fn plays_at<const N: usize>(rt: &(impl Abort + AllocGlobal)) {
-    let script = filling_script(rt);
-    let mut input = script.as_bytes();
-    let mut output = Vec::new(rt.alloc());
-    let played = play::<N, &[u8], Vec<u8>>(rt.alloc(), &mut input, &mut output);
-    agree(rt, "what is returned", played, Ok(()));
-    let wanted = filling_printed(rt, 255);
-    agree(rt, "the output", output.as_slice(), wanted.as_bytes());
-}
-
 /// Larger arrays, round the powers of 2 and between them.
 #[test]
 fn scripts_at_larger_capacities(rt: HostRuntime) {
-    plays_at::<511>(&rt);
-    plays_at::<512>(&rt);
-    plays_at::<1000>(&rt);
-    plays_at::<4095>(&rt);
-    plays_at::<4096>(&rt);
-    plays_at::<4097>(&rt);
-    plays_at::<5000>(&rt);
-    plays_at::<10000>(&rt);
-    plays_at::<65535>(&rt);
-    plays_at::<65536>(&rt);
-    plays_at::<100000>(&rt);
+    plays_at::<511>(&rt, 255);
+    plays_at::<512>(&rt, 255);
+    plays_at::<1000>(&rt, 255);
+    plays_at::<4095>(&rt, 255);
+    plays_at::<4096>(&rt, 255);
+    plays_at::<4097>(&rt, 255);
+    plays_at::<5000>(&rt, 255);
+    plays_at::<10000>(&rt, 255);
+    plays_at::<65535>(&rt, 255);
+    plays_at::<65536>(&rt, 255);
+    plays_at::<100000>(&rt, 255);
 }

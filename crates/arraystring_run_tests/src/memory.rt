@@ -8,11 +8,11 @@ use super::table::agree;
 use arraystring::ArrayString;
 use arraystring_run::{Command, PlayFault, Reply, play, run, run_both, serve};
 use std::alloc::Global;
+use std::env::Env;
 use std::io;
 use std::io::{Read, Write};
 use std::mem::size_of;
 use std::process::Abort;
-use std::test::Fail;
 use test_support::memory::{ScarceMemory, TIMES};
 
 /// The example with a bad line before it, which is met once there is memory for the input.
@@ -22,6 +22,45 @@ const BAD_FIRST: &str = "Len\npush_str ABCD🤔\ntry_insert 1 A\ntry_insert_str 
 /// The example with a bad line behind it, which is met once there is memory for the commands too.
 const BAD_LAST: &str = "push_str ABCD🤔\ntry_insert 1 A\ntry_insert_str 2 B\ndrain_back 4 10\n\
     get 0 9\nremove 9\nas_str\nLen\n";
+
+/// Takes all memory. It is `None` where a test ends without it.
+pub(super) fn all_memory(rt: &(impl Abort + Env + Eprint + AllocGlobal)) -> Option<ScarceMemory> {
+    ScarceMemory::take(rt).expect(rt, "all memory is taken")
+}
+
+/// Leaves `left` bytes of memory.
+fn leave(rt: &(impl Abort + AllocGlobal), scarce: &mut ScarceMemory, left: usize) {
+    let rest = scarce.leave(rt.alloc(), left);
+    rest.expect(rt, "the rest is taken again");
+}
+
+/// Leaves a little more memory than the time before.
+fn leave_more(rt: &(impl Abort + AllocGlobal), scarce: &mut ScarceMemory) {
+    let rest = scarce.leave_more(rt.alloc());
+    rest.expect(rt, "the rest is taken again");
+}
+
+/// Bytes, with room for `room` of them.
+pub(super) fn bytes(rt: &(impl Abort + AllocGlobal), room: usize) -> Vec<u8> {
+    Vec::with_capacity(rt.alloc(), room).expect(rt, "memory for bytes")
+}
+
+/// Asserts that there was memory for each thing later than for the one before it, and for none at first.
+fn ascend(rt: &impl Abort, first: u32, second: u32, third: u32) {
+    assert!(rt; 1 <= first && first < second && second < third);
+}
+
+/// Asserts what was written to the output, and what to the errors.
+pub(super) fn are_written(
+    rt: &impl Abort,
+    output: &[u8],
+    errors: &[u8],
+    printed: &str,
+    reported: &str,
+) {
+    agree(rt, "the output", output, printed.as_bytes());
+    agree(rt, "the errors", errors, reported.as_bytes());
+}
 
 /// Serves a script with a bad line, and returns 1 if memory ran out before that line was met.
 fn served_without_memory(
@@ -45,18 +84,17 @@ fn served_without_memory(
 /// With ever more memory, from none up, `serve` reports each growth that is refused, one after the
 /// other: that of the input, those of the commands, that of the replies. The bad lines tell which.
 #[test]
-fn want_of_memory_is_served(rt: HostRuntime) -> Result<(), Fail> {
-    let mut output = Vec::with_capacity(rt.alloc(), 1000)?;
-    let mut errors = Vec::with_capacity(rt.alloc(), 1000)?;
-    let Some(mut scarce) = ScarceMemory::take(&rt)? else {
-        return Ok(());
+fn want_of_memory_is_served(rt: HostRuntime) {
+    let (mut output, mut errors) = (bytes(&rt, 1000), bytes(&rt, 1000));
+    let Some(mut scarce) = all_memory(&rt) else {
+        return;
     };
     let mut refused = 0u32;
     let mut refused_input = 0u32;
     let mut refused_commands = 0u32;
     let mut status = 3;
     for _ in 0..TIMES {
-        scarce.leave_more(rt.alloc())?;
+        leave_more(&rt, &mut scarce);
         let first = served_without_memory(&rt, rt.alloc(), &mut errors, BAD_FIRST, "bad line 1\n");
         refused_input = refused_input.saturating_add(first);
         let last = served_without_memory(&rt, rt.alloc(), &mut errors, BAD_LAST, "bad line 8\n");
@@ -68,18 +106,13 @@ fn want_of_memory_is_served(rt: HostRuntime) -> Result<(), Fail> {
             break;
         }
         refused = refused.saturating_add(1);
-        assert_eq!(rt; output.len(), 0);
-        assert_eq!(rt; errors.as_slice(), b"out of memory\n".as_slice());
+        are_written(&rt, &output, &errors, "", "out of memory\n");
         errors.clear();
     }
     drop(scarce);
-    assert!(rt;
-        1 <= refused_input && refused_input < refused_commands && refused_commands < refused
-    );
-    assert_eq!(rt; status, 0);
-    assert_eq!(rt; output.as_slice(), EXAMPLE_OUTPUT.as_bytes());
-    assert_eq!(rt; errors.len(), 0);
-    Ok(())
+    ascend(&rt, refused_input, refused_commands, refused);
+    agree(&rt, "the status", status, 0);
+    are_written(&rt, &output, &errors, EXAMPLE_OUTPUT, "");
 }
 
 /// Plays a script with a bad line, and returns 1 if memory ran out before that line was met.
@@ -102,17 +135,17 @@ fn played_without_memory(
 
 /// `play` reports want of memory, at each amount of memory that is left, and writes nothing then.
 #[test]
-fn want_of_memory_is_reported(rt: HostRuntime) -> Result<(), Fail> {
-    let mut output = Vec::with_capacity(rt.alloc(), 1000)?;
-    let Some(mut scarce) = ScarceMemory::take(&rt)? else {
-        return Ok(());
+fn want_of_memory_is_reported(rt: HostRuntime) {
+    let mut output = bytes(&rt, 1000);
+    let Some(mut scarce) = all_memory(&rt) else {
+        return;
     };
     let mut refused = 0u32;
     let mut refused_input = 0u32;
     let mut refused_commands = 0u32;
     let mut played = Err(PlayFault::Memory);
     for _ in 0..TIMES {
-        scarce.leave_more(rt.alloc())?;
+        leave_more(&rt, &mut scarce);
         let first = played_without_memory(&rt, rt.alloc(), &mut output, BAD_FIRST, 1);
         refused_input = refused_input.saturating_add(first);
         let last = played_without_memory(&rt, rt.alloc(), &mut output, BAD_LAST, 8);
@@ -123,15 +156,12 @@ fn want_of_memory_is_reported(rt: HostRuntime) -> Result<(), Fail> {
             break;
         }
         refused = refused.saturating_add(1);
-        assert_eq!(rt; output.len(), 0);
+        agree(&rt, "the output", output.len(), 0);
     }
     drop(scarce);
-    assert!(rt;
-        1 <= refused_input && refused_input < refused_commands && refused_commands < refused
-    );
-    assert_eq!(rt; played, Ok(()));
-    assert_eq!(rt; output.as_slice(), EXAMPLE_OUTPUT.as_bytes());
-    Ok(())
+    ascend(&rt, refused_input, refused_commands, refused);
+    agree(&rt, "what is returned", played, Ok(()));
+    are_written(&rt, &output, &[], EXAMPLE_OUTPUT, "");
 }
 
 /// A script of 100 lines: the first, the second, 97 lines `len`, and the last.
@@ -172,34 +202,32 @@ fn check_serve(
 /// if 10,000 are, since it is then judged to its bad last line. Of want of memory and a bad line,
 /// whichever is met first is reported.
 #[test]
-fn each_refused_growth_is_reported(rt: HostRuntime) -> Result<(), Fail> {
-    let alloc = rt.alloc();
+fn each_refused_growth_is_reported(rt: HostRuntime) {
     let bad_first = hundred_lines(&rt, "Len", "len", "len");
     let bad_second = hundred_lines(&rt, "len", "Len", "len");
     let bad_last = hundred_lines(&rt, "len", "len", "Len");
     let good = hundred_lines(&rt, "len", "len", "len");
-    let none = Err(PlayFault::Memory);
-    let wanting = "out of memory\n";
-    let mut output = Vec::with_capacity(alloc, 1000)?;
-    let Some(mut scarce) = ScarceMemory::take(&rt)? else {
-        return Ok(());
+    // how much is left, the script, the bad line that is met, and what is reported
+    let rows = [
+        (0, bad_first.as_str(), None, "out of memory\n"),
+        (1000, &bad_first, Some(1), "bad line 1\n"),
+        (1000, &bad_second, Some(2), "bad line 2\n"),
+        (1000, &bad_last, None, "out of memory\n"),
+        (10000, &bad_last, Some(100), "bad line 100\n"),
+        (10000, &good, None, "out of memory\n"),
+    ];
+    let mut output = bytes(&rt, 1000);
+    let Some(mut scarce) = all_memory(&rt) else {
+        return;
     };
-    scarce.leave(alloc, 0)?;
-    check_serve(&rt, alloc, &mut output, &bad_first, none, wanting);
-    scarce.leave(alloc, 1000)?;
-    let bad = Err(PlayFault::BadLine(1));
-    check_serve(&rt, alloc, &mut output, &bad_first, bad, "bad line 1\n");
-    let bad = Err(PlayFault::BadLine(2));
-    check_serve(&rt, alloc, &mut output, &bad_second, bad, "bad line 2\n");
-    check_serve(&rt, alloc, &mut output, &bad_last, none, wanting);
-    scarce.leave(alloc, 10000)?;
-    let bad = Err(PlayFault::BadLine(100));
-    check_serve(&rt, alloc, &mut output, &bad_last, bad, "bad line 100\n");
-    check_serve(&rt, alloc, &mut output, &good, none, wanting);
-    scarce.leave(alloc, 50000)?;
-    check_serve(&rt, alloc, &mut output, &good, Ok(()), "");
+    for (left, script, line, reported) in rows {
+        leave(&rt, &mut scarce, left);
+        let fault = line.map_or(PlayFault::Memory, PlayFault::BadLine);
+        check_serve(&rt, rt.alloc(), &mut output, script, Err(fault), reported);
+    }
+    leave(&rt, &mut scarce, 50000);
+    check_serve(&rt, rt.alloc(), &mut output, &good, Ok(()), "");
     drop(scarce);
-    Ok(())
 }
 
 /// A reader and a writer that look, at each call, whether there is memory of `size` bytes. No byte is
@@ -251,15 +279,15 @@ impl Write for MemoryProbe {
 /// Before the first read `play` and `serve` have taken no memory, nor has `serve` when it says that a word
 /// names no capacity.
 #[test]
-fn no_memory_is_taken_before_the_first_read(rt: HostRuntime) -> Result<(), Fail> {
+fn no_memory_is_taken_before_the_first_read(rt: HostRuntime) {
     let alloc = rt.alloc();
-    let mut errors = Vec::with_capacity(alloc, 1000)?;
-    let Some(mut scarce) = ScarceMemory::take(&rt)? else {
-        return Ok(());
+    let mut errors = bytes(&rt, 1000);
+    let Some(mut scarce) = all_memory(&rt) else {
+        return;
     };
     // how much is left, and how much a probe asks for
     for (left, size) in [(0, 0), (6000, 5000), (20000, 18000), (40000, 30000)] {
-        scarce.leave(alloc, left)?;
+        leave(&rt, &mut scarce, left);
         let mut none = io::sink();
         let mut input = MemoryProbe::of(alloc, size);
         let _ = play::<23, MemoryProbe, io::Sink>(alloc, &mut input, &mut none);
@@ -275,53 +303,51 @@ fn no_memory_is_taken_before_the_first_read(rt: HostRuntime) -> Result<(), Fail>
         agree(&rt, "its line", (usage.calls, usage.found), (1, 1));
     }
     drop(scarce);
-    Ok(())
 }
 
 /// With ever more memory, from none up, a refused growth of `run` leaves the text.
 #[test]
-fn want_of_memory_leaves_the_text(rt: HostRuntime) -> Result<(), Fail> {
+fn want_of_memory_leaves_the_text(rt: HostRuntime) {
     let commands = [Command::TryPush('c'); 100];
     let mut text: ArrayString<23> = text_of("ab");
-    let Some(mut scarce) = ScarceMemory::take(&rt)? else {
-        return Ok(());
+    let Some(mut scarce) = all_memory(&rt) else {
+        return;
     };
     let mut refused = 0u32;
     let mut replies = 0usize;
     for _ in 0..TIMES {
-        scarce.leave_more(rt.alloc())?;
+        leave_more(&rt, &mut scarce);
         if let Ok(outcome) = run(rt.alloc(), &mut text, &commands) {
             replies = outcome.replies.len();
             break;
         }
         refused = refused.saturating_add(1);
-        assert_eq!(rt; text.as_str(), "ab");
+        agree(&rt, "the text", text.as_str(), "ab");
     }
     drop(scarce);
     assert!(rt; refused >= 1);
-    assert_eq!(rt; replies, 100);
-    assert_eq!(rt; text.as_str(), "abccccccccccccccccccccc");
-    Ok(())
+    agree(&rt, "the replies", replies, 100);
+    agree(&rt, "the text", text.as_str(), "abccccccccccccccccccccc");
 }
 
 /// Both lists are reserved before the first command is made. If there is memory for either list
 /// alone and not for both, the texts are as they were; so they are if there is none for either.
 #[test]
-fn want_of_memory_leaves_both_texts(rt: HostRuntime) -> Result<(), Fail> {
+fn want_of_memory_leaves_both_texts(rt: HostRuntime) {
     let commands = [Command::TryPush('c'); 300];
     let mut alone: ArrayString<23> = text_of("ab");
     let mut other: ArrayString<4> = text_of("ab");
     let mut first: ArrayString<23> = text_of("ab");
     let mut second: ArrayString<4> = text_of("ab");
-    let Some(mut scarce) = ScarceMemory::take(&rt)? else {
-        return Ok(());
+    let Some(mut scarce) = all_memory(&rt) else {
+        return;
     };
     let mut refused = 0u32;
     let mut refused_first = 0u32;
     let mut refused_second = 0u32;
     let mut replies = 0usize;
     for _ in 0..TIMES {
-        scarce.leave_more(rt.alloc())?;
+        leave_more(&rt, &mut scarce);
         if run(rt.alloc(), &mut alone, &commands).is_err() {
             refused_first = refused_first.saturating_add(1);
         }
@@ -333,13 +359,14 @@ fn want_of_memory_leaves_both_texts(rt: HostRuntime) -> Result<(), Fail> {
             break;
         }
         refused = refused.saturating_add(1);
-        assert_eq!(rt; (first.as_str(), second.as_str()), ("ab", "ab"));
+        agree(&rt, "the first text", first.as_str(), "ab");
+        agree(&rt, "the second text", second.as_str(), "ab");
     }
     drop(scarce);
-    assert!(rt; 1 <= refused_second && refused_second < refused_first && refused_first < refused);
-    assert_eq!(rt; replies, 300);
-    assert_eq!(rt; (first.len(), second.as_str()), (23, "abcc"));
-    Ok(())
+    ascend(&rt, refused_second, refused_first, refused);
+    agree(&rt, "the replies", replies, 300);
+    agree(&rt, "the length of the first text", first.len(), 23);
+    agree(&rt, "the second text", second.as_str(), "abcc");
 }
 
 /// How many bytes the lists of replies have together, but for less than two replies.
@@ -410,23 +437,23 @@ const SIZES: [usize; 3] = [28, 68, 260];
 /// A run takes one block of memory, for as many replies as there are commands, and one on two strings
 /// takes two.
 #[test]
-fn a_run_takes_the_memory_of_its_replies(rt: HostRuntime) -> Result<(), Fail> {
+fn a_run_takes_the_memory_of_its_replies(rt: HostRuntime) {
     let alloc = rt.alloc();
     let sizes = [
         size_of::<Reply<23>>(),
         size_of::<Reply<63>>(),
         size_of::<Reply<255>>(),
     ];
-    assert_eq!(rt; sizes, SIZES);
-    let commands = Vec::from_elem(alloc, Command::AsStr, 2000)?;
-    let Some(mut scarce) = ScarceMemory::take(&rt)? else {
-        return Ok(());
+    agree(&rt, "the sizes", sizes, SIZES);
+    let commands = Vec::from_elem(alloc, Command::AsStr, 2000).expect(&rt, "memory");
+    let Some(mut scarce) = all_memory(&rt) else {
+        return;
     };
-    scarce.leave(alloc, LISTS - MARGIN)?;
+    leave(&rt, &mut scarce, LISTS - MARGIN);
     let made_of_less = count_made(alloc, &commands);
-    scarce.leave(alloc, LISTS + MARGIN)?;
+    leave(&rt, &mut scarce, LISTS + MARGIN);
     let made_of_enough = count_made(alloc, &commands);
     drop(scarce);
-    assert_eq!(rt; (made_of_less, made_of_enough), (0, 5));
-    Ok(())
+    agree(&rt, "made of less", made_of_less, 0);
+    agree(&rt, "made of enough", made_of_enough, 5);
 }

@@ -1,5 +1,6 @@
 //! Arguments of an environment of the test's own, words that are served, and writers that fail while a
 //! script is served.
+use super::memory::{all_memory, are_written, bytes};
 use arraystring::MaxString;
 use arraystring_run::program::{given_word, serve};
 use std::alloc::Global;
@@ -7,8 +8,6 @@ use std::env::{Env, FillError};
 use std::fmt::Write as _;
 use std::io::ErrorKind;
 use std::process::Abort;
-use std::test::Fail;
-use test_support::memory::ScarceMemory;
 use test_support::writer::FakeWriter;
 
 /// An environment that has arguments, the program's name the first, and nothing else.
@@ -81,6 +80,11 @@ fn arguments_of_each_length(rt: HostRuntime) {
     }
 }
 
+/// Asserts that what a word gave is what it wants.
+fn same(rt: &impl Abort, what: &str, word: &str, gave: &[u8], wanted: &[u8]) {
+    assert_eq!(rt; gave, wanted, "the {what} at {word}");
+}
+
 /// Serves a script, and compares the status, the output and the line on `errors`.
 fn serves(
     rt: &impl Abort,
@@ -94,9 +98,10 @@ fn serves(
     let mut output = Vec::new(alloc);
     let mut errors = Vec::new(alloc);
     let served = serve(alloc, word, &mut input, &mut output, &mut errors);
-    assert_eq!(rt; served, status);
-    assert_eq!(rt; output.as_slice(), wanted);
-    assert_eq!(rt; errors.as_slice(), reported);
+    let word = word.unwrap_or("no word");
+    same(rt, "status", word, &[served], &[status]);
+    same(rt, "output", word, &output, wanted);
+    same(rt, "errors", word, &errors, reported);
 }
 
 pub(super) const USAGE: &[u8] = b"usage: arraystring_run small or cache or max\n";
@@ -114,33 +119,19 @@ fn words_are_served(rt: HostRuntime) {
 
 /// A word is judged before memory is wanted.
 #[test]
-fn words_are_judged_without_memory(rt: HostRuntime) -> Result<(), Fail> {
-    let mut output = Vec::with_capacity(rt.alloc(), 100)?;
-    let mut errors = Vec::with_capacity(rt.alloc(), 100)?;
+fn words_are_judged_without_memory(rt: HostRuntime) {
+    let alloc = rt.alloc();
+    let (mut output, mut errors) = (bytes(&rt, 100), bytes(&rt, 100));
     let mut input: &[u8] = b"len\n";
-    let Some(scarce) = ScarceMemory::take(&rt)? else {
-        return Ok(());
+    let Some(scarce) = all_memory(&rt) else {
+        return;
     };
-    let big = serve(
-        rt.alloc(),
-        Some("big"),
-        &mut input,
-        &mut output,
-        &mut errors,
-    );
-    let max = serve(
-        rt.alloc(),
-        Some("max"),
-        &mut input,
-        &mut output,
-        &mut errors,
-    );
+    let big = serve(alloc, Some("big"), &mut input, &mut output, &mut errors);
+    let max = serve(alloc, Some("max"), &mut input, &mut output, &mut errors);
     drop(scarce);
-    assert_eq!(rt; (big, max), (2, 3));
-    assert_eq!(rt; output.len(), 0);
-    let reported = b"usage: arraystring_run small or cache or max\nout of memory\n".as_slice();
-    assert_eq!(rt; errors.as_slice(), reported);
-    Ok(())
+    same(&rt, "statuses", "big and max", &[big, max], &[2, 3]);
+    let reported = "usage: arraystring_run small or cache or max\nout of memory\n";
+    are_written(&rt, &output, &errors, "", reported);
 }
 
 pub(super) const WORDS: [&str; 3] = ["small", "cache", "max"];
@@ -189,9 +180,9 @@ fn writes(
     let mut errors = Vec::new(alloc);
     let served = serve(alloc, Some(word), &mut input, &mut output, &mut errors);
     let reported: &[u8] = if status == 4 { b"write failed\n" } else { b"" };
-    assert_eq!(rt; served, status, "the status at {word}");
-    assert_eq!(rt; output.taken.as_slice(), wanted, "the output at {word}");
-    assert_eq!(rt; errors.as_slice(), reported, "the errors at {word}");
+    same(rt, "status", word, &[served], &[status]);
+    same(rt, "output", word, &output.taken, wanted);
+    same(rt, "errors", word, &errors, reported);
 }
 
 /// The writer takes little at a time, and is interrupted before each write. Of the longest output it

@@ -1,10 +1,9 @@
 //! Users that are taken out or given another role, without memory, and texts that are no user.
-use super::users::{agree, finds, ranked, user};
+use super::users::{agree, finds, ranked, replaces, user};
 use arraystring::ArrayString;
 use bounded_records::{Directory, User, UserFault};
 use std::hash::{DefaultHasher, Hash, Hasher};
 use std::process::Abort;
-use std::test::Fail;
 use test_support::memory::ScarceMemory;
 
 /// How many users are put in, a prime.
@@ -18,13 +17,13 @@ fn mixed(turn: u32) -> User {
 /// With no memory at all, each user is given another role and is taken out, once and no second time.
 /// All others stay meanwhile.
 #[test]
-fn changes_take_no_memory(rt: HostRuntime) -> Result<(), Fail> {
+fn changes_take_no_memory(rt: HostRuntime) {
     let mut users = Directory::new(rt.alloc());
     for turn in 0..USERS {
-        agree(&rt, users.insert(mixed(turn)), Ok(None));
+        replaces(&rt, &mut users, mixed(turn), None);
     }
-    let Some(scarce) = ScarceMemory::take(&rt)? else {
-        return Ok(());
+    let Some(scarce) = ScarceMemory::take(&rt).expect(&rt, "all memory is taken") else {
+        return;
     };
     for turn in 0..USERS {
         let old = mixed(turn);
@@ -46,7 +45,6 @@ fn changes_take_no_memory(rt: HostRuntime) -> Result<(), Fail> {
     agree(&rt, users.is_empty(), true);
     agree(&rt, users.users().next(), None);
     drop(scarce);
-    Ok(())
 }
 
 /// A user that is taken out can be put in again, wherever it stood, in a directory of each size.
@@ -54,12 +52,12 @@ fn changes_take_no_memory(rt: HostRuntime) -> Result<(), Fail> {
 fn each_user_can_be_put_in_again(rt: HostRuntime) {
     let mut users = Directory::new(rt.alloc());
     for count in 0..USERS {
-        agree(&rt, users.insert(mixed(count)), Ok(None));
+        replaces(&rt, &mut users, mixed(count), None);
         for turn in [0, count / 2, count] {
             let given = mixed(turn);
             agree(&rt, users.remove(&given.username), Some(given));
             agree(&rt, users.len(), count as usize);
-            agree(&rt, users.insert(given), Ok(None));
+            replaces(&rt, &mut users, given, None);
             finds(&rt, &users, &given);
         }
     }
@@ -67,7 +65,7 @@ fn each_user_can_be_put_in_again(rt: HostRuntime) {
 
 /// Texts of each size up to 30 bytes, of letters and of characters of two bytes.
 #[test]
-fn the_first_text_that_is_too_large_is_reported(rt: HostRuntime) -> Result<(), Fail> {
+fn the_first_text_that_is_too_large_is_reported(rt: HostRuntime) {
     let letters = "abcdefghijklmnopqrstuvwxyzabcd";
     let wide = "éèêëàâîïôûùüçñö";
     let mut count = 0u32;
@@ -92,7 +90,6 @@ fn the_first_text_that_is_too_large_is_reported(rt: HostRuntime) -> Result<(), F
         }
     }
     agree(&rt, count, 31 * 31 + 16 * 16);
-    Ok(())
 }
 
 /// What a value writes to a hasher.

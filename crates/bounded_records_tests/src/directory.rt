@@ -1,45 +1,49 @@
 //! A directory: its names, growths that are refused, and thousands of users that are put in, iterated over and
 //! taken out, in three orders.
-use super::users::{agree, finds, ranked, user};
+use super::users::{
+    agree, comes_last, comes_next, finds, have_ended, ranked, replaces, say_left, user,
+};
 use arraystring::ArrayString;
-use bounded_records::{Directory, Names, User, Users};
+use bounded_records::{Directory, User};
 use std::alloc::AllocError;
 use std::process::Abort;
-use std::test::Fail;
 use test_support::memory::{ScarceMemory, TIMES};
+
+/// The names of a directory are these, and no more.
+fn has_names(rt: &impl Abort, users: &Directory, wanted: &[&str]) {
+    let mut names = users.names();
+    for name in wanted {
+        agree(rt, names.next(), Some(&user(name, "").username));
+    }
+    for _ in 0..2u8 {
+        agree(rt, names.next(), None);
+    }
+}
 
 #[test]
 fn names_ascend_by_characters(rt: HostRuntime) {
     let mut users = Directory::new(rt.alloc());
-    agree(&rt, users.names().next(), None);
+    has_names(&rt, &users, &[]);
     for name in ["b", "\u{10000}", "ab", "\u{FFFF}", "a"] {
-        agree(&rt, users.insert(user(name, "first")), Ok(None));
+        replaces(&rt, &mut users, user(name, "first"), None);
     }
-    let second = user("ab", "other");
-    agree(&rt, users.insert(second), Ok(Some(user("ab", "first"))));
-    agree(&rt, users.get(&second.username), Some(&second));
-    agree(
-        &rt,
-        users.get(&user("a", "").username),
-        Some(&user("a", "first")),
-    );
+    let first = user("ab", "first");
+    replaces(&rt, &mut users, user("ab", "other"), Some(first));
+    for (name, role) in [("ab", "other"), ("a", "first")] {
+        finds(&rt, &users, &user(name, role));
+    }
     agree(&rt, users.get(&user("c", "").username), None);
-    let mut names = users.names();
-    for name in ["a", "ab", "b", "\u{FFFF}", "\u{10000}"] {
-        agree(&rt, names.next(), Some(&user(name, "").username));
-    }
-    agree(&rt, names.next(), None);
-    agree(&rt, names.next(), None);
+    has_names(&rt, &users, &["a", "ab", "b", "\u{FFFF}", "\u{10000}"]);
 }
 
 #[test]
 fn equal_texts_are_one_key(rt: HostRuntime) {
     let mut users = Directory::new(rt.alloc());
-    agree(&rt, users.insert(user("ab", "first")), Ok(None));
+    replaces(&rt, &mut users, user("ab", "first"), None);
     let mut moved = user("xxab", "other");
     let _ = moved.username.drain(..2);
     agree(&rt, users.get(&moved.username), Some(&user("ab", "first")));
-    agree(&rt, users.insert(moved), Ok(Some(user("ab", "first"))));
+    replaces(&rt, &mut users, moved, Some(user("ab", "first")));
     let mut names = users.names();
     agree(&rt, names.next(), Some(&moved.username));
     agree(&rt, names.next(), None);
@@ -66,7 +70,7 @@ fn many_users_are_kept_and_replaced(rt: HostRuntime) {
     let mut users = Directory::new(rt.alloc());
     for turn in 0..RANKS as u32 {
         let given = ranked((turn * 150 % 361) as u16);
-        agree(&rt, users.insert(given), Ok(None));
+        replaces(&rt, &mut users, given, None);
         finds(&rt, &users, &given);
     }
     check_ranked(&rt, &users, "");
@@ -74,7 +78,7 @@ fn many_users_are_kept_and_replaced(rt: HostRuntime) {
         let rank = (turn * 26 % 361) as u16;
         let mut given = ranked(rank);
         given.role.push_str("new");
-        agree(&rt, users.insert(given), Ok(Some(ranked(rank))));
+        replaces(&rt, &mut users, given, Some(ranked(rank)));
         finds(&rt, &users, &given);
     }
     check_ranked(&rt, &users, "new");
@@ -114,15 +118,16 @@ fn check_first(rt: &impl Abort, users: &Directory, count: u8) {
 /// Memory grows from none in small steps. A growth of the directory is refused until there is memory for it.
 /// A user that is there already is replaced without memory.
 #[test]
-fn each_refused_growth_changes_nothing(rt: HostRuntime) -> Result<(), Fail> {
+fn each_refused_growth_changes_nothing(rt: HostRuntime) {
     let mut users = Directory::new(rt.alloc());
-    let Some(mut scarce) = ScarceMemory::take(&rt)? else {
-        return Ok(());
+    let Some(mut scarce) = ScarceMemory::take(&rt).expect(&rt, "all memory is taken") else {
+        return;
     };
     let mut count = 0u8;
     let mut growths = 0u32;
     for _ in 0..TIMES {
-        scarce.leave_more(rt.alloc())?;
+        let rest = scarce.leave_more(rt.alloc());
+        rest.expect(&rt, "the rest is taken again");
         let before = count;
         for number in before..COUNT {
             match users.insert(lettered(number)) {
@@ -137,13 +142,12 @@ fn each_refused_growth_changes_nothing(rt: HostRuntime) -> Result<(), Fail> {
         }
         if before < count {
             growths = growths.saturating_add(1);
-            agree(&rt, users.insert(lettered(0)), Ok(Some(lettered(0))));
+            replaces(&rt, &mut users, lettered(0), Some(lettered(0)));
         }
     }
     drop(scarce);
     agree(&rt, count, COUNT);
     assert!(rt; growths > 10);
-    Ok(())
 }
 
 /// How many users are put in. `at_turn` takes them in the order that a factor gives. If neither 2 nor 5 divides
@@ -168,41 +172,29 @@ fn at_turn(turn: u16, factor: u32) -> User {
     numbered((factor.wrapping_mul(turn as u32) % USERS as u32) as u16)
 }
 
-/// Asserts that both iterators have `left` users left.
-fn has_left(rt: &impl Abort, names: &Names, users: &Users, left: usize) {
-    agree(rt, (names.len(), users.len()), (left, left));
-    agree(rt, names.size_hint(), (left, Some(left)));
-    agree(rt, users.size_hint(), (left, Some(left)));
-}
-
 /// The users are those below `USERS`. Of each `turns` steps of an iterator the last is from the back.
 fn check_walks(rt: &impl Abort, directory: &Directory, turns: u16) {
     let (mut names, mut users) = (directory.names(), directory.users());
     let (mut front, mut back) = (0u16, USERS);
     for step in 1..=USERS {
-        has_left(rt, &names, &users, back.saturating_sub(front) as usize);
+        say_left(rt, &names, &users, back.saturating_sub(front) as usize);
         if step.checked_rem(turns) == Some(0) {
             back = back.saturating_sub(1);
-            let wanted = numbered(back);
-            agree(rt, names.next_back(), Some(&wanted.username));
-            agree(rt, users.next_back(), Some(&wanted));
+            comes_last(rt, &mut names, &mut users, &numbered(back));
         } else {
-            let wanted = numbered(front);
+            comes_next(rt, &mut names, &mut users, &numbered(front));
             front = front.saturating_add(1);
-            agree(rt, names.next(), Some(&wanted.username));
-            agree(rt, users.next(), Some(&wanted));
         }
     }
-    has_left(rt, &names, &users, 0);
-    agree(rt, (names.next(), names.next_back()), (None, None));
-    agree(rt, (users.next(), users.next_back()), (None, None));
+    say_left(rt, &names, &users, 0);
+    have_ended(rt, &mut names, &mut users);
 }
 
 /// Puts the users in, and each once more with another role. Then gives them their roles back.
 fn fill(rt: &impl Abort, users: &mut Directory, factor: u32) {
     for turn in 0..USERS {
         let given = at_turn(turn, factor);
-        agree(rt, users.insert(given), Ok(None));
+        replaces(rt, users, given, None);
         finds(rt, users, &given);
         agree(rt, users.len(), turn as usize + 1);
     }
@@ -210,7 +202,7 @@ fn fill(rt: &impl Abort, users: &mut Directory, factor: u32) {
     for turn in 0..USERS {
         let old = at_turn(turn, factor);
         let given = User { role, ..old };
-        agree(rt, users.insert(given), Ok(Some(old)));
+        replaces(rt, users, given, Some(old));
         finds(rt, users, &given);
     }
     for turn in 0..USERS {

@@ -1,5 +1,5 @@
 //! A directory of more users than two bytes count.
-use super::users::{agree, finds, user};
+use super::users::{agree, comes_last, comes_next, finds, have_ended, replaces, say_left, user};
 use bounded_records::{Directory, User};
 use std::process::Abort;
 
@@ -37,16 +37,11 @@ fn at_turn(turn: u32) -> User {
 fn check_all(rt: &impl Abort, directory: &Directory) {
     let (mut names, mut users) = (directory.names(), directory.users());
     for number in 0..USERS / 2 {
-        let (first, last) = (numbered(number), numbered(USERS - 1 - number));
-        let left = (USERS - 2 * number) as usize;
-        agree(rt, (names.len(), users.len()), (left, left));
-        agree(rt, names.next(), Some(&first.username));
-        agree(rt, users.next(), Some(&first));
-        agree(rt, names.next_back(), Some(&last.username));
-        agree(rt, users.next_back(), Some(&last));
+        say_left(rt, &names, &users, (USERS - 2 * number) as usize);
+        comes_next(rt, &mut names, &mut users, &numbered(number));
+        comes_last(rt, &mut names, &mut users, &numbered(USERS - 1 - number));
     }
-    agree(rt, (names.next(), users.next()), (None, None));
-    agree(rt, (names.next_back(), users.next_back()), (None, None));
+    have_ended(rt, &mut names, &mut users);
 }
 
 #[test]
@@ -54,7 +49,7 @@ fn more_users_than_two_bytes_count(rt: HostRuntime) {
     let mut users = Directory::new(rt.alloc());
     for turn in 0..USERS {
         let given = at_turn(turn);
-        agree(&rt, users.insert(given), Ok(None));
+        replaces(&rt, &mut users, given, None);
         finds(&rt, &users, &given);
         agree(&rt, users.len(), turn as usize + 1);
     }
@@ -62,7 +57,7 @@ fn more_users_than_two_bytes_count(rt: HostRuntime) {
     let role = user("", "new").role;
     for turn in 0..SOME {
         let wanted = at_turn(turn);
-        agree(&rt, users.insert(User { role, ..wanted }), Ok(Some(wanted)));
+        replaces(&rt, &mut users, User { role, ..wanted }, Some(wanted));
         agree(
             &rt,
             users.set_role(&wanted.username, wanted.role),

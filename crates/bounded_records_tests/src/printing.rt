@@ -1,7 +1,7 @@
 //! How a directory and its iterators are printed for debugging: as std prints its own set and its own list
 //! of the same users, whose forms are derived.
-use super::users::{agree, user};
-use bounded_records::Directory;
+use super::users::{agree, replaces, user};
+use bounded_records::{Directory, Names, Users};
 use std::collections::BTreeSet;
 use std::fmt::Debug;
 use std::process::Abort;
@@ -57,7 +57,7 @@ fn debugs_as<T: Debug, W: Debug>(rt: &(impl Abort + AllocGlobal), value: &T, wan
 fn of_first(rt: &(impl Abort + AllocGlobal), texts: &[(&str, &str)]) -> Directory {
     let mut users = Directory::new(rt.alloc());
     for texts in texts.iter().rev() {
-        agree(rt, users.insert(user(texts.0, texts.1)), Ok(None));
+        replaces(rt, &mut users, user(texts.0, texts.1), None);
     }
     users
 }
@@ -74,6 +74,33 @@ fn a_directory_is_printed_as_a_set(rt: HostRuntime) {
     }
 }
 
+/// Asserts that both iterators are printed as the lists of these usernames and users.
+fn are_printed(
+    rt: &(impl Abort + AllocGlobal),
+    names: &Names,
+    users: &Users,
+    texts: &[(&str, &str)],
+) {
+    let (mut usernames, mut wanted) = (Vec::new(rt.alloc()), Vec::new(rt.alloc()));
+    for texts in texts {
+        usernames.push(text_form(texts.0)).expect(rt, "memory");
+        wanted.push(user_form(texts)).expect(rt, "memory");
+    }
+    debugs_as(rt, names, &usernames);
+    debugs_as(rt, users, &wanted);
+}
+
+/// Takes the first users and the last ones out of both iterators.
+fn take(rt: &impl Abort, names: &mut Names, users: &mut Users, first: usize, last: usize) {
+    for _ in 0..first {
+        agree(rt, names.next().is_some(), users.next().is_some());
+    }
+    for _ in 0..last {
+        let (name, user) = (names.next_back(), users.next_back());
+        agree(rt, name.is_some(), user.is_some());
+    }
+}
+
 /// From the first step to the last, by either end.
 #[test]
 fn an_iterator_is_printed_as_the_list_of_those_left(rt: HostRuntime) {
@@ -81,23 +108,9 @@ fn an_iterator_is_printed_as_the_list_of_those_left(rt: HostRuntime) {
     for front in 0..=TEXTS.len() {
         for back in front..=TEXTS.len() {
             let (mut names, mut users) = (directory.names(), directory.users());
-            for _ in 0..front {
-                agree(&rt, names.next().is_some(), users.next().is_some());
-            }
-            for _ in back..TEXTS.len() {
-                agree(
-                    &rt,
-                    names.next_back().is_some(),
-                    users.next_back().is_some(),
-                );
-            }
-            let (mut usernames, mut wanted) = (Vec::new(rt.alloc()), Vec::new(rt.alloc()));
-            for texts in TEXTS.get(front..back).unwrap_or_default() {
-                usernames.push(text_form(texts.0)).expect(&rt, "memory");
-                wanted.push(user_form(texts)).expect(&rt, "memory");
-            }
-            debugs_as(&rt, &names, &usernames);
-            debugs_as(&rt, &users, &wanted);
+            take(&rt, &mut names, &mut users, front, TEXTS.len() - back);
+            let texts = TEXTS.get(front..back).unwrap_or_default();
+            are_printed(&rt, &names, &users, texts);
         }
     }
 }

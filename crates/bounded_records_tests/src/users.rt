@@ -1,6 +1,6 @@
 //! The users of the tests, and what asserts.
 use arraystring::ArrayString;
-use bounded_records::{Directory, User};
+use bounded_records::{Directory, Names, User, Users};
 use std::fmt::Debug;
 use std::process::Abort;
 
@@ -39,4 +39,37 @@ pub(super) fn ranked(rank: u16) -> User {
 /// A user is found by its username.
 pub(super) fn finds(rt: &impl Abort, users: &Directory, wanted: &User) {
     agree(rt, users.get(&wanted.username), Some(wanted));
+}
+
+/// A user is put in, in place of `old`.
+pub(super) fn replaces(rt: &impl Abort, users: &mut Directory, given: User, old: Option<User>) {
+    agree(rt, users.insert(given), Ok(old));
+}
+
+/// Asserts that both iterators say that `left` users are left.
+pub(super) fn say_left(rt: &impl Abort, names: &Names, users: &Users, left: usize) {
+    agree(rt, names.len(), left);
+    agree(rt, users.len(), left);
+    agree(rt, names.size_hint(), (left, Some(left)));
+    agree(rt, users.size_hint(), (left, Some(left)));
+}
+
+/// Asserts that a user is the next of both iterators.
+pub(super) fn comes_next(rt: &impl Abort, names: &mut Names, users: &mut Users, wanted: &User) {
+    agree(rt, names.next(), Some(&wanted.username));
+    agree(rt, users.next(), Some(wanted));
+}
+
+/// Asserts that a user is the next of both iterators from the back.
+pub(super) fn comes_last(rt: &impl Abort, names: &mut Names, users: &mut Users, wanted: &User) {
+    agree(rt, names.next_back(), Some(&wanted.username));
+    agree(rt, users.next_back(), Some(wanted));
+}
+
+/// Asserts that neither iterator has a user left, from either end.
+pub(super) fn have_ended(rt: &impl Abort, names: &mut Names, users: &mut Users) {
+    agree(rt, names.next(), None);
+    agree(rt, names.next_back(), None);
+    agree(rt, users.next(), None);
+    agree(rt, users.next_back(), None);
 }

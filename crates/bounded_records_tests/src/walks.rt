@@ -1,7 +1,7 @@
 //! Iterators from both ends of directories of each size up to 60, and what is printed for debugging.
 ghost use Rattle.std.specs.Prelude.{◌≤◌};
 
-use super::users::{agree, ranked};
+use super::users::{agree, comes_last, comes_next, have_ended, ranked, replaces, say_left};
 use bounded_records::{Directory, Names, User, Users};
 use std::process::Abort;
 
@@ -9,31 +9,21 @@ use std::process::Abort;
 fn of_ranks(rt: &(impl Abort + AllocGlobal), count: u16) -> Directory {
     let mut users = Directory::new(rt.alloc());
     for rank in 0..count {
-        let old = users.insert(ranked(count - 1 - rank));
-        agree(rt, old, Ok(None));
+        replaces(rt, &mut users, ranked(count - 1 - rank), None);
     }
     users
 }
 
 /// Both iterators have these ranks left, by their lengths, and by a clone that is read to its end.
 fn has_left(rt: &impl Abort, names: &Names, users: &Users, front: u16, back: u16) {
-    let left = back.saturating_sub(front) as usize;
-    agree(rt, names.len(), left);
-    agree(rt, names.size_hint(), (left, Some(left)));
-    agree(rt, users.len(), left);
-    agree(rt, users.size_hint(), (left, Some(left)));
+    say_left(rt, names, users, back.saturating_sub(front) as usize);
     let mut names = names.clone().expect(rt, "no memory is taken");
     let mut users = users.clone().expect(rt, "no memory is taken");
     for rank in front..back {
-        let wanted = ranked(rank);
-        agree(rt, names.next(), Some(&wanted.username));
-        agree(rt, users.next(), Some(&wanted));
+        comes_next(rt, &mut names, &mut users, &ranked(rank));
     }
     for _ in 0..2u8 {
-        agree(rt, names.next(), None);
-        agree(rt, names.next_back(), None);
-        agree(rt, users.next(), None);
-        agree(rt, users.next_back(), None);
+        have_ended(rt, &mut names, &mut users);
     }
 }
 
@@ -51,15 +41,11 @@ fn walk(rt: &impl Abort, directory: &Directory, count: u16, ends: u32)
         }
         has_left(rt, &names, &users, front, back);
         if (ends >> (step % 8)) & 1 == 0 {
-            let wanted = ranked(front);
-            agree(rt, names.next(), Some(&wanted.username));
-            agree(rt, users.next(), Some(&wanted));
+            comes_next(rt, &mut names, &mut users, &ranked(front));
             front = front.saturating_add(1);
         } else {
             back = back.saturating_sub(1);
-            let wanted = ranked(back);
-            agree(rt, names.next_back(), Some(&wanted.username));
-            agree(rt, users.next_back(), Some(&wanted));
+            comes_last(rt, &mut names, &mut users, &ranked(back));
         }
     }
     has_left(rt, &names, &users, front, front);
@@ -86,7 +72,7 @@ fn each_is_printed_for_debugging(rt: HostRuntime) {
     agree(&rt, printed.as_str(), "{}{}");
     for name in ["b", "a"] {
         let user = User::new(name, "x").expect(&rt, "it fits");
-        agree(&rt, users.insert(user), Ok(None));
+        replaces(&rt, &mut users, user, None);
     }
     let (names, all) = (users.names(), users.users());
     let printed = format!(in rt.alloc(); "{users:?}|{names:?}|{all:?}|{names:#?}");
