@@ -8,6 +8,9 @@ use Rattle.arraystring_core.proofs.AppendLemmas.{char-utf8, char-in_front, char-
 use Rattle.arraystring_core.proofs.array_string.ArrayString.splice_char.Given as given
 use Rattle.arraystring_core.proofs.array_string.ArrayString.splice_char.Goals as goal
 
+pub overflow_sub-tail : goal.overflow_sub-tail
+overflow_sub-tail g c = opened-within c.self.invariant c.self.view_is _ c.requires.boundary
+
 pub encode-requires : goal.encode-requires
 encode-requires g c = (search rules, omega (arith, width-bounds c.args.ch))
 
@@ -32,10 +35,25 @@ returns-then-offset-size g c =
     let spelled = char-spelled c.args.ch (search rules) _ wide c.encode.ensures.bytes c.from_utf8_unchecked-given.ensures in
     c.compact_and_splice.ensures.text ∙ ap (λ l. front t c.args.at ++ (l ++ back t c.args.at)) spelled
 
+pub overflow_add-self-2 : goal.overflow_add-self-2
+overflow_add-self-2 g c = omega (arith, opened-within c.self.invariant c.self.view_is _ c.requires.boundary)
+
+pub overflow_cast-self : goal.overflow_cast-self
+overflow_cast-self g c = omega (arith, opened-within c.self.invariant c.self.view_is _ c.requires.boundary)
+
+pub overflow_add-offset-3 : goal.overflow_add-offset-3
+overflow_add-offset-3 g c = omega (arith, opened-within c.self.invariant c.self.view_is _ c.requires.boundary)
+
+pub overflow_add-offset-4 : goal.overflow_add-offset-4
+overflow_add-offset-4 g c = omega (arith, opened-within c.self.invariant c.self.view_is _ c.requires.boundary)
+
 pub shift-requires : goal.shift-requires
 shift-requires g c =
     let within = opened-within c.self.invariant c.self.view_is _ c.requires.boundary in
     (search rules, (omega arith, (omega arith, omega arith)))
+
+pub overflow_add-offset-5 : goal.overflow_add-offset-5
+overflow_add-offset-5 g c = omega (arith, opened-within c.self.invariant c.self.view_is _ c.requires.boundary)
 
 pub encode-requires-2 : goal.encode-requires-2
 encode-requires-2 g c =

@@ -1,5 +1,6 @@
-use Rattle.std.proofs.Common.{subst}
+use Rattle.std.proofs.Common.{subst, arith}
 use Rattle.std.proofs.KnownBytes.{Appends-trans}
+use Rattle.std.proofs.lemmas.Grind.{common_steps}
 use Rattle.std.proofs.lemmas.Result.{on_ok_weaker}
 use Rattle.arraystring_run.specs.Writing.{AppendsPrefix}
 use Rattle.arraystring_run.proofs.PrintLemmas.{front-all, front-more, front-then, filled, passed-all}
@@ -20,6 +21,9 @@ pub returns-then-rest-gt-BUFFER-clause-part : goal.returns-then-rest-gt-BUFFER-c
 returns-then-rest-gt-BUFFER-clause-part g c =
     subst (AppendsPrefix _ _) (filled _ _ _ _ _ _ c.split_at.ensures.front c.split_at.ensures.back c.add.ensures)
     (front-then _ _ _ _ _ c.in_ok-send.ensures.whole c.write_bytes.ensures.part)
+
+pub returns-clause-whole : goal.returns-clause-whole
+returns-clause-whole g c = grind (arith, common_steps)
 
 pub returns-clause-part : goal.returns-clause-part
 returns-clause-part g c =
