@@ -6,6 +6,7 @@ use std::hash::Hash;
 use std::ops::Deref;
 
 /// What the programs call of a string. A text fits where a call does not say what it does otherwise.
+/// Each has the hint `inline`, so a program is compiled as if it called its string itself.
 pub trait Text: Clone + Ord + Hash + Debug + Display + Write + Borrow<str> + Deref<Target = str> {
     fn empty() -> Self;
     fn of(text: &str) -> Self;
@@ -44,38 +45,47 @@ impl Side for OfCrate {
 }
 
 impl<const N: usize> Text for arraystring::ArrayString<N> {
+    #[inline]
     fn empty() -> Self {
         Self::new()
     }
 
+    #[inline]
     fn of(text: &str) -> Self {
         Self::try_from_str(text).expect("it fits")
     }
 
+    #[inline]
     fn push_text(&mut self, text: &str) {
         self.try_push_str(text).expect("it fits");
     }
 
+    #[inline]
     fn push_char(&mut self, ch: char) {
         self.try_push(ch).expect("it fits");
     }
 
+    #[inline]
     fn pop_char(&mut self) -> Option<char> {
         self.pop()
     }
 
+    #[inline]
     fn remove_first(&mut self) -> char {
         self.remove(0).expect("it is not empty")
     }
 
+    #[inline]
     fn make_empty(&mut self) {
         self.clear();
     }
 
+    #[inline]
     fn offer_char(&mut self, ch: char, _: usize) -> bool {
         self.try_push(ch).is_ok()
     }
 
+    #[inline]
     fn push_what_fits(&mut self, text: &str, _: usize) {
         self.push_str(text);
     }
@@ -92,7 +102,6 @@ impl Side for OfString {
     type Long = String;
 }
 
-// (these are no generics, so only the hint lets a program inline them)
 impl Text for String {
     #[inline]
     fn empty() -> Self {
@@ -156,38 +165,47 @@ impl Side for OfArrayvec {
 }
 
 impl<const N: usize> Text for arrayvec::ArrayString<N> {
+    #[inline]
     fn empty() -> Self {
         Self::new()
     }
 
+    #[inline]
     fn of(text: &str) -> Self {
         Self::from(text).expect("it fits")
     }
 
+    #[inline]
     fn push_text(&mut self, text: &str) {
         self.try_push_str(text).expect("it fits");
     }
 
+    #[inline]
     fn push_char(&mut self, ch: char) {
         self.try_push(ch).expect("it fits");
     }
 
+    #[inline]
     fn pop_char(&mut self) -> Option<char> {
         self.pop()
     }
 
+    #[inline]
     fn remove_first(&mut self) -> char {
         self.remove(0)
     }
 
+    #[inline]
     fn make_empty(&mut self) {
         self.clear();
     }
 
+    #[inline]
     fn offer_char(&mut self, ch: char, _: usize) -> bool {
         self.try_push(ch).is_ok()
     }
 
+    #[inline]
     fn push_what_fits(&mut self, text: &str, _: usize) {
         self.push_str(&text[..text.floor_char_boundary(self.remaining_capacity())]);
     }
