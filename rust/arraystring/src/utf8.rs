@@ -76,8 +76,10 @@ pub fn truncate_str(text: &str, size: u8) -> &str {
 unsafe fn last_boundary(text: &str, limit: usize) -> usize {
     let all = text.as_bytes();
     let mut end = limit;
-    // At most three bytes continue a character. The bound is for the compiler, which unrolls the loop.
-    // SAFETY: `end < all.len()`: `end` is at most `limit`, which is below `text.len()` by this function's `# Safety`.
+    // The first byte of a text continues no character, and at most three bytes in a row do. The bound is for the
+    // compiler, which unrolls the loop.
+    // SAFETY: `end < all.len()`: `end` is at most `limit`, which is below `text.len()` by this function's `# Safety`. It
+    // does not pass 0, since the first byte of a `&str` ends the loop.
     while continues(*unsafe { get_unchecked!(all, end) }) && limit - end < 3 {
         end -= 1;
     }
