@@ -6,7 +6,6 @@ use bounded_records::{Directory, RecordFault, User};
 use std::alloc::AllocError;
 use std::fmt::Debug;
 use std::process::Abort;
-use std::test::Fail;
 use test_support::equality::first_mistaken;
 use test_support::memory::{ScarceMemory, TIMES};
 
@@ -30,29 +29,30 @@ fn each_refusal_is_equal_to_itself_alone(rt: HostRuntime) {
 }
 
 #[test]
-fn a_role_is_found_in_a_record(rt: HostRuntime) -> Result<(), Fail> {
+fn a_role_is_found_in_a_record(rt: HostRuntime) {
     let record = b"\x03ann\0\0\0\0\0\0\0\0\0\0\0\0\0\0\0\0\0\x05admin";
-    agree(
-        &rt,
-        role_in(record),
-        Ok(ArrayString::try_from_str("admin")?),
-    );
+    let admin = ArrayString::try_from_str("admin").expect(&rt, "it fits");
+    agree(&rt, role_in(record), Ok(admin));
     agree(&rt, role_in(&record[1..]), Err(RecordFault::Length));
     agree(&rt, role_in(&[6; 27]), Err(RecordFault::Count));
     agree(&rt, role_in(&[0xFF; 27]), Err(RecordFault::Count));
     agree(&rt, role_in(&[5; 27]), Err(RecordFault::Padding));
     agree(&rt, role_in(&[0; 27]), Ok(ArrayString::new()));
-    Ok(())
+}
+
+/// A user of these texts.
+fn user(rt: &impl Abort, username: &str, role: &str) -> User {
+    User::new(username, role).expect(rt, "both texts fit")
 }
 
 #[test]
-fn users_are_entered_renamed_and_struck_off(rt: HostRuntime) -> Result<(), Fail> {
+fn users_are_entered_renamed_and_struck_off(rt: HostRuntime) {
     let mut users = Directory::new(rt.alloc());
-    let (ann, bob) = (User::new("ann", "admin")?, User::new("bob", "guest")?);
-    let zoe = User::new("zoe", "admin")?;
+    let (ann, bob) = (user(&rt, "ann", "admin"), user(&rt, "bob", "guest"));
+    let zoe = user(&rt, "zoe", "admin");
     check_users(&rt, &users, &[]);
-    agree(&rt, enter(&mut users, bob)?, Some(bob.role));
-    agree(&rt, enter(&mut users, ann)?, Some(ann.role));
+    agree(&rt, enter(&mut users, bob), Ok(Some(bob.role)));
+    agree(&rt, enter(&mut users, ann), Ok(Some(ann.role)));
     check_users(&rt, &users, &[ann, bob]);
     let taken = rename(&mut users, &ann.username, bob.username);
     agree(&rt, taken, Err(NotRenamed::Taken));
@@ -67,7 +67,6 @@ fn users_are_entered_renamed_and_struck_off(rt: HostRuntime) -> Result<(), Fail>
     agree(&rt, strike_off(&mut users, &bob.username), true);
     agree(&rt, strike_off(&mut users, &bob.username), false);
     check_users(&rt, &users, &[zoe]);
-    Ok(())
 }
 
 /// How many users are entered at most.
@@ -128,16 +127,18 @@ fn directories_of_each_size(rt: HostRuntime) {
 /// Memory grows from none in small steps. A growth of the directory is refused until there is memory for it.
 /// If a user is refused, a rename of the last user to the name of this user is refused, too.
 #[test]
-fn each_refused_growth_changes_nothing(rt: HostRuntime) -> Result<(), Fail> {
+fn each_refused_growth_changes_nothing(rt: HostRuntime) {
     let mut users = Directory::new(rt.alloc());
-    let Some(mut scarce) = ScarceMemory::take(&rt)? else {
-        return Ok(());
+    let scarce = ScarceMemory::take(&rt).expect(&rt, "all memory is taken");
+    let Some(mut scarce) = scarce else {
+        return;
     };
     let mut count = 0u8;
     let mut renames = 0u32;
     let mut dumps = 0u32;
     for _ in 0..TIMES {
-        scarce.leave_more(rt.alloc())?;
+        let rest = scarce.leave_more(rt.alloc());
+        rest.expect(&rt, "the rest is taken again");
         let before = count;
         for number in before..COUNT {
             let user = numbered(number);
@@ -167,5 +168,4 @@ fn each_refused_growth_changes_nothing(rt: HostRuntime) -> Result<(), Fail> {
     assert!(rt; renames > 10);
     assert!(rt; dumps > 10);
     check_first(&rt, &users, COUNT);
-    Ok(())
 }

@@ -4,9 +4,16 @@ use crate::equality::first_mistaken;
 use crate::memory::ScarceMemory;
 use crate::printing::{Alone, first_debug_difference, forms};
 use crate::table::{LETTERS, column, rows};
+use std::alloc::Global;
 use std::fmt;
 use std::fmt::{Alignment, Debug, Write};
-use std::test::Fail;
+use std::process::Abort;
+
+/// Asserts that two values are equal. An `assert_eq!` costs the proof of a test three times as much as
+/// a call.
+fn agree<T: PartialEq + Debug + Drop>(rt: &impl Abort, gave: T, wanted: T) {
+    assert_eq!(rt; gave, wanted);
+}
 
 /// Is printed as the form is written in which it is printed.
 #[derive(Drop)]
@@ -37,16 +44,15 @@ impl Debug for Written {
 }
 
 #[test]
-fn each_form_is_printed(rt: HostRuntime) -> Result<(), Fail> {
+fn each_form_is_printed(rt: HostRuntime) {
     let alloc = rt.alloc();
     for w in 1..30usize {
-        let printed = forms(alloc, &Written, w)?;
+        let printed = forms(alloc, &Written, w).expect(&rt, "memory for the forms");
         let wanted = format!(in alloc;
             "|#|{w}|<{w}|>{w}|*^{w}|0{w}|#{w}|.{w}|>{w}.1|*^#{w}.1|+|+#|+{w}|+.{w}|+#0{w}"
-        )?;
-        assert_eq!(rt; printed, wanted);
+        );
+        agree(&rt, Ok(printed), wanted);
     }
-    Ok(())
 }
 
 /// Is printed as `b` at one width, and as `a` at each other.
@@ -59,22 +65,31 @@ impl Debug for At {
     }
 }
 
+/// What is printed of two values at the first width at which they differ.
+fn apart<T: Debug>(
+    rt: &(impl Abort + AllocGlobal),
+    value: &At,
+    other: &T,
+) -> Option<(String, String)> {
+    first_debug_difference(rt.alloc(), value, other).expect(rt, "memory for what is printed")
+}
+
+/// Asserts that a text is the forms of a value at a width.
+fn are_forms<T: Debug>(rt: &(impl Abort + AllocGlobal), printed: String, value: &T, width: usize) {
+    agree(rt, Ok(printed), forms(rt.alloc(), value, width));
+}
+
 #[test]
-fn two_values_that_are_printed_differently_at_a_width(rt: HostRuntime) -> Result<(), Fail> {
-    let alloc = rt.alloc();
+fn two_values_that_are_printed_differently_at_a_width(rt: HostRuntime) {
     for at in 1..40usize {
-        let apart = first_debug_difference(alloc, &At(at), &Alone("a"))?;
-        assert_eq!(rt; apart.is_some(), at < 30);
-        if let Some((printed, other)) = apart {
-            assert_eq!(rt; printed, forms(alloc, &At(at), at)?);
-            assert_eq!(rt; other, forms(alloc, &Alone("a"), at)?);
+        let both = apart(&rt, &At(at), &Alone("a"));
+        agree(&rt, both.is_some(), at < 30);
+        if let Some((printed, other)) = both {
+            are_forms(&rt, printed, &At(at), at);
+            are_forms(&rt, other, &Alone("a"), at);
         }
-        assert_eq!(rt;
-            first_debug_difference(alloc, &At(at), &At(at))?.is_some(),
-            false
-        );
+        agree(&rt, apart(&rt, &At(at), &At(at)).is_some(), false);
     }
-    Ok(())
 }
 
 #[test]
@@ -85,40 +100,42 @@ fn rows_and_columns_are_read(rt: HostRuntime) {
         ";
     let mut lines = rows(table);
     let first = lines.next().unwrap_or_default();
-    assert_eq!(rt;
-        (column(first, 0), column(first, 1), column(first, 2)),
-        ("a", " b ", "xxx")
-    );
-    assert_eq!(rt; column(first, 3), "no column");
+    let columns = [0, 1, 2, 3].map(|at| column(first, at));
+    agree(&rt, columns, ["a", " b ", "xxx", "no column"]);
     let second = lines.next().unwrap_or_default();
-    assert_eq!(rt;
-        (column(second, 0), column(second, 1), column(second, 2)),
-        ("", "", "x x")
-    );
-    assert_eq!(rt; lines.next(), None);
-    assert_eq!(rt; (LETTERS.len(), LETTERS.trim_matches('x')), (256, ""));
+    let columns = [0, 1, 2].map(|at| column(second, at));
+    agree(&rt, columns, ["", "", "x x"]);
+    agree(&rt, lines.next(), None);
+    agree(&rt, LETTERS.len(), 256);
+    agree(&rt, LETTERS.trim_matches('x'), "");
 }
 
 #[test]
 fn the_first_two_that_are_not_told_apart(rt: HostRuntime) {
-    assert_eq!(rt; first_mistaken(&[1u8, 2, 3]), None);
-    assert_eq!(rt; first_mistaken(&[1u8, 2, 3, 2]), Some((1, 3)));
+    agree(&rt, first_mistaken(&[1u8, 2, 3]), None);
+    agree(&rt, first_mistaken(&[1u8, 2, 3, 2]), Some((1, 3)));
     // no number is equal to this one, so it is not to itself
-    assert_eq!(rt; first_mistaken(&[0.0, f64::NAN]), Some((1, 1)));
+    agree(&rt, first_mistaken(&[0.0, f64::NAN]), Some((1, 1)));
+}
+
+/// Whether there are so many bytes of memory in one piece.
+fn can_be_had(alloc: Global, size: usize) -> bool {
+    Vec::<u8>::with_capacity(alloc, size).is_ok()
 }
 
 #[test]
-fn what_is_left_can_be_had(rt: HostRuntime) -> Result<(), Fail> {
-    let alloc = rt.alloc();
-    let Some(mut scarce) = ScarceMemory::take(&rt)? else {
-        return Ok(());
+fn what_is_left_can_be_had(rt: HostRuntime) {
+    let scarce = ScarceMemory::take(&rt).expect(&rt, "all memory is taken");
+    let Some(mut scarce) = scarce else {
+        return;
     };
-    scarce.leave_more(alloc)?;
-    let none = Vec::<u8>::with_capacity(alloc, 1000).is_ok();
-    scarce.leave(alloc, 10000)?;
-    let little = Vec::<u8>::with_capacity(alloc, 1000).is_ok();
-    let much = Vec::<u8>::with_capacity(alloc, 20000).is_ok();
+    let rest = scarce.leave_more(rt.alloc());
+    rest.expect(&rt, "the rest is taken again");
+    let none = can_be_had(rt.alloc(), 1000);
+    let rest = scarce.leave(rt.alloc(), 10000);
+    rest.expect(&rt, "the rest is taken again");
+    let little = can_be_had(rt.alloc(), 1000);
+    let much = can_be_had(rt.alloc(), 20000);
     drop(scarce);
-    assert_eq!(rt; (none, little, much), (false, true, false));
-    Ok(())
+    agree(&rt, (none, little, much), (false, true, false));
 }

@@ -7,7 +7,7 @@ use arraystring::prelude::{MaxString, SmallString};
 use arraystring::utils::Steps;
 use arraystring::{ArrayString, Error};
 use std::fmt::Write;
-use std::test::Fail;
+use std::process::Abort;
 use test_support::table::LETTERS;
 
 #[test]
@@ -167,9 +167,15 @@ fn a_small_string_refuses(rt: HostRuntime) {
     agree(&rt, "empty", result, Err(Error::OutOfBounds));
 }
 
+/// One letter more than fits into any string.
+fn one_too_many(rt: &(impl Abort + AllocGlobal), letter: &str) -> String {
+    let letters = letter.repeat(rt.alloc(), 256);
+    letters.expect(rt, "memory for the letters")
+}
+
 #[test]
-fn a_greatest_string_is_filled(rt: HostRuntime) -> Result<(), Fail> {
-    let letters = "0".repeat(rt.alloc(), 256)?;
+fn a_greatest_string_is_filled(rt: HostRuntime) {
+    let letters = one_too_many(&rt, "0");
     let mut added = MaxString::from("My String My other String");
     let all_but_one = letters.as_str().get(1..).unwrap_or_default();
     agree(&rt, "255 zeros", all_but_one.len(), 255);
@@ -178,7 +184,6 @@ fn a_greatest_string_is_filled(rt: HostRuntime) -> Result<(), Fail> {
     agree(&rt, "the text", added.as_str(), "My String My other String");
     let refused = ArrayString::<300>::try_from_str(&letters);
     agree(&rt, "256 zeros", refused, Err(OutOfBounds));
-    Ok(())
 }
 
 #[test]
@@ -236,14 +241,13 @@ fn the_last_byte(rt: HostRuntime) {
 }
 
 #[test]
-fn no_capacity_is_above_255(rt: HostRuntime) -> Result<(), Fail> {
+fn no_capacity_is_above_255(rt: HostRuntime) {
     agree(&rt, "300", ArrayString::<300>::capacity(), 255);
-    let more = "a".repeat(rt.alloc(), 256)?;
+    let more = one_too_many(&rt, "a");
     let most = more.as_str().get(1..).unwrap_or_default();
     let string = ArrayString::<300>::try_from_str(most).unwrap_or_default();
     agree(&rt, "the size", string.len(), 255);
     agree(&rt, "255 letters", string.as_str(), most);
     let refused = ArrayString::<300>::try_from_str(&more);
     agree(&rt, "256 letters", refused, Err(OutOfBounds));
-    Ok(())
 }

@@ -372,7 +372,7 @@ fn in_range<R: Abort + AllocGlobal, const N: usize>(
             return of_range(rt, text, call, row, Opaque { first, last });
         }
         if wants_a_part(call) {
-            part!(rt row text.call (first, last));
+            part_in_bounds(rt, text, call, row, first, last);
             return true;
         }
         return of_range(rt, text, call, row, (first, last));
@@ -392,6 +392,18 @@ fn wants_a_part(call: &str) -> bool {
     )
 }
 
+/// The calls that want a part of the text, on two bounds.
+fn part_in_bounds<R: Abort + AllocGlobal, const N: usize>(
+    rt: &R,
+    text: &mut ArrayString<N>,
+    call: &str,
+    row: &str,
+    first: Bound<u8>,
+    last: Bound<u8>,
+) {
+    part!(rt row text.call (first, last));
+}
+
 /// The calls that want a part of the text, on a range of Rust with these ends.
 fn part_in_rust_range<R: Abort + AllocGlobal, const N: usize>(
     rt: &R,
@@ -402,13 +414,62 @@ fn part_in_rust_range<R: Abort + AllocGlobal, const N: usize>(
     end: &str,
 ) {
     let (first, last) = (index(rt, start), index(rt, end));
-    match (start.is_empty(), end.is_empty(), end.starts_with('=')) {
-        (true, true, _) => part!(rt row text.call ..),
-        (false, true, _) => part!(rt row text.call first..),
-        (true, false, true) => part!(rt row text.call ..=last),
-        (true, false, false) => part!(rt row text.call ..last),
-        (false, false, true) => part!(rt row text.call first..=last),
-        (false, false, false) => part!(rt row text.call first..last),
+    let is_inclusive = end.starts_with('=');
+    if end.is_empty() {
+        part_to_the_end(rt, text, call, row, !start.is_empty(), first);
+    } else if start.is_empty() {
+        part_from_the_start(rt, text, call, row, is_inclusive, last);
+    } else {
+        part_between(rt, text, call, row, is_inclusive, first, last);
+    }
+}
+
+/// Those calls on `first..`, or on `..` if no start is written.
+fn part_to_the_end<R: Abort + AllocGlobal, const N: usize>(
+    rt: &R,
+    text: &mut ArrayString<N>,
+    call: &str,
+    row: &str,
+    has_start: bool,
+    first: u8,
+) {
+    if has_start {
+        part!(rt row text.call first..);
+    } else {
+        part!(rt row text.call ..);
+    }
+}
+
+/// Those calls on `..=last` or `..last`.
+fn part_from_the_start<R: Abort + AllocGlobal, const N: usize>(
+    rt: &R,
+    text: &mut ArrayString<N>,
+    call: &str,
+    row: &str,
+    is_inclusive: bool,
+    last: u8,
+) {
+    if is_inclusive {
+        part!(rt row text.call ..=last);
+    } else {
+        part!(rt row text.call ..last);
+    }
+}
+
+/// Those calls on `first..=last` or `first..last`.
+fn part_between<R: Abort + AllocGlobal, const N: usize>(
+    rt: &R,
+    text: &mut ArrayString<N>,
+    call: &str,
+    row: &str,
+    is_inclusive: bool,
+    first: u8,
+    last: u8,
+) {
+    if is_inclusive {
+        part!(rt row text.call first..=last);
+    } else {
+        part!(rt row text.call first..last);
     }
 }
 

@@ -1,13 +1,12 @@
 //! Strings to JSON values and back, which are cut, or are read whole or refused, worked out by hand.
-ghost use Rattle.std.specs.Prelude.{◌≤◌};
-
 use super::table::agree;
 use arraystring::integration::{NotText, ValueError};
 use arraystring::{ArrayString, CacheString};
 use serde_json::Value;
 use std::alloc::{AllocError, Global};
+use std::env::Env;
+use std::fmt::Debug;
 use std::process::Abort;
-use std::test::Fail;
 use test_support::memory::{ScarceMemory, TIMES};
 
 /// As many letters as fit.
@@ -46,15 +45,34 @@ fn parsed(rt: &(impl Abort + AllocGlobal), json: &str) -> Value {
 /// Asserts that the string that is read from the JSON text `given` has the text `wanted`, is written as a JSON
 /// text of `wanted`, and is read back from that.
 fn kept<S: Json>(rt: &(impl Abort + AllocGlobal), given: &Value, wanted: &str) {
+    let value = read::<S>(rt, given, wanted).value(rt.alloc());
+    let value = value.expect(rt, "memory for the value");
+    agree(rt, wanted, value.as_str(), Some(wanted));
+    let _ = read::<S>(rt, &value, wanted);
+    is_printed(rt, &value, wanted);
+}
+
+/// The string of a JSON text, which has the text `wanted`.
+fn read<S: Json>(rt: &impl Abort, given: &Value, wanted: &str) -> S {
     let string = S::read(given).expect(rt, "a string of a JSON text");
     agree(rt, wanted, string.text(), wanted);
-    let value = string.value(rt.alloc()).expect(rt, "memory for the value");
-    agree(rt, wanted, value.as_str(), Some(wanted));
-    let back = S::read(&value).expect(rt, "the same string");
-    agree(rt, wanted, back.text(), wanted);
+    string
+}
+
+/// Asserts that a JSON text of `wanted`, which has no escapes, is printed in quotes.
+fn is_printed(rt: &(impl Abort + AllocGlobal), value: &Value, wanted: &str) {
     let printed = value.to_string(rt.alloc()).expect(rt, "memory for it");
     let inside = printed.as_str().strip_prefix('"').unwrap_or_default();
     agree(rt, wanted, inside.strip_suffix('"'), Some(wanted));
+}
+
+/// Asserts that strings keep a text that is cut to their capacities.
+fn cuts_are_kept(rt: &(impl Abort + AllocGlobal), text: &str) {
+    let given = json_text(rt, text);
+    kept::<ArrayString<8>>(rt, &given, prefix(text, 8));
+    kept::<ArrayString<63>>(rt, &given, prefix(text, 63));
+    kept::<ArrayString<255>>(rt, &given, prefix(text, 255));
+    kept::<CacheString>(rt, &given, prefix(text, 63));
 }
 
 /// Texts of each size up to 300 bytes, of letters and of characters of each width.
@@ -66,11 +84,7 @@ fn texts_of_each_size_are_read_back(rt: HostRuntime) {
         for start in 0..10usize {
             for size in 0..301usize {
                 if let Some(text) = text.get(start..start + size) {
-                    let given = json_text(&rt, text);
-                    kept::<ArrayString<8>>(&rt, &given, prefix(text, 8));
-                    kept::<ArrayString<63>>(&rt, &given, prefix(text, 63));
-                    kept::<ArrayString<255>>(&rt, &given, prefix(text, 255));
-                    kept::<CacheString>(&rt, &given, prefix(text, 63));
+                    cuts_are_kept(&rt, text);
                     count = count.wrapping_add(1);
                 }
             }
@@ -114,41 +128,34 @@ fn other_values_are_not_texts(rt: HostRuntime) {
     }
 }
 
-/// Asserts that a JSON text is read whole at this capacity, and is then written as it, or is
+/// Asserts that a JSON text is read whole by a string of this capacity, and is then written as it, or is
 /// refused if it is larger.
-fn whole_or_refused<const N: usize>(
+fn whole_or_refused<S: Json + PartialEq + Debug>(
     rt: &(impl Abort + AllocGlobal),
     given: &Value,
     text: &str,
     capacity: usize,
-)
-    requires { N ≤ 300 }
-{
-    let read = ArrayString::<N>::try_from_value(given);
+) {
+    let read = S::read_whole(given);
     if text.len() > capacity {
         agree(rt, text, read, Err(ValueError::OutOfBounds));
         return;
     }
     let string = read.expect(rt, "a string of a text that fits");
-    agree(rt, text, string.as_str(), text);
-    let value = string.to_value(rt.alloc()).expect(rt, "memory for it");
+    agree(rt, text, string.text(), text);
+    let value = string.value(rt.alloc()).expect(rt, "memory for it");
     agree(rt, text, value.as_str(), Some(text));
-    agree(rt, text, ArrayString::try_from_value(&value), Ok(string));
+    agree(rt, text, S::read_whole(&value), Ok(string));
 }
 
-/// Asserts that a `CacheString` reads a JSON text whole and is then written as it, or refuses it if it
-/// is larger.
-fn cached_or_refused(rt: &(impl Abort + AllocGlobal), given: &Value, text: &str) {
-    let read = CacheString::try_from_value(given);
-    if text.len() > 63 {
-        agree(rt, text, read, Err(ValueError::OutOfBounds));
-        return;
-    }
-    let cached = read.expect(rt, "a string of a text that fits");
-    agree(rt, text, cached.0.as_str(), text);
-    let value = cached.to_value(rt.alloc()).expect(rt, "memory for it");
-    agree(rt, text, value.as_str(), Some(text));
-    agree(rt, text, CacheString::try_from_value(&value), Ok(cached));
+/// Asserts the same of a JSON text at several capacities.
+fn at_each_capacity(rt: &(impl Abort + AllocGlobal), text: &str) {
+    let given = json_text(rt, text);
+    whole_or_refused::<ArrayString<0>>(rt, &given, text, 0);
+    whole_or_refused::<ArrayString<8>>(rt, &given, text, 8);
+    whole_or_refused::<ArrayString<255>>(rt, &given, text, 255);
+    whole_or_refused::<ArrayString<300>>(rt, &given, text, 255);
+    whole_or_refused::<CacheString>(rt, &given, text, 63);
 }
 
 /// Texts of each size up to 300 bytes, of letters and of characters of each width.
@@ -160,12 +167,7 @@ fn texts_of_each_size_are_whole_or_refused(rt: HostRuntime) {
         for start in 0..10usize {
             for size in 0..301usize {
                 if let Some(text) = text.get(start..start + size) {
-                    let given = json_text(&rt, text);
-                    whole_or_refused::<0>(&rt, &given, text, 0);
-                    whole_or_refused::<8>(&rt, &given, text, 8);
-                    whole_or_refused::<255>(&rt, &given, text, 255);
-                    whole_or_refused::<300>(&rt, &given, text, 255);
-                    cached_or_refused(&rt, &given, text);
+                    at_each_capacity(&rt, text);
                     count = count.wrapping_add(1);
                 }
             }
@@ -194,16 +196,16 @@ fn is_kept(rt: &(impl Abort + AllocGlobal), text: &str) {
     let written = written.expect(rt, "memory for what is written");
     let value = parsed(rt, written.as_str());
     agree(rt, text, value.as_str(), Some(text));
-    whole_or_refused::<7>(rt, &value, text, 7);
-    whole_or_refused::<300>(rt, &value, text, 255);
-    cached_or_refused(rt, &value, text);
+    whole_or_refused::<ArrayString<7>>(rt, &value, text, 7);
+    whole_or_refused::<ArrayString<300>>(rt, &value, text, 255);
+    whole_or_refused::<CacheString>(rt, &value, text, 63);
 }
 
 #[test]
 fn escapes_take_the_room_of_their_characters(rt: HostRuntime) {
     let value = parsed(&rt, "\"a\\u00e9\\n\\ud83e\\udd14\"");
-    whole_or_refused::<8>(&rt, &value, "aé\n🤔", 8);
-    whole_or_refused::<7>(&rt, &value, "aé\n🤔", 7);
+    whole_or_refused::<ArrayString<8>>(&rt, &value, "aé\n🤔", 8);
+    whole_or_refused::<ArrayString<7>>(&rt, &value, "aé\n🤔", 7);
 }
 
 #[test]
@@ -223,6 +225,8 @@ trait Json: Drop {
 
     fn read(value: &Value) -> Result<Self, NotText>;
 
+    fn read_whole(value: &Value) -> Result<Self, ValueError>;
+
     fn text(&self) -> &str;
 }
 
@@ -233,6 +237,10 @@ impl<const N: usize> Json for ArrayString<N> {
 
     fn read(value: &Value) -> Result<Self, NotText> {
         Self::from_value(value)
+    }
+
+    fn read_whole(value: &Value) -> Result<Self, ValueError> {
+        Self::try_from_value(value)
     }
 
     fn text(&self) -> &str {
@@ -249,6 +257,10 @@ impl Json for CacheString {
         Self::from_value(value)
     }
 
+    fn read_whole(value: &Value) -> Result<Self, ValueError> {
+        Self::try_from_value(value)
+    }
+
     fn text(&self) -> &str {
         self.0.as_str()
     }
@@ -261,11 +273,12 @@ fn value_at_last<S: Json>(
     alloc: Global,
     mut scarce: ScarceMemory,
     string: &S,
-) -> Result<Value, Fail> {
+) -> Result<Value, AllocError> {
     let mut refused = 0u32;
     let mut made = Err(AllocError);
     for _ in 0..TIMES {
-        scarce.leave_more(alloc)?;
+        let rest = scarce.leave_more(alloc);
+        rest.expect(rt, "the rest is taken again");
         made = string.value(alloc);
         if made.is_ok() {
             break;
@@ -275,35 +288,34 @@ fn value_at_last<S: Json>(
     }
     drop(scarce);
     agree(rt, "refusals", refused >= 1, true);
-    Ok(made?)
+    made
+}
+
+/// Asserts that want of memory leaves a string of `LETTERS`, of which a value is made at last. It is read back
+/// from that value.
+fn outlasts_want_of_memory<S: Json + PartialEq + Debug>(
+    rt: &(impl Abort + Env + Eprint + AllocGlobal),
+    string: S,
+) {
+    let scarce = ScarceMemory::take(rt).expect(rt, "all memory is taken");
+    let Some(scarce) = scarce else {
+        return;
+    };
+    let made = value_at_last(rt, rt.alloc(), scarce, &string).expect(rt, "memory at last");
+    agree(rt, "at last", made.as_str(), Some(LETTERS));
+    let anew = string.value(rt.alloc()).expect(rt, "memory once more");
+    agree(rt, "read back", S::read(&made), Ok(string));
+    agree(rt, "once more", anew, made);
 }
 
 #[test]
-fn want_of_memory_leaves_the_string(rt: HostRuntime) -> Result<(), Fail> {
+fn want_of_memory_leaves_the_string(rt: HostRuntime) {
     let string: ArrayString<63> = ArrayString::from_str_truncate(LETTERS);
-    let Some(scarce) = ScarceMemory::take(&rt)? else {
-        return Ok(());
-    };
-    let made = value_at_last(&rt, rt.alloc(), scarce, &string)?;
-    agree(&rt, "at last", made.as_str(), Some(LETTERS));
-    let back = ArrayString::from_value(&made);
-    agree(&rt, "read back", back, Ok(string));
-    let anew = string.to_value(rt.alloc())?;
-    agree(&rt, "once more", anew, made);
-    Ok(())
+    outlasts_want_of_memory(&rt, string);
 }
 
 #[test]
-fn want_of_memory_leaves_the_cache_string(rt: HostRuntime) -> Result<(), Fail> {
+fn want_of_memory_leaves_the_cache_string(rt: HostRuntime) {
     let string = CacheString::from_str_truncate(LETTERS);
-    let Some(scarce) = ScarceMemory::take(&rt)? else {
-        return Ok(());
-    };
-    let made = value_at_last(&rt, rt.alloc(), scarce, &string)?;
-    agree(&rt, "at last", made.as_str(), Some(LETTERS));
-    let back = CacheString::from_value(&made);
-    agree(&rt, "read back", back, Ok(string));
-    let anew = string.to_value(rt.alloc())?;
-    agree(&rt, "once more", anew, made);
-    Ok(())
+    outlasts_want_of_memory(&rt, string);
 }
