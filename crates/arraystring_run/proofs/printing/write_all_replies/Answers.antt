@@ -1,4 +1,4 @@
-use Rattle.std.proofs.Common.{◌≡◌, ℕ, List, [], ◌++◌, ◌+◌, ◌<◌, ◌≤◌, length, get_or, refl, sym, append_assoc, map, drop, Option}
+use Rattle.std.proofs.Common.{◌≡◌, ℕ, List, [], ◌++◌, ◌+◌, ◌<◌, ◌≤◌, length, get_or, refl, sym, append_assoc, map, drop, Option, Result, Ok, Err, OnOk}
 use Rattle.std.proofs.lemmas.List.{append-nil, drop_more, drop_all}
 use Rattle.std.proofs.KnownBytes.{Appends-nil, Appends-kept}
 use Rattle.arraystring_run.specs.Runs.{view_of}
@@ -20,6 +20,10 @@ one-more rs i r done lt is parts =
 all-written : {N : ℕ} (rs : List (Reply N)) (i : ℕ) (old new : Option (List ℕ)) (waits : List ℕ) → length rs ≤ i
     → IsPartWritten rs i old new waits → IsPassed old new [] waits (replies_printed (map view_of rs))
 all-written rs i old new waits le (done, parts, passed) = rw (parts, drop_all i rs le, append-nil) passed
+
+on_ok_always : {T E P : Type 0} (r : Result T E) → P → OnOk r P
+on_ok_always (Ok x) p = p
+on_ok_always (Err e) p = tt
 
 pub loop-reply-init : goal.loop-reply-init
 loop-reply-init g c = ([], refl, record { done = []; whole = sym c.new-waiting.ensures; appended = Appends-nil _ })
@@ -49,6 +53,13 @@ returns-in_err-send-clause-part g c =
     let lines = all-written _ _ _ _ _ c.loop-reply-test.false c.loop-reply.invariant in
     let last = rw c.as_str.ensures.bytes at c.in_ok-put_text_line.ensures.whole in
     sent-front _ _ [] _ _ _ (passed-then _ _ [] _ _ _ _ lines _ last) c.in_err-send.ensures.part
+
+pub returns-clause-whole : goal.returns-clause-whole
+returns-clause-whole g c =
+    let lines = all-written _ _ _ _ _ c.loop-reply-test.false c.loop-reply.invariant in
+    let last = rw c.as_str.ensures.bytes at c.in_ok-put_text_line.ensures.whole in
+    on_ok_always c.flush.result (Appends-kept _ _ _ _
+    (sent-all _ _ [] _ _ _ (passed-then _ _ [] _ _ _ _ lines _ last) c.in_ok-send.ensures.whole) c.flush.ensures.bytes)
 
 pub returns-clause-part : goal.returns-clause-part
 returns-clause-part g c =

@@ -1,5 +1,4 @@
 use Rattle.std.proofs.Common.{◌≡◌, ℕ, suc, ◌+◌, ◌-◌, ◌≤◌, List, [], ◌∷◌, length, map, take, refl, sym, ap, ◌∙◌, arith, Option, Some, None, Bool, true, false, if◌then◌else◌}
-use Rattle.std.proofs.lemmas.Bool.Decides.{nat_tests}
 use Rattle.std.proofs.lemmas.Bool.{le-ltb, ltb-false}
 use Rattle.arraystring.specs.Text.{cap, size, cut}
 use Rattle.arraystring.proofs.CutLaws.{cut-all}
@@ -37,8 +36,8 @@ module _ (t : List ℕ) (n m : ℕ) (le : n ≤ m) where
 same-step : (c : Command) (t : List ℕ) (n m : ℕ) → n ≤ m → is_tight c t n ≡ false → IsSameStep c t n m
 same-step command.Capacity t n m le loose = record { untight = refl; text = refl; agrees = tt }
 same-step c t n m le loose =
-    let same : effect c t n ≡ effect c t m = grind (arith, nat_tests, same_cut t n m le) in record {
-      untight = grind (arith, nat_tests, adds_all t n m le);
+    let same : effect c t n ≡ effect c t m = grind (arith, same_cut t n m le) in record {
+      untight = grind (arith, adds_all t n m le);
       text = ap (λ (e : Effect). e.text) same;
       agrees = ap (λ (e : Effect). e.reply) same;
     }
