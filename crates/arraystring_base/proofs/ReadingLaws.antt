@@ -14,11 +14,11 @@ abbrev IsUnit : ℕ → Type 0
 IsUnit unit = unit < 0x1_0000
 
 -- what a unit is by itself: `grind` takes the two cases of `single_item`, a surrogate or none, and the ranges decide the rest
-single_item-character : (u : ℕ) → IsScalarValue u → single_item u ≡ Char u
+pub single_item-character : (u : ℕ) → IsScalarValue u → single_item u ≡ Char u
 unfolding single_item
 single_item-character u h = grind (arith, nat_tests)
 
-single_item-lone : (u : ℕ) → 0xD800 ≤ u → u < 0xE000 → single_item u ≡ Lone u
+pub single_item-lone : (u : ℕ) → 0xD800 ≤ u → u < 0xE000 → single_item u ≡ Lone u
 unfolding single_item
 single_item-lone u above below = grind (arith, nat_tests)
 

@@ -2,7 +2,7 @@
 ghost use Rattle.std.specs.Prelude.{◌≡◌, ◌+◌, ◌-◌, ◌*◌, ◌<◌, ◌≤◌, ◌↔◌, ℕ, List, [], ◌∷◌, Some, None, IsTrue, IfSome, IfNone};
 ghost use Rattle.std.specs.Iterator.{YieldsFirst, item_count};
 ghost use Rattle.arraystring_base.specs.Utf16.{IsReading, IsHigh, IsLow};
-ghost use Rattle.arraystring_base.specs.Reading.{pair_character, single_item};
+ghost use Rattle.arraystring_base.specs.Reading.{pair_character};
 
 use std::char;
 use std::iter::FusedIterator;
@@ -57,16 +57,16 @@ impl<'a> Iterator for Units<'a> {
     fn next(&mut self) -> Option<Unit16> {
         let (first, rest) = self.rest.split_first()?;
         let unit = *first;
-        if unit < 0xD800 {
+        if let Some(ch) = char::from_u32(unit as u32) {
             self.rest = rest;
-            return Some(single_item(unit));
+            return Some(Unit16::Char(ch));
         }
         if let Some((ch, rest)) = pair(unit, rest) {
             self.rest = rest;
             return Some(Unit16::Char(ch));
         }
         self.rest = rest;
-        Some(single_item(unit))
+        Some(Unit16::Lone(unit))
     }
 }
 
@@ -103,15 +103,4 @@ fn is_low(unit: u16) -> bool
     ensures { IsTrue result ↔ IsLow unit }
 {
     matches!(unit, 0xDC00..=0xDFFF)
-}
-
-/// The item of a unit that is no part of a pair.
-#[tactic(auto, unfolding(crate::specs::Reading::single_item))]
-fn single_item(unit: u16) -> Unit16
-    ensures { result ≡ single_item unit }
-{
-    match char::from_u32(unit as u32) {
-        Some(ch) => Unit16::Char(ch),
-        None => Unit16::Lone(unit),
-    }
 }

@@ -100,16 +100,16 @@ impl<'a> Iterator for Units<'a> {
     fn next(&mut self) -> Option<Unit16> {
         let (first, rest) = self.rest.split_first()?;
         let unit = *first;
-        if unit < 0xD800 {
+        if let Some(ch) = char::from_u32(unit as u32) {
             self.rest = rest;
-            return Some(single_item(unit));
+            return Some(Unit16::Char(ch));
         }
         if let Some((ch, rest)) = pair(unit, rest) {
             self.rest = rest;
             return Some(Unit16::Char(ch));
         }
         self.rest = rest;
-        Some(single_item(unit))
+        Some(Unit16::Lone(unit))
     }
 
     /// The units that are left bound the items, which take one or two each.
@@ -157,13 +157,4 @@ fn is_high(unit: u16) -> bool {
 #[inline]
 fn is_low(unit: u16) -> bool {
     matches!(unit, 0xDC00..=0xDFFF)
-}
-
-/// The item of a unit that is no part of a pair.
-#[inline]
-fn single_item(unit: u16) -> Unit16 {
-    match char::from_u32(unit as u32) {
-        Some(ch) => Unit16::Char(ch),
-        None => Unit16::Lone(unit),
-    }
 }
