@@ -2,8 +2,8 @@
 
 Each public call of `ArrayString` is made by a test of `arraystring_tests`, and stands in CALLS.md. What ends in `_counted` needs no
 row there, since one section of that page speaks of all of them. The list there has no call that is gone. Each law that a caller
-calls is called by a test. Each command of a script stands on the page of commands. A comment is no test, nor are the files that
-make the calls of a table: a row has to.
+calls is called by a test. Each command of a script stands on the page of commands. A test makes a call, or has it in the second column
+of a row. A comment is no test, nor are the files that make the calls of a table.
 """
 import re
 
@@ -27,8 +27,9 @@ def main(arguments, root):
                      "crates/arraystring_core/src/array_string/*.rt", "crates/arraystring_core/src/integration.rt")
     laws = names_in(root, r"(?m)^pub fn (\w+)", *(f"crates/{it}/src/laws.rt" for it in ("arraystring_base", "arraystring_core", "arraystring")))
     commands = names_in(root, r'"(\w+)"(?= =>| \|| if)', "crates/arraystring_run/src/line.rt")
-    tests = "".join(read(it) for it in sorted((root / TESTS).glob("*.rt")) if it.name not in MAKERS)
-    tested = set(re.findall(r"\w+", re.sub(r"//.*", "", tests)))
+    tests = re.sub("//.*", "", "".join(read(it) for it in sorted((root / TESTS).glob("*.rt")) if it.name not in MAKERS))
+    columns = " ".join(line.split("|")[1] for line in tests.splitlines() if line.count("|") > 1)
+    tested = {*re.findall(r"(?<!fn )\b(\w+)(?:::<[^()\n]*>)?\(", tests), *re.findall(r"\w+", columns)}
     listed = set(re.findall(r"\b(\w+)\(", " ".join(inline_code(section(read(root / CALLS), "The calls")))))
     rows = set(re.findall(r"\w+", " ".join(inline_code(read(root / SCRIPTS)))))
     listed |= {it for it in calls if it.endswith("_counted")}

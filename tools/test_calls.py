@@ -40,6 +40,10 @@ class Calls(TreeTest):
             (f"pop {tests}", (f"{calls.TESTS}/remove.rt", "pop ", ""), (f"{calls.TESTS}/calls.rt", "pop()\n")),
             (f"pop {tests}", (f"{calls.TESTS}/remove.rt", "pop ", ""), (f"{calls.TESTS}/call_list.rt", "pop()\n")),
             (f"len {tests}", (f"{calls.TESTS}/more.rt", "    text.len", "    // text.len")),
+            # (a name, a text, and another column of a row are no call)
+            *((f"len {tests}", (f"{calls.TESTS}/more.rt", r"text\.len\(\);", it))
+              for it in ("let len = 1;", 'told("len");', "fn len() {}", '"len | a | len"')),
+            ("", (f"{calls.TESTS}/more.rt", r"text\.len\(\)", "ArrayString::len::<4>()")),
             (f"crates/arraystring_core/src/laws.rt: popped {tests}", (f"{calls.TESTS}/more.rt", "    popped.*\n", "")),
             (f"crates/arraystring_base/src/laws.rt: parts {tests}", (f"{calls.TESTS}/more.rt", "    parts.*\n", "")),
             (f"crates/arraystring/src/laws.rt: given {tests}", (f"{calls.TESTS}/more.rt", "    given.*\n", "")),

@@ -190,11 +190,14 @@ STORED = "./proofs/{}/Answers.antt:12:4: error: `returns-clause-text`: {}"
 MOVES = "crates/moves/must-fail"
 # Refuses what has no `0` in it.
 RT = f"""#!/bin/sh
-[ "$*" = "must-fail moves" ] || exit 9
-for it in crates/moves/must-fail/*.edit; do
-    told='refused, as it must be: {GOAL.format(13, "returns-clause-text")}'
-    ! grep -q 'new:.*0' "$it" || told='NOT REFUSED'
-    printf '%s\\n' "rt: must-fail moves/${{it##*/}}: $told"
+[ "$1" = must-fail ] || exit 9
+shift
+for crate; do
+    for it in crates/$crate/must-fail/*.edit; do
+        told='refused, as it must be: {GOAL.format(13, "returns-clause-text")}'
+        ! grep -q 'new:.*0' "$it" || told='NOT REFUSED'
+        printf '%s\\n' "rt: must-fail $crate/${{it##*/}}: $told"
+    done
 done
 """
 
@@ -276,4 +279,12 @@ class Refusals(TreeTest):
                 ("moves plain.is_two: refused at src/lib.rt:13, where nothing is", (source, "^fn move", "fn f() {\n    9\n}\n\n\n\n\n\nfn move")),
                 words=words)
         self.assertEqual(self.told(evidence, "--more", "none"), (True, f"no wrong bodies are in crates/none/{MORE}"))
+        # (of two crates both are tried where none is named, and that which is named alone)
+        other = path.replace("moves", "others")
+        for text in ("file: src/lib.rt\nold:     0\nnew:     2\n", "file: src/lib.rt\nold:     0\nnew:     0 + 0\n"):
+            is_refused = text.endswith("2\n")
+            with self.changed(("crates.txt", "moves:\nothers:\n"), ("crates/others/src/lib.rt", COUNTED), (other, text)):
+                for words, is_seen in ((["--more"], True), (["--more", "others"], True), (["--more", "moves"], False)):
+                    is_bad, said = self.told(evidence, *words)
+                    self.assertEqual((is_bad, "must-fail others/" in said), (is_seen and not is_refused, is_seen), words)
         self.assertTrue((self.root / path).exists() and (self.root / MOVES / "plain.is_one.edit").exists())

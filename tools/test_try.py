@@ -57,13 +57,14 @@ fi
 [ "$4" = capacity ] || capacity=0
 answer 0 '' "$(yes "number $capacity" 2> /dev/null | head -n "$2"; echo 'final ')"
 """
-# Ends well at the full device, at the early-closed pipe, and with a longer word, each at one word alone.
+# Ends well at the full device, at the early-closed pipe, and with a longer word, and says more than is due, each at one word alone.
 AT_A_WORD = """\
 answer() {
     case "$output at $given" in
         'a full device at small' | 'a pipe that is closed early at cache') [ "$1" = 2 ] || finish 0 ;;
     esac
     [ "${given#max}" = "$given" ] || [ ${#given} != 131071 ] || finish 0
+    [ "$output at $given at $1" != 'a file at cache at 0' ] || finish 0 more "$3"
     finish "$@"
 }"""
 
@@ -86,6 +87,8 @@ class Try(TreeTest):
         """And nowhere else: in each other case it is right."""
         wanted = [f"{count} lines into a full device at small" for count in (0, 1, 6, 700, 5000)]
         wanted += ["100,000 lines into a pipe that is closed early at cache", "131071 bytes that begin with max"]
+        wanted += ["a script at cache", "100,000 lines at cache", "5,000 lines in little memory at cache"]
+        wanted += [f"{count} lines into a file at cache" for count in (0, 1, 6, 700, 5000)]
         self.assertEqual(sorted(self.differing(AT_A_WORD)), sorted(wanted))
 
     def test_a_program_that_is_not_there_is_refused(self):

@@ -141,6 +141,7 @@ pub(crate) mod char {
     /// # Safety
     ///
     /// The number must be a scalar value.
+    #[expect(clippy::disallowed_methods, reason = "it is tested here")]
     #[inline(always)]
     pub(crate) const unsafe fn from_u32_unchecked(number: u32) -> char {
         if cfg!(feature = "checked") && char::from_u32(number).is_none() {
@@ -175,6 +176,7 @@ pub(crate) mod str {
     /// # Safety
     ///
     /// The bytes must be UTF-8.
+    #[expect(clippy::disallowed_methods, reason = "it is tested here")]
     #[inline(always)]
     pub(crate) const unsafe fn from_utf8_unchecked(bytes: &[u8]) -> &str {
         if cfg!(feature = "checked") && from_utf8(bytes).is_err() {

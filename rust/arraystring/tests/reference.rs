@@ -396,3 +396,27 @@ fn a_page_says_of_a_file_that_the_package_lacks_where_it_is() {
     }
     assert!(count >= 10, "{count} paths");
 }
+
+#[test]
+fn the_pages_say_which_rust_is_needed() {
+    let said = format!("Rust {} or later", env!("CARGO_PKG_RUST_VERSION"));
+    for page in ["README.md", "MOVING.md"] {
+        assert!(fs::read_to_string(page).expect("a text").contains(&said), "{page}: `{said}` is not there");
+    }
+}
+
+/// Nothing else tells that one of these is gone.
+#[test]
+fn the_root_denies_what_no_test_sees() {
+    let root = fs::read_to_string("src/lib.rs").expect("a text");
+    let denied = root.lines().filter_map(|line| line.strip_prefix("#![deny(")?.strip_suffix(")]"));
+    let denied: Vec<_> = denied.flat_map(|lints| lints.split(", ")).collect();
+    for lint in [
+        "missing_docs",
+        "unsafe_op_in_unsafe_fn",
+        "clippy::undocumented_unsafe_blocks",
+        "clippy::cast_possible_truncation",
+    ] {
+        assert!(denied.contains(&lint), "{lint} is none of {denied:?}");
+    }
+}

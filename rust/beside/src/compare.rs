@@ -223,8 +223,9 @@ impl Comparison<'_> {
         let has = |item: &Item, word: &str| item.contract.iter().any(|clause| clause.starts_with(word));
         let asks = |other: &Ruled| around.is_some_and(|(head, _)| head == other.item.path) && has(&other.item, "can_");
         let requires = has(&said.item, "requires") || self.sources.iter().any(asks);
-        let is_function = |part: &[Token]| part[1].is("fn") && part[2].kind == Kind::Word;
-        let is_unsafe = rust.item.tokens.windows(3).any(|part| part[0].is("unsafe") && is_function(part));
+        // (A function in its body may be one, too.)
+        let is_named = |part: &[&Token]| part[1].is("fn") && part[2].kind == Kind::Word;
+        let is_unsafe = head(&rust.item.tokens).windows(3).any(|part| part[0].is("unsafe") && is_named(part));
         if let Some(what) = docs::compare(&said.item, &rust.item) {
             self.fault(&rust.item, format!("`{path}`: {what}"));
         }

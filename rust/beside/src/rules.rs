@@ -13,23 +13,18 @@ use crate::lexer::{Kind, Token, closing, scan};
 
 /// What is left out of a source.
 const SOURCE: &[Row] = &[
-    // Ghost parts: bounds, steps of proofs, and calls of laws, whose results are facts.
+    // Ghost parts: bounds, and calls of laws, whose results are facts.
     row("+ Drop", "", Then::Anything),
     row("#[derive(Drop)]", "", Then::Anything),
     row("#[tactic($how)]", "", Then::Anything),
-    row("prove!($fact);", "", Then::Anything),
     row("text_fits($fact);", "", Then::Anything),
     row("only_reading($fact);", "", Then::Anything),
     // The counter: `look` counts one look.
     row("look($of, $at, steps)", "$of[$at]", Then::Anything),
     row(", steps", "", Then::End),
-    row(", *steps", "", Then::End),
-    row(", &mut steps", "", Then::End),
-    row(", Steps::new()", "", Then::End),
     row(", &mut Steps::new()", "", Then::End),
     row("(&mut Steps::new())", "()", Then::Anything),
     row(", steps: &mut Steps", "", Then::End),
-    row(", mut steps: Steps", "", Then::End),
     // A formatter of a source has the type of what it writes to.
     row("fn fmt<W: fmt::Write>(", "fn fmt(", Then::Anything),
     row("Formatter<W>", "Formatter<'_>", Then::Anything),
@@ -40,15 +35,12 @@ const SOURCE: &[Row] = &[
 const BOTH: &[Row] = &[
     row("#[inline]", "", Then::Anything),
     row("#[inline($how)]", "", Then::Anything),
-    row("#[cold]", "", Then::Anything),
     row("#[must_use]", "", Then::Anything),
     row("#[track_caller]", "", Then::Anything),
     row("#[doc($how)]", "", Then::Anything),
     row("#[expect(clippy::cast_possible_truncation, reason = $why)]", "", Then::Anything),
     row(",)", ")", Then::Anything),
-    row(",]", "]", Then::Anything),
     row(",}", "}", Then::Anything),
-    row(",>", ">", Then::Anything),
     row("unsafe { $value }", "$value", Then::Anything),
 ];
 
@@ -61,7 +53,6 @@ const RUST: &[Row] = &[
         Then::Anything,
     ),
     row("<,", "<", Then::Anything),
-    row(",>", ">", Then::Anything),
     row("<>", "", Then::Anything),
     // What an `unsafe fn` requires is tested, in its first one or two lines.
     row("unsafe fn $head { required!($test);", "unsafe fn $head {", Then::Anything),

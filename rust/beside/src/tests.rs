@@ -51,8 +51,7 @@ fn ghost_parts_go() {
         ("impl Model for A { ghost a = { b }; }\nfn f() {}", "fn f() {}"),
         ("impl B for A { ghost a = { b }; fn f() {} }", "impl B for A { fn f() {} }"),
         ("fn f<F: Fn() + Drop>(a: F) {}", "fn f<F: Fn()>(a: F) {}"),
-        ("fn f() { prove!((a + 1) * 2 <= b); g() }", "fn f() { g() }"),
-        ("fn f() { text_fits(self); only_reading(units); g() }", "fn f() { g() }"),
+        ("fn f() { text_fits((a + 1) * 2 <= b); only_reading(units); g() }", "fn f() { g() }"),
         ("#[tactic(auto, using(a))] #[derive(Drop)] struct A;", "struct A;"),
     ]);
     for clause in ["a -- b", "a'}'", "a' b", "\"}\"", "'a"] {
@@ -62,15 +61,15 @@ fn ghost_parts_go() {
         );
     }
     differ(&[
-        ("fn f() { prove!(a == { b }); }", "fn f() {}"),
-        ("fn f() { prove!(a = b); }", "fn f() {}"),
-        ("fn f() { prove!(g(&mut a)); }", "fn f() {}"),
-        ("fn f() { prove!(self.pop()); }", "fn f() {}"),
-        ("fn f() { prove!(g!(a)); }", "fn f() {}"),
-        ("fn f() { prove!(g![a]); }", "fn f() {}"),
-        ("fn f() { prove!(g::<1>(a)); }", "fn f() {}"),
-        ("fn f() { prove!((a.g)(1)); }", "fn f() {}"),
-        ("fn f() { prove!(a < b?); }", "fn f() {}"),
+        ("fn f() { text_fits(a == { b }); }", "fn f() {}"),
+        ("fn f() { text_fits(a = b); }", "fn f() {}"),
+        ("fn f() { text_fits(g(&mut a)); }", "fn f() {}"),
+        ("fn f() { text_fits(self.pop()); }", "fn f() {}"),
+        ("fn f() { text_fits(g!(a)); }", "fn f() {}"),
+        ("fn f() { text_fits(g![a]); }", "fn f() {}"),
+        ("fn f() { text_fits(g::<1>(a)); }", "fn f() {}"),
+        ("fn f() { text_fits((a.g)(1)); }", "fn f() {}"),
+        ("fn f() { text_fits(a < b?); }", "fn f() {}"),
         ("fn f() { other(self); }", "fn f() {}"),
     ]);
 }
@@ -79,7 +78,7 @@ fn ghost_parts_go() {
 fn the_counter_goes() {
     same(&[
         ("fn f(a: u8, steps: &mut Steps) { g(a, steps); h(a, &mut Steps::new(), b) }", "fn f(a: u8) { g(a); h(a, b) }"),
-        ("fn f(a: u8, mut steps: Steps) { g(a, *steps, &mut steps, Steps::new(),) }", "fn f(a: u8) { g(a) }"),
+        ("fn f(a: u8, steps: &mut Steps,) { g(a, &mut Steps::new(),) }", "fn f(a: u8) { g(a) }"),
         ("fn f() { look(a.b, c + 1, steps) }", "fn f() { a.b[c + 1] }"),
         ("fn f() { look(*a, c, steps) }", "fn f() { (*a)[c] }"),
         ("fn f() { f_counted(&mut Steps::new()) } fn f_counted() { f_counted() }", "fn f() { f() }"),
@@ -104,6 +103,7 @@ fn the_counter_goes() {
             "fn f(a: u8, b: u8) { f_counted(b, a, &mut Steps::new()) } fn f_counted(a: u8, b: u8) { c }",
             "fn f(a: u8, b: u8) { c }",
         ),
+        ("fn f(a: u8) { f_counted(a, &mut Steps::new()) } fn f_counted(a: u16) { c }", "fn f(a: u8) { c }"),
         (
             "fn f(&self) { self.f_counted(&mut Steps::new()) } fn f_counted(&mut self) { g() }",
             "fn f(&mut self) { g() }",
@@ -115,8 +115,8 @@ fn the_counter_goes() {
 fn what_changes_no_result_goes() {
     same(&[
         ("#[inline] fn f() {}", "#[must_use] #[inline(always)] #[track_caller] #[doc(alias = \"g\")] fn f() {}"),
-        ("#[cold] fn f() {}", "#[expect(clippy::cast_possible_truncation, reason = \"b\")] fn f() {}"),
-        ("fn f(\n    a: u8,\n) { [1, 2,]; A { b, } }", "fn f(a: u8) { [1, 2]; A { b } }"),
+        ("fn f() {}", "#[expect(clippy::cast_possible_truncation, reason = \"b\")] fn f() {}"),
+        ("fn f(\n    a: u8,\n) { A { b, } }", "fn f(a: u8) { A { b } }"),
         (
             "use a::b; use std::c as d; extern crate g; pub fn f() {}",
             "use core::c as d; use g as _; pub(crate) fn f() {}",
@@ -128,6 +128,9 @@ fn what_changes_no_result_goes() {
     differ(&[
         ("fn f() {}", "#[cfg(a)] fn f() {}"),
         ("fn f() {}", "#[cfg(a)] mod b { fn f() {} }"),
+        ("", "#[cfg(not(test))] mod b { fn f() {} }"),
+        ("", "#[cfg(any(test, a))] mod b { fn f() {} }"),
+        ("fn f() {}", "#[cold] fn f() {}"),
         ("struct A;", "#[repr(C)] struct A;"),
         ("fn f() {}", "#[expect(clippy::undocumented_unsafe_blocks, reason = \"b\")] fn f() {}"),
         ("fn f() {}", "#[expect(clippy::cast_possible_truncation, unsafe_code, reason = \"b\")] fn f() {}"),
@@ -165,7 +168,10 @@ fn unsafe_blocks_and_functions_go() {
         ("fn f() { g(); h() }", "fn f() { unsafe { g(); h() } }"),
         ("fn f() { g() }", "fn f() { unsafe { g(); } }"),
     ]);
-    tells(&tree("fn f() requires { a } {}", "fn f() {}", ""), "a.rs:2: `f` is no `unsafe fn`, and its source requires");
+    for body in ["{}", "{ unsafe fn g() {} }"] {
+        let files = tree(&format!("fn f() requires {{ a }} {body}"), &format!("fn f() {body}"), "");
+        tells(&files, "a.rs:2: `f` is no `unsafe fn`, and its source requires");
+    }
     let next = [
         "impl A for B { type C = D; ghost can_next = { a }; fn next() { c[0] } }",
         "impl A for B { type C = D; fn next() { *unsafe { get_unchecked!(c, 0) } } }",
@@ -350,6 +356,7 @@ fn each_kind_of_entry_is_used_or_fails() {
     for kind in ["only in the source", "only in Rust", "unsafe", "safe"] {
         tells(&tree("fn a() {}", "fn a() {}", &format!("{kind}: a\n{because}")), "`a` fits nothing");
     }
+    tells(&tree("", "fn a() {}", &format!("only in Rust: a, b\n{because}")), "`b` fits nothing");
     assert_eq!(faults(&tree("fn a() {} struct B;", "", &format!("only in the source: {SOURCE}\n{because}"))), "");
     assert_eq!(faults(&tree("fn a() requires { b } {}", "fn a() {}", &format!("safe: a\n{because}"))), "");
 }
@@ -489,7 +496,7 @@ fn each_token_is_what_it_is() {
 
 #[test]
 fn a_source_is_printed_as_it_would_stand_in_rust() {
-    let source = "fn f(a: u8, steps: &mut Steps) -> u8\n    requires { b }\n{\n    // What is looked at.\n    let c = look(d, a - 1, steps);\n    prove!(c < a);\n    g_counted(c, steps)\n}";
+    let source = "fn f(a: u8, steps: &mut Steps) -> u8\n    requires { b }\n{\n    // What is looked at.\n    let c = look(d, a - 1, steps);\n    text_fits(c < a);\n    g_counted(c, steps)\n}";
     let rules = Rules::new();
     let printed: String = rules
         .as_rust(&items("", source).expect("items")[0].tokens, &|_| true)
@@ -538,7 +545,7 @@ struct Changed {
     near: Vec<String>,
 }
 
-/// A token, those beside it, and two before each group around it: `prove`, `!` and `(` of the `a` in `prove!(a < b)`.
+/// A token, those beside it, and two before each group around it: `text_fits` and `(` of the `a` in `text_fits(a < b)`.
 fn near(tokens: &[Token], at: usize) -> Vec<String> {
     let around = (0..at).filter(|open| closing(tokens, *open) >= at);
     let places = around.flat_map(|open| open.saturating_sub(2)..open).chain(at.saturating_sub(2)..=at + 1);
@@ -606,7 +613,7 @@ fn change_tokens(is_side: fn(&str, &str) -> bool, seed: u64) -> [usize; 4] {
     let is_one_sided = |block: &&Block| [Says::OnlyInTheSource, Says::OnlyInRust].contains(&block.says);
     let alone: Vec<&String> = blocks.iter().filter(is_one_sided).flat_map(|block| &block.paths).collect();
     let is_named = |near: &String| {
-        let names = ["steps", "Steps", "#", "prove", "text_fits", "required", "required_of_each", "unsafe", "Drop"];
+        let names = ["steps", "Steps", "#", "text_fits", "required", "required_of_each", "unsafe", "Drop"];
         names.contains(&near.as_str()) || near.ends_with("_counted")
     };
     let mut counts = [0; 4];

@@ -12,6 +12,7 @@ mod inputs;
 
 mod asked;
 mod beside_parts;
+mod drains;
 mod given;
 mod items;
 mod loans;
