@@ -41,10 +41,6 @@ IsPlayed-bad_line ([], are, appended) = are
 IsPlayed-bad_line (c ∷ cs, are, appended) = no_command c are.0
 
 -- what is printed is never nothing
-some_bytes : (xs ys : List ℕ) (b : ℕ) → [] ≡ xs ++ b ∷ ys → ⊥
-some_bytes [] ys b e = cc
-some_bytes (x ∷ xs) ys b e = cc
-
 some_printed : (rs : List ReplyView) (ys : List ℕ) (b : ℕ) → [] ≡ replies_printed rs ++ b ∷ ys → ⊥
 some_printed [] ys b e = cc
 some_printed (r ∷ rs) ys b e = some_first (printed r) (replies_printed rs) e
