@@ -6,6 +6,7 @@ use Rattle.std.specs.Str.{chars, encode_utf8_all}
 use Rattle.arraystring.specs.Text.{width}
 use Rattle.arraystring.specs.WhiteSpace.{is_white_space}
 use Rattle.arraystring.specs.Edits.{Past, Room, Inside, addition, insertion, removal}
+use Rattle.arraystring.specs.Stored.{string_of}
 use Rattle.arraystring.specs.Refusals.{OutOfBounds, Utf8}
 use Rattle.arraystring_run.specs.Runs.{Done, Char, NoChar, Text, NoText, Number, Refused, view_of, Effect, reply_and_text, reply_of, apply, apply_unit, char_or_none, text_or_none, without, end_through, effect, is_room, lacks_room, is_made, adds_less, is_tight, RunResult, after, first_tight_from, earlier_of, NoneTight, IsFirstTight}
 use Rattle.arraystring_run.specs.declared.commands.Command.{Command}
@@ -21,12 +22,14 @@ str t = record { ref_ptr = (0, 0); now = encode_utf8_all t }
 ReplyView-no_character_is_not_no_text : NoChar ≡ NoText → ⊥
 ReplyView-no_character_is_not_no_text e = cc
 
-view_of-each : map {0, 0} (view_of {N = 23}) (
-    reply.Done ∷ reply.Char 0x61 ∷ reply.NoChar ∷ reply.Text (record { text = codes "ab"; spare = 7 ∷ [] }) ∷ reply.NoText
-    ∷ reply.Number 255 ∷ reply.Refused Utf8 ∷ []
+view_of-string : view_of {N = 5} (reply.Text (string_of (codes "ab"))) ≡ Text (codes "ab")
+view_of-string = refl
+
+view_of-others : map {0, 0} (view_of {N = 5}) (
+    reply.Done ∷ reply.Char 0x61 ∷ reply.NoChar ∷ reply.NoText ∷ reply.Number 255 ∷ reply.Refused Utf8 ∷ []
     )
-    ≡ Done ∷ Char 0x61 ∷ NoChar ∷ Text (codes "ab") ∷ NoText ∷ Number 255 ∷ Refused Utf8 ∷ []
-view_of-each = refl
+    ≡ Done ∷ Char 0x61 ∷ NoChar ∷ NoText ∷ Number 255 ∷ Refused Utf8 ∷ []
+view_of-others = refl
 
 reply_of-a_value : reply_of Char (Ok 0x61) ≡ Char 0x61
 reply_of-a_value = refl
@@ -51,8 +54,8 @@ text_or_none-none = refl
 Effect-has_a_reply_and_a_text : Effect
 Effect-has_a_reply_and_a_text = record { reply = Done; text = codes "ab" }
 
-reply_and_text-in_this_order : reply_and_text (Char 0x62) (codes "a") ≡ record { reply = Char 0x62; text = codes "a" }
-reply_and_text-in_this_order = refl
+reply_and_text-both : ((reply_and_text Done (codes "ab")).reply ≡ Done) × ((reply_and_text Done (codes "ab")).text ≡ codes "ab")
+reply_and_text-both = (refl, refl)
 
 apply-made : apply Char (removal (codes "abc") 1) (codes "abc") ≡ reply_and_text (Char 0x62) (codes "ac")
 unfolding width
@@ -278,8 +281,8 @@ unfolding width
 effect-drain_past_the_text_before_it_is_inside = refl
 
 -- the byte at `last` belongs to the range, and 255 is the greatest end
-end_through-one_more : map end_through (0 ∷ 253 ∷ 254 ∷ 255 ∷ []) ≡ 1 ∷ 254 ∷ 255 ∷ 255 ∷ []
-end_through-one_more = refl
+end_through-one_more : (end_through 0 ≡ 1) × (end_through 254 ≡ 255) × (end_through 255 ≡ 255)
+end_through-one_more = (refl, refl, refl)
 
 effect-drain_through_the_last_byte : effect (command.DrainThrough 1 4) (codes "D🤔E") 23 ≡ reply_and_text (Text (codes "🤔")) (codes "DE")
 unfolding width
@@ -384,8 +387,9 @@ effect-as_str = refl
 
 -- What is tight: a command that is refused for `Room`, or adds less than all of its text
 
-is_room-each_cause : map is_room (None ∷ Some Past ∷ Some Room ∷ Some Inside ∷ []) ≡ false ∷ false ∷ true ∷ false ∷ []
-is_room-each_cause = refl
+is_room-each_cause : (is_room None ≡ false) × (is_room (Some Past) ≡ false) × (is_room (Some Room) ≡ true)
+    × (is_room (Some Inside) ≡ false)
+is_room-each_cause = (refl, refl, refl, refl)
 
 lacks_room-made : lacks_room (addition (codes "aé") (codes "x") 4) ≡ false
 unfolding width
@@ -419,10 +423,11 @@ adds_less-nothing_into_no_room : adds_less (codes "a") [] 1 ≡ false
 unfolding width
 adds_less-nothing_into_no_room = refl
 
-is_tight-try_push : map (is_tight (command.TryPush 0xE9) (codes "aé")) (5 ∷ 4 ∷ []) ≡ false ∷ true ∷ []
+is_tight-try_push : (is_tight (command.TryPush 0xE9) (codes "aé") 5 ≡ false) × (is_tight (command.TryPush 0xE9) (codes "aé") 4 ≡ true)
 unfolding width
-is_tight-try_push = refl
+is_tight-try_push = (refl, refl)
 
+-- the same at two capacities: one has room, and one lacks a byte
 is_tight-try_push_str : map (is_tight (command.TryPushStr (str (codes "xy"))) (codes "aé")) (5 ∷ 4 ∷ []) ≡ false ∷ true ∷ []
 unfolding width chars encode_utf8
 is_tight-try_push_str = refl
@@ -431,7 +436,7 @@ is_tight-push_str : map (is_tight (command.PushStr (str (codes "xy"))) (codes "a
 unfolding width chars encode_utf8
 is_tight-push_str = refl
 
--- index 2 is inside `é`, and 4 is past the text; the capacities have room for what is given, and lack a byte for it
+-- index 2 is inside `é`, and 4 is past the text
 is_tight-try_insert : map (is_tight (command.TryInsert 1 0x78) (codes "aé")) (4 ∷ 3 ∷ []) ≡ false ∷ true ∷ []
 unfolding width
 is_tight-try_insert = refl
@@ -498,15 +503,19 @@ is_tight-no_other = refl
 
 -- Runs
 
--- a text is pushed of which all fits, and then a character that needs nine bytes in all
-abbrev pushes : List Command
-pushes = command.PushStr (str (codes "ABCD🤔")) ∷ command.TryInsert 1 0x41 ∷ []
-
 RunResult-has_replies_and_a_text : RunResult
 RunResult-has_replies_and_a_text = record { replies = Done ∷ []; text = codes "ab" }
 
 after-no_command : after [] (codes "ab") 5 ≡ record { replies = []; text = codes "ab" }
 after-no_command = refl
+
+after-two_commands : after (command.Len ∷ command.Pop ∷ []) (codes "a") 5 ≡ record { replies = Number 1 ∷ Char 0x61 ∷ []; text = [] }
+unfolding width
+after-two_commands = refl
+
+-- a text is pushed of which all fits, and then a character that needs nine bytes in all
+abbrev pushes : List Command
+pushes = command.PushStr (str (codes "ABCD🤔")) ∷ command.TryInsert 1 0x41 ∷ []
 
 after-with_room : after pushes [] 23 ≡ record { replies = Done ∷ Done ∷ []; text = codes "AABCD🤔" }
 unfolding width chars encode_utf8
@@ -529,6 +538,11 @@ after-ten_commands : after ten [] 5 ≡ record {
 }
 unfolding width chars encode_utf8
 after-ten_commands = refl
+
+-- a character of two bytes does not fit into one
+first_tight_from-after_a_pop : first_tight_from 0 (command.Pop ∷ command.TryPush 0xE9 ∷ []) (codes "a") 1 ≡ Some 1
+unfolding width
+first_tight_from-after_a_pop = refl
 
 first_tight_from-none : first_tight_from 0 pushes [] 23 ≡ None
 unfolding width chars encode_utf8
