@@ -3,3 +3,4 @@ mod CommandLemmas
 mod LineLemmas
 mod PrintLemmas
 mod ServeLemmas
+mod examples

@@ -2,3 +2,4 @@ mod RecordLemmas
 mod MapLemmas
 mod OwnNameLemmas
 mod WalkLemmas
+mod examples

@@ -1,0 +1,9 @@
+mod Runs
+mod Agreement
+mod Line
+mod ScriptLines
+mod Printing
+mod Writing
+mod Player
+mod Program
+mod Arguments

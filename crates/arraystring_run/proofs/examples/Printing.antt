@@ -1,0 +1,74 @@
+-- Examples of what is printed of a run. `codes "done"` is the list of the bytes of `"done"`, and 0x0A is the line feed.
+use Rattle.std.proofs.Common.{◌≡◌, ℕ, List, [], ◌∷◌, ◌++◌, map, refl, Bor, codes, encode_utf8_all}
+use Rattle.std.specs.Char.{encode_utf8}
+use Rattle.std.specs.Fmt.{digits}
+use Rattle.std.specs.Str.{chars}
+use Rattle.arraystring.specs.Refusals.{OutOfBounds, Utf8, Utf16}
+use Rattle.arraystring.specs.Text.{width, utf8}
+use Rattle.arraystring_run.specs.Printing.{printed, replies_printed, all_printed, run_printed}
+use Rattle.arraystring_run.specs.Runs.{Done, Char, NoChar, Text, NoText, Number, Refused}
+use Rattle.arraystring_run.specs.declared.commands.Command.TheVariants as command
+
+printed-done : printed Done ≡ codes "done"
+printed-done = refl
+
+-- C3 A9 is the UTF-8 of `é`
+printed-char : printed (Char 0xE9) ≡ codes "char " ++ 0xC3 ∷ 0xA9 ∷ []
+unfolding utf8
+printed-char = refl
+
+printed-no_char : printed NoChar ≡ codes "no char"
+printed-no_char = refl
+
+printed-text : printed (Text (codes "aé")) ≡ codes "text a" ++ 0xC3 ∷ 0xA9 ∷ []
+unfolding utf8
+printed-text = refl
+
+printed-empty_text : printed (Text []) ≡ codes "text "
+printed-empty_text = refl
+
+printed-no_text : printed NoText ≡ codes "no text"
+printed-no_text = refl
+
+printed-number : map (λ n. printed (Number n)) (0 ∷ 7 ∷ 10 ∷ 255 ∷ [])
+    ≡ codes "number 0" ∷ codes "number 7" ∷ codes "number 10" ∷ codes "number 255" ∷ []
+unfolding digits
+printed-number = refl
+
+printed-refused : map (λ e. printed (Refused e)) (OutOfBounds ∷ Utf8 ∷ Utf16 ∷ [])
+    ≡ codes "refused OutOfBounds" ∷ codes "refused Utf8" ∷ codes "refused Utf16" ∷ []
+printed-refused = refl
+
+replies_printed-none : replies_printed [] ≡ []
+replies_printed-none = refl
+
+replies_printed-in_order : replies_printed (Done ∷ NoChar ∷ []) ≡ codes "done" ++ 0x0A ∷ codes "no char" ++ 0x0A ∷ []
+replies_printed-in_order = refl
+
+all_printed-no_reply : all_printed [] (codes "aé") ≡ codes "final a" ++ 0xC3 ∷ 0xA9 ∷ 0x0A ∷ []
+unfolding utf8
+all_printed-no_reply = refl
+
+all_printed-replies_first : all_printed (Done ∷ []) [] ≡ codes "done" ++ 0x0A ∷ codes "final " ++ 0x0A ∷ []
+all_printed-replies_first = refl
+
+run_printed-no_command : run_printed [] 23 ≡ codes "final " ++ 0x0A ∷ []
+run_printed-no_command = refl
+
+run_printed-at_a_capacity : run_printed (command.Capacity ∷ []) 255 ≡ codes "number 255" ++ 0x0A ∷ codes "final " ++ 0x0A ∷ []
+unfolding digits
+run_printed-at_a_capacity = refl
+
+-- a `&str` with this text
+abbrev str : List ℕ → Bor (List ℕ)
+str t = record { ref_ptr = (0, 0); now = encode_utf8_all t }
+
+-- the text is `ABCD🤔`, `AABCD🤔`, `AABBCD🤔` and then `AABB`; F0 9F A4 94 is the UTF-8 of `🤔`
+run_printed-of_seven_commands : run_printed (
+    command.PushStr (str (codes "ABCD🤔")) ∷ command.TryInsert 1 0x41 ∷ command.TryInsertStr 2 (str (codes "B")) ∷ command.DrainBack 4 10
+    ∷ command.Get 0 9 ∷ command.Remove 9 ∷ command.AsStr ∷ []
+    ) 23
+    ≡ codes "done" ++ 0x0A ∷ codes "done" ++ 0x0A ∷ codes "done" ++ 0x0A ∷ codes "text " ++ 0xF0 ∷ 0x9F ∷ 0xA4 ∷ 0x94 ∷ codes "DC" ++ 0x0A
+    ∷ codes "no text" ++ 0x0A ∷ codes "refused OutOfBounds" ++ 0x0A ∷ codes "text AABB" ++ 0x0A ∷ codes "final AABB" ++ 0x0A ∷ []
+unfolding width utf8 chars encode_utf8
+run_printed-of_seven_commands = refl

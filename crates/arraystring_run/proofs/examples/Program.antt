@@ -1,0 +1,241 @@
+-- Examples of what a program does that is given a word. `codes "len"` is the list of the bytes of `"len"`, and 0x0A is the line feed.
+-- For the claims that the input, the output or the errors are as before `Unit` is a true one, and `⊥` a false one.
+use Rattle.std.proofs.Common.{◌≡◌, sym, append-nil, ◌⊎◌, ℕ, inl, inr, List, [], ◌∷◌, ◌++◌, map, Some, None, Ok, Err, refl, arith, Bor, codes}
+use Rattle.std.specs.Fmt.{digits}
+use Rattle.arraystring_run.specs.Line.{IsLineOf}
+use Rattle.arraystring_run.specs.Player.{IsPlayed, IsPartPlayed, IsOutcome}
+use Rattle.arraystring_run.specs.Program.{capacity_named, bytes_of, status_of, usage_line, fault_line, report_of, IsOutcomeAt, status_at, report_at, IsServed}
+use Rattle.arraystring_run.specs.ScriptLines.{IsBadAt}
+use Rattle.arraystring_run.specs.Writing.{AppendsPrefix}
+use Rattle.arraystring_run.specs.declared.commands.Command.{Command}
+use Rattle.arraystring_run.specs.declared.commands.Command.TheVariants as command
+use Rattle.arraystring_run.specs.declared.player.PlayFault.TheVariants.{BadLine, Memory, Read, Write}
+use Rattle.arraystring_run.specs.declared.program.Capacity.TheVariants.{Small, Cache, Max}
+
+-- a `&str` with these bytes
+abbrev str : List ℕ → Bor (List ℕ)
+str bs = record { ref_ptr = (0, 0); now = bs }
+
+capacity_named-three_words : map (λ w. capacity_named (Some (str w))) (codes "small" ∷ codes "cache" ∷ codes "max" ∷ [])
+    ≡ Some 23 ∷ Some 63 ∷ Some 255 ∷ []
+capacity_named-three_words = refl
+
+capacity_named-other_words : map (λ w. capacity_named (Some (str w))) (codes "big" ∷ codes "Small" ∷ codes "smal" ∷ codes "small " ∷ [] ∷ [])
+    ≡ None ∷ None ∷ None ∷ None ∷ None ∷ []
+capacity_named-other_words = refl
+
+capacity_named-no_word : capacity_named None ≡ None
+capacity_named-no_word = refl
+
+bytes_of-each : map bytes_of (Small ∷ Cache ∷ Max ∷ []) ≡ 23 ∷ 63 ∷ 255 ∷ []
+bytes_of-each = refl
+
+status_of-each : map (status_of {A = ℕ}) (Ok 7 ∷ Err (BadLine 1) ∷ Err Memory ∷ Err Read ∷ Err Write ∷ []) ≡ 0 ∷ 2 ∷ 3 ∷ 4 ∷ 4 ∷ []
+status_of-each = refl
+
+usage_line-with_its_line_feed : usage_line ≡ codes "usage: arraystring_run small or cache or max" ++ 0x0A ∷ []
+usage_line-with_its_line_feed = refl
+
+fault_line-each : map fault_line (BadLine 1 ∷ BadLine 1200 ∷ Memory ∷ Read ∷ Write ∷ [])
+    ≡ (codes "bad line 1" ++ 0x0A ∷ []) ∷ (codes "bad line 1200" ++ 0x0A ∷ []) ∷ (codes "out of memory" ++ 0x0A ∷ [])
+    ∷ (codes "read failed" ++ 0x0A ∷ []) ∷ (codes "write failed" ++ 0x0A ∷ []) ∷ []
+unfolding digits
+fault_line-each = refl
+
+report_of-played : report_of {A = ℕ} (Ok 7) ≡ []
+report_of-played = refl
+
+report_of-fault : report_of {A = ℕ} (Err Memory) ≡ codes "out of memory" ++ 0x0A ∷ []
+report_of-fault = refl
+
+status_at-no_capacity : status_at None ≡ 2
+status_at-no_capacity = refl
+
+status_at-a_capacity : status_at (Some (Err Memory)) ≡ 3
+status_at-a_capacity = refl
+
+report_at-no_capacity : report_at None ≡ codes "usage: arraystring_run small or cache or max" ++ 0x0A ∷ []
+report_at-no_capacity = refl
+
+report_at-a_capacity : report_at (Some (Err Memory)) ≡ codes "out of memory" ++ 0x0A ∷ []
+report_at-a_capacity = refl
+
+-- what came of the empty script at the capacity 23
+abbrev final_line : List ℕ
+final_line = codes "final " ++ 0x0A ∷ []
+
+outcome-of_nothing : IsOutcome 23 (Some []) (Some []) (Some final_line) ⊥ (Ok tt)
+outcome-of_nothing = record { whole = ([], tt, refl); bad_line = tt; unwritten = tt; part = tt }
+
+IsOutcomeAt-no_capacity : IsOutcomeAt None (Some []) (Some []) (Some []) (Unit {0}) (Unit {0}) None
+IsOutcomeAt-no_capacity = record { none_named = λ e. (refl, tt, tt); outcome = tt }
+
+IsOutcomeAt-a_capacity : IsOutcomeAt (Some 23) (Some []) (Some []) (Some final_line) ⊥ ⊥ (Some (Ok tt))
+IsOutcomeAt-a_capacity = record { none_named = λ e. absurd (cc); outcome = outcome-of_nothing }
+
+IsOutcomeAt-played_at_no_capacity : IsOutcomeAt None (Some []) (Some []) (Some []) (Unit {0}) (Unit {0}) (Some (Ok tt)) → ⊥
+IsOutcomeAt-played_at_no_capacity o = let none : Some (Ok tt) ≡ None = (o.none_named refl).0 in cc
+
+IsOutcomeAt-read_at_no_capacity : IsOutcomeAt None (Some []) (Some []) (Some []) ⊥ (Unit {0}) None → ⊥
+IsOutcomeAt-read_at_no_capacity o = (o.none_named refl).1
+
+IsOutcomeAt-written_at_no_capacity : IsOutcomeAt None (Some []) (Some []) (Some []) (Unit {0}) ⊥ None → ⊥
+IsOutcomeAt-written_at_no_capacity o = (o.none_named refl).2
+
+IsOutcomeAt-not_played : IsOutcomeAt (Some 23) (Some []) (Some []) (Some []) (Unit {0}) (Unit {0}) None → ⊥
+IsOutcomeAt-not_played o = o.outcome
+
+-- What was served. An empty line is no command.
+no_command : (c : Command) → IsLineOf [] c → ⊥
+no_command command.Pop (rest, e, spelled) = cc
+no_command _ (rest, e, spelled) = cc
+
+bad_line_1 : IsBadAt ([] ∷ []) 1
+bad_line_1 = record { front = []; commands = []; line = []; rest = []; whole = refl; number = refl; before = tt; bad = no_command }
+
+all_of : (bs : List ℕ) → AppendsPrefix (Some []) (Some bs) bs
+all_of bs = record { done = bs; later = []; whole = sym (append-nil bs); appended = refl }
+
+IsServed-played : IsServed (Some (str (codes "small"))) (Some []) (Some []) (Some final_line) (Some []) (Some []) ⊥ ⊥ (Unit {0}) 0
+IsServed-played = record {
+  other_word = λ e. absurd (cc);
+  played = λ e. ([], tt, refl);
+  bad_line = λ e. absurd (omega arith);
+  no_memory = λ e. absurd (omega arith);
+  failed = λ e. absurd (omega arith);
+  quiet = λ e. tt;
+  unwritten = λ some failed. absurd (some refl);
+  known = omega arith;
+}
+
+IsServed-other_word : IsServed (Some (str (codes "big"))) (Some []) (Some []) (Some []) (Some [])
+    (Some (codes "usage: arraystring_run small or cache or max" ++ 0x0A ∷ [])) (Unit {0}) (Unit {0}) ⊥ 2
+IsServed-other_word = record {
+  other_word = λ e. (refl, tt, tt, all_of usage_line);
+  played = tt;
+  bad_line = tt;
+  no_memory = λ e. absurd (omega arith);
+  failed = tt;
+  quiet = λ e. absurd (omega arith);
+  unwritten = λ some failed. tt;
+  known = omega arith;
+}
+
+-- the errors may fail, too, after a part of the line
+IsServed-bad_line : IsServed (Some (str (codes "small"))) (Some (0x0A ∷ [])) (Some []) (Some []) (Some []) (Some (codes "bad line "))
+    ⊥ (Unit {0}) ⊥ 2
+unfolding digits
+IsServed-bad_line = record {
+  other_word = λ e. absurd (cc);
+  played = λ e. absurd (omega arith);
+  bad_line = λ e.
+      (1, bad_line_1, record { done = codes "bad line "; later = codes "1" ++ 0x0A ∷ []; whole = refl; appended = refl });
+  no_memory = λ e. absurd (omega arith);
+  failed = λ e. absurd (omega arith);
+  quiet = λ e. absurd (omega arith);
+  unwritten = λ some failed. tt;
+  known = omega arith;
+}
+
+IsServed-no_memory : IsServed (Some (str (codes "small"))) (Some []) (Some []) (Some []) (Some [])
+    (Some (codes "out of memory" ++ 0x0A ∷ [])) ⊥ (Unit {0}) ⊥ 3
+IsServed-no_memory = record {
+  other_word = λ e. absurd (cc);
+  played = λ e. absurd (omega arith);
+  bad_line = λ e. absurd (omega arith);
+  no_memory = λ e. all_of (fault_line Memory);
+  failed = λ e. absurd (omega arith);
+  quiet = λ e. absurd (omega arith);
+  unwritten = λ some failed. tt;
+  known = omega arith;
+}
+
+IsServed-read_failed : IsServed (Some (str (codes "small"))) (Some []) (Some []) (Some []) (Some [])
+    (Some (codes "read failed" ++ 0x0A ∷ [])) ⊥ (Unit {0}) ⊥ 4
+IsServed-read_failed = record {
+  other_word = λ e. absurd (cc);
+  played = λ e. absurd (omega arith);
+  bad_line = λ e. absurd (omega arith);
+  no_memory = λ e. absurd (omega arith);
+  failed = λ e. inl (tt, all_of (fault_line Read));
+  quiet = λ e. absurd (omega arith);
+  unwritten = λ some failed. tt;
+  known = omega arith;
+}
+
+IsServed-write_failed : IsServed (Some (str (codes "small"))) (Some []) (Some []) (Some (codes "fin")) (Some [])
+    (Some (codes "write failed" ++ 0x0A ∷ [])) ⊥ ⊥ ⊥ 4
+IsServed-write_failed = record {
+  other_word = λ e. absurd (cc);
+  played = λ e. absurd (omega arith);
+  bad_line = λ e. absurd (omega arith);
+  no_memory = λ e. absurd (omega arith);
+  failed = λ e.
+      inr (([], tt, record { done = codes "fin"; later = codes "al " ++ 0x0A ∷ []; whole = refl; appended = refl }), all_of (fault_line Write));
+  quiet = λ e. absurd (omega arith);
+  unwritten = λ some failed. absurd (failed refl);
+  known = omega arith;
+}
+
+IsServed-played_for_another_word : IsServed None (Some []) (Some []) (Some []) (Some []) (Some []) (Unit {0}) (Unit {0}) (Unit {0}) 0 → ⊥
+IsServed-played_for_another_word is = omega (arith, (is.other_word refl).0)
+
+IsServed-read_for_another_word : IsServed None (Some []) (Some []) (Some []) (Some []) (Some usage_line) ⊥ (Unit {0}) (Unit {0}) 2 → ⊥
+IsServed-read_for_another_word is = (is.other_word refl).1
+
+IsServed-no_usage_line : IsServed None (Some []) (Some []) (Some []) (Some []) (Some (codes "bad")) (Unit {0}) (Unit {0}) (Unit {0}) 2 → ⊥
+IsServed-no_usage_line is = let said : AppendsPrefix (Some []) (Some (codes "bad")) usage_line = (is.other_word refl).3 in grind arith
+
+-- the last line lacks a byte
+IsServed-output_lacks_a_byte : IsServed (Some (str (codes "small"))) (Some []) (Some []) (Some (codes "final ")) (Some []) (Some [])
+    ⊥ ⊥ (Unit {0}) 0 → ⊥
+IsServed-output_lacks_a_byte is = go (is.played refl)
+  where
+    go : IsPlayed [] 23 (Some []) (Some (codes "final ")) → ⊥
+    go ([], are, e) = grind arith
+    go (c ∷ cs, are, e) = are
+
+IsServed-no_line_is_bad : IsServed (Some (str (codes "small"))) (Some []) (Some []) (Some []) (Some []) (Some (codes "bad line 1"))
+    ⊥ (Unit {0}) ⊥ 2 → ⊥
+IsServed-no_line_is_bad is = go (is.bad_line refl).1
+  where
+    go : {k : ℕ} → IsBadAt [] k → ⊥
+    go bad = none bad.front bad.whole
+      where
+        none : (front : List (List ℕ)) → [] ≡ front ++ bad.line ∷ bad.rest → ⊥
+        none [] e = cc
+        none (l ∷ front) e = cc
+
+IsServed-says_another_line_than_the_bad_one : IsServed (Some (str (codes "small"))) (Some (0x0A ∷ [])) (Some []) (Some []) (Some [])
+    (Some (codes "out")) ⊥ (Unit {0}) ⊥ 2 → ⊥
+IsServed-says_another_line_than_the_bad_one is =
+    let (k, bad, said) = is.bad_line refl in
+    let said : AppendsPrefix (Some []) (Some (codes "out")) (fault_line (BadLine k)) = said in grind arith
+
+IsServed-says_another_fault_than_memory : IsServed (Some (str (codes "small"))) (Some []) (Some []) (Some []) (Some [])
+    (Some (codes "read failed")) ⊥ (Unit {0}) ⊥ 3 → ⊥
+IsServed-says_another_fault_than_memory is =
+    let said : AppendsPrefix (Some []) (Some (codes "read failed")) (fault_line Memory) = is.no_memory refl in grind arith
+
+IsServed-wrote_and_says_that_a_read_failed : IsServed (Some (str (codes "small"))) (Some []) (Some []) (Some (codes "fin")) (Some [])
+    (Some (codes "read failed")) ⊥ ⊥ ⊥ 4 → ⊥
+IsServed-wrote_and_says_that_a_read_failed is = go (is.failed refl)
+  where
+    go : (⊥ × AppendsPrefix (Some []) (Some (codes "read failed")) (fault_line Read))
+        ⊎ (IsPartPlayed [] 23 (Some []) (Some (codes "fin")) × AppendsPrefix (Some []) (Some (codes "read failed")) (fault_line Write)) → ⊥
+    go (inl (same, said)) = same
+    go (inr (part, said)) = grind arith
+
+IsServed-errors_were_written_though_all_was_played : IsServed (Some (str (codes "small"))) (Some []) (Some []) (Some final_line)
+    (Some []) (Some []) ⊥ ⊥ ⊥ 0 → ⊥
+IsServed-errors_were_written_though_all_was_played is = is.quiet refl
+
+IsServed-output_was_written_without_memory : IsServed (Some (str (codes "small"))) (Some []) (Some []) (Some [])
+    (Some []) (Some []) ⊥ ⊥ ⊥ 3 → ⊥
+IsServed-output_was_written_without_memory is = is.unwritten (omega arith) (omega arith)
+
+IsServed-status_1 : IsServed (Some (str (codes "small"))) (Some []) (Some []) (Some []) (Some []) (Some []) ⊥ (Unit {0}) ⊥ 1 → ⊥
+IsServed-status_1 is = is.known.1 refl
+
+IsServed-status_5 : IsServed (Some (str (codes "small"))) (Some []) (Some []) (Some []) (Some []) (Some []) ⊥ (Unit {0}) ⊥ 5 → ⊥
+IsServed-status_5 is = omega (arith, is.known.0)

@@ -1,0 +1,5 @@
+mod Users
+mod Records
+mod Names
+mod UserFaults
+mod Walks

@@ -1,0 +1,50 @@
+-- Examples of what iterators over a directory give. That a run of calls gives so is a clause of each: here it is read at a run
+-- from two items that are left.
+use Rattle.std.proofs.Common.{◌≡◌, ℕ, ◌<◌, true, List, [], ◌∷◌, map, length, Some, refl, subst, ◌∙◌, Bor, codes, option_map, slice_index_or, lit<, ◌-◌}
+use Rattle.std.specs.Iterator.{YieldsFirstBy, YieldsLastBy}
+use Rattle.std.specs.Iterator.Runs.{Run}
+use Rattle.arraystring.specs.Stored.{Stored}
+use Rattle.bounded_records.specs.Walks.{GivesInOrder, GivesInReverse, GivesCopiesInOrder, stored_text, name_text, user_texts}
+
+-- a string with this text, whatever lies around it
+abbrev string : List ℕ → Stored
+string t = record { text = t; spare = 7 ∷ [] }
+
+stored_text-of_a_string : stored_text (string (codes "ann")) ≡ codes "ann"
+stored_text-of_a_string = refl
+
+name_text-of_a_reference : name_text (record { ref_ptr = (0, 0); now = string (codes "ann") }) ≡ codes "ann"
+name_text-of_a_reference = refl
+
+user_texts-of_a_reference : user_texts (record {
+  ref_ptr = (0, 0);
+  now = record { username = string (codes "ann"); role = string (codes "admin") };
+}) ≡ (codes "ann", codes "admin")
+user_texts-of_a_reference = refl
+
+abbrev two : List (List ℕ)
+two = codes "ann" ∷ codes "bob" ∷ []
+
+GivesInOrder-all_of_two : GivesInOrder name_text → (run : Run (YieldsFirstBy name_text (λ left. left))) → run.from ≡ two → run.whole ≡ true
+    → map name_text run.items ≡ codes "ann" ∷ codes "bob" ∷ []
+GivesInOrder-all_of_two gives run from whole = (gives run run.seen).4 whole ∙ from
+
+GivesInOrder-the_first_of_two : GivesInOrder name_text → (run : Run (YieldsFirstBy name_text (λ left. left))) → run.from ≡ two → 0 < run.len
+    → option_map name_text (run.at 0) ≡ Some (codes "ann")
+GivesInOrder-the_first_of_two gives run from some = rw from at ((gives run run.seen).2 0 [] some)
+
+GivesInReverse-all_of_two : GivesInReverse name_text → (run : Run (YieldsLastBy name_text (λ left. left))) → run.from ≡ two → run.whole ≡ true
+    → map name_text run.items ≡ codes "bob" ∷ codes "ann" ∷ []
+GivesInReverse-all_of_two gives run from whole = rw from at ((gives run run.seen).4 whole)
+
+GivesInReverse-the_first_of_two : GivesInReverse name_text → (run : Run (YieldsLastBy name_text (λ left. left))) → run.from ≡ two → 0 < run.len
+    → option_map name_text (run.at 0) ≡ Some (codes "bob")
+GivesInReverse-the_first_of_two gives run from some =
+    subst (λ left. 1 < length left → length left - 1 - 1 < run.len
+    → option_map name_text (run.at (length left - 1 - 1)) ≡ Some (slice_index_or left 1 []))
+    from ((gives run run.seen).2 1 []) (lit< tt) some
+
+GivesCopiesInOrder-all_of_two : GivesCopiesInOrder stored_text
+    → (run : Run (YieldsFirstBy (λ (item : Bor Stored). stored_text item.now) (λ left. left))) → run.from ≡ two → run.whole ≡ true
+    → map stored_text (map (λ item. item.now) run.items) ≡ codes "ann" ∷ codes "bob" ∷ []
+GivesCopiesInOrder-all_of_two gives run from whole = gives run run.seen whole ∙ from
