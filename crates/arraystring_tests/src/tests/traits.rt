@@ -152,7 +152,7 @@ fn of_other_types<const N: usize>(
     is_less(rt, row, &drained, &other);
 }
 
-/// The string of a text in parts, as much of it as fits, which begins at an offset.
+/// A string whose text begins at `offset` of the array: the three parts, joined and cut to what fits there.
 fn behind<const N: usize>(offset: usize, parts: [&str; 3]) -> ArrayString<N>
     requires { N ≤ 300 }
 {
