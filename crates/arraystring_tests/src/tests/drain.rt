@@ -25,7 +25,7 @@ fn taken_out<const N: usize>(written: &str) -> Drain<N> {
 ///
 /// With no text, the step is one of the drain that the row above left, and first of a default drain.
 /// With no result, it gives no character.
-fn check_table<const N: usize>(rt: &impl Abort, table: &str)
+fn check_drains<const N: usize>(rt: &impl Abort, table: &str)
     requires { N ≤ 300 }
 {
     let mut drain = Drain::<N>::default();
@@ -44,7 +44,7 @@ fn check_table<const N: usize>(rt: &impl Abort, table: &str)
 
 #[test]
 fn steps_from_both_ends(rt: HostRuntime) {
-    check_table::<23>(
+    check_drains::<23>(
         &rt,
         "
         [A🤔B]   | next      | A    | 🤔B
@@ -61,14 +61,14 @@ fn steps_from_both_ends(rt: HostRuntime) {
         ",
     );
     // Nothing was taken out.
-    check_table::<4>(
+    check_drains::<4>(
         &rt,
         "
          | next      |      |
          | next_back |      |
         ",
     );
-    check_table::<0>(
+    check_drains::<0>(
         &rt,
         "
         [] | next      |      |

@@ -3,7 +3,7 @@
 //! has, and differ at each index.
 ghost use Rattle.std.specs.Prelude.{◌≤◌};
 
-use super::calls::check_table;
+use super::calls::check_blocks;
 use super::table::{MANY_LETTERS, agree, hash_of};
 use arraystring::{ArrayString, CacheString};
 use std::cmp::Ordering;
@@ -12,7 +12,7 @@ use test_support::table::{LETTERS, column, rows};
 
 #[test]
 fn orders_and_additions(rt: HostRuntime) {
-    check_table(
+    check_blocks(
         &rt,
         "
         # 8 | texts are ordered by their characters
