@@ -171,8 +171,8 @@ fn short_and_interrupted_writes_are_gone_on_with(rt: HostRuntime) {
     }
 }
 
-/// Interrupted before the first byte, the second, the last and the end, as often as a byte can count, and
-/// that often before each later one too.
+/// Up to 255 interruptions in a row, before the first byte, the second, the last and the end. Once only there, and
+/// once also before each byte after it.
 #[test]
 fn long_interruptions_are_gone_on_with(rt: HostRuntime) {
     for faults in 0..=255u8 {

@@ -30,14 +30,14 @@ pub(super) fn all_memory(rt: &(impl Abort + Env + Eprint + AllocGlobal)) -> Opti
 
 /// Leaves `left` bytes of memory.
 fn leave(rt: &(impl Abort + AllocGlobal), scarce: &mut ScarceMemory, left: usize) {
-    let rest = scarce.leave(rt.alloc(), left);
-    rest.expect(rt, "the rest is taken again");
+    let taken_again = scarce.leave(rt.alloc(), left);
+    taken_again.expect(rt, "the rest is taken again");
 }
 
 /// Leaves a little more memory than the time before.
 fn leave_more(rt: &(impl Abort + AllocGlobal), scarce: &mut ScarceMemory) {
-    let rest = scarce.leave_more(rt.alloc());
-    rest.expect(rt, "the rest is taken again");
+    let taken_again = scarce.leave_more(rt.alloc());
+    taken_again.expect(rt, "the rest is taken again");
 }
 
 /// Bytes, with room for `room` of them.
@@ -45,8 +45,9 @@ pub(super) fn bytes(rt: &(impl Abort + AllocGlobal), room: usize) -> Vec<u8> {
     Vec::with_capacity(rt.alloc(), room).expect(rt, "memory for bytes")
 }
 
-/// Asserts that there was memory for each thing later than for the one before it, and for none at first.
-fn ascend(rt: &impl Abort, first: u32, second: u32, third: u32) {
+/// Asserts that memory was refused to the first of three things at least once, and to each other one more
+/// often than to the one before it.
+fn each_is_refused_more_often(rt: &impl Abort, first: u32, second: u32, third: u32) {
     assert!(rt; 1 <= first && first < second && second < third);
 }
 
@@ -62,23 +63,23 @@ pub(super) fn are_written(
     agree(rt, "the errors", errors, reported.as_bytes());
 }
 
-/// Serves a script with a bad line, and returns 1 if memory ran out before that line was met.
-fn served_without_memory(
+/// Serves a script with a bad line. Returns whether memory ran out before that line was met.
+fn serve_runs_out(
     rt: &impl Abort,
     alloc: Global,
     errors: &mut Vec<u8>,
     script: &str,
     bad: &str,
-) -> u32 {
+) -> bool {
     let mut input = script.as_bytes();
     let mut none = io::sink();
     let status = serve(alloc, Some("small"), &mut input, &mut none, errors);
-    let wants = status == 3;
-    let reported = if wants { "out of memory\n" } else { bad };
-    agree(rt, "the status", status, if wants { 3 } else { 2 });
+    let runs_out = status == 3;
+    let reported = if runs_out { "out of memory\n" } else { bad };
+    agree(rt, "the status", status, if runs_out { 3 } else { 2 });
     agree(rt, "the errors", errors.as_slice(), reported.as_bytes());
     errors.clear();
-    if wants { 1 } else { 0 }
+    runs_out
 }
 
 /// With ever more memory, from none up, `serve` reports each growth that is refused, one after the
@@ -95,10 +96,12 @@ fn want_of_memory_is_served(rt: HostRuntime) {
     let mut status = 3;
     for _ in 0..TIMES {
         leave_more(&rt, &mut scarce);
-        let first = served_without_memory(&rt, rt.alloc(), &mut errors, BAD_FIRST, "bad line 1\n");
-        refused_input = refused_input.saturating_add(first);
-        let last = served_without_memory(&rt, rt.alloc(), &mut errors, BAD_LAST, "bad line 8\n");
-        refused_commands = refused_commands.saturating_add(last);
+        if serve_runs_out(&rt, rt.alloc(), &mut errors, BAD_FIRST, "bad line 1\n") {
+            refused_input = refused_input.saturating_add(1);
+        }
+        if serve_runs_out(&rt, rt.alloc(), &mut errors, BAD_LAST, "bad line 8\n") {
+            refused_commands = refused_commands.saturating_add(1);
+        }
         let mut input = EXAMPLE.as_bytes();
         let word = Some("small");
         status = serve(rt.alloc(), word, &mut input, &mut output, &mut errors);
@@ -110,27 +113,27 @@ fn want_of_memory_is_served(rt: HostRuntime) {
         errors.clear();
     }
     drop(scarce);
-    ascend(&rt, refused_input, refused_commands, refused);
+    each_is_refused_more_often(&rt, refused_input, refused_commands, refused);
     agree(&rt, "the status", status, 0);
     are_written(&rt, &output, &errors, EXAMPLE_OUTPUT, "");
 }
 
-/// Plays a script with a bad line, and returns 1 if memory ran out before that line was met.
-fn played_without_memory(
+/// Plays a script with a bad line. Returns whether memory ran out before that line was met.
+fn play_runs_out(
     rt: &impl Abort,
     alloc: Global,
     output: &mut Vec<u8>,
     script: &str,
     bad: usize,
-) -> u32 {
+) -> bool {
     let mut input = script.as_bytes();
     let played = play::<23, &[u8], Vec<u8>>(alloc, &mut input, output);
     agree(rt, "the output", output.len(), 0);
     if played == Err(PlayFault::Memory) {
-        return 1;
+        return true;
     }
     agree(rt, "what is returned", played, Err(PlayFault::BadLine(bad)));
-    0
+    false
 }
 
 /// `play` reports want of memory, at each amount of memory that is left, and writes nothing then.
@@ -146,10 +149,12 @@ fn want_of_memory_is_reported(rt: HostRuntime) {
     let mut played = Err(PlayFault::Memory);
     for _ in 0..TIMES {
         leave_more(&rt, &mut scarce);
-        let first = played_without_memory(&rt, rt.alloc(), &mut output, BAD_FIRST, 1);
-        refused_input = refused_input.saturating_add(first);
-        let last = played_without_memory(&rt, rt.alloc(), &mut output, BAD_LAST, 8);
-        refused_commands = refused_commands.saturating_add(last);
+        if play_runs_out(&rt, rt.alloc(), &mut output, BAD_FIRST, 1) {
+            refused_input = refused_input.saturating_add(1);
+        }
+        if play_runs_out(&rt, rt.alloc(), &mut output, BAD_LAST, 8) {
+            refused_commands = refused_commands.saturating_add(1);
+        }
         let mut input = EXAMPLE.as_bytes();
         played = play::<23, &[u8], Vec<u8>>(rt.alloc(), &mut input, &mut output);
         if played != Err(PlayFault::Memory) {
@@ -159,7 +164,7 @@ fn want_of_memory_is_reported(rt: HostRuntime) {
         agree(&rt, "the output", output.len(), 0);
     }
     drop(scarce);
-    ascend(&rt, refused_input, refused_commands, refused);
+    each_is_refused_more_often(&rt, refused_input, refused_commands, refused);
     agree(&rt, "what is returned", played, Ok(()));
     are_written(&rt, &output, &[], EXAMPLE_OUTPUT, "");
 }
@@ -363,7 +368,7 @@ fn want_of_memory_leaves_both_texts(rt: HostRuntime) {
         agree(&rt, "the second text", second.as_str(), "ab");
     }
     drop(scarce);
-    ascend(&rt, refused_second, refused_first, refused);
+    each_is_refused_more_often(&rt, refused_second, refused_first, refused);
     agree(&rt, "the replies", replies, 300);
     agree(&rt, "the length of the first text", first.len(), 23);
     agree(&rt, "the second text", second.as_str(), "abcc");

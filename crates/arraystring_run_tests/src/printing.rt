@@ -38,7 +38,7 @@ mod derived {
 }
 
 /// Asserts that one value is printed for debugging as the other, in each form, at each width.
-fn debugs_as<T: Debug, W: Debug>(rt: &(impl Abort + AllocGlobal), value: &T, wanted: &W) {
+fn debug_is_that_of<T: Debug, W: Debug>(rt: &(impl Abort + AllocGlobal), value: &T, wanted: &W) {
     let apart = first_debug_difference(rt.alloc(), value, wanted);
     let apart = apart.expect(rt, "memory for what is printed");
     agree(rt, "each form", apart, None);
@@ -47,22 +47,22 @@ fn debugs_as<T: Debug, W: Debug>(rt: &(impl Abort + AllocGlobal), value: &T, wan
 /// Each form of a reply.
 #[test]
 fn replies_are_printed_as_derived(rt: HostRuntime) {
-    debugs_as(&rt, &Reply::<5>::Done, &derived::Reply::Done);
-    debugs_as(&rt, &Reply::<5>::NoChar, &derived::Reply::NoChar);
-    debugs_as(&rt, &Reply::<5>::NoText, &derived::Reply::NoText);
+    debug_is_that_of(&rt, &Reply::<5>::Done, &derived::Reply::Done);
+    debug_is_that_of(&rt, &Reply::<5>::NoChar, &derived::Reply::NoChar);
+    debug_is_that_of(&rt, &Reply::<5>::NoText, &derived::Reply::NoText);
     for ch in ['a', 'é', '🤔', '\n', '\'', '"', '\\', '\0'] {
-        debugs_as(&rt, &Reply::<5>::Char(ch), &derived::Reply::Char(ch));
+        debug_is_that_of(&rt, &Reply::<5>::Char(ch), &derived::Reply::Char(ch));
     }
     for number in [0, 7, 10, 255u8] {
         let wanted = derived::Reply::Number(number);
-        debugs_as(&rt, &Reply::<5>::Number(number), &wanted);
+        debug_is_that_of(&rt, &Reply::<5>::Number(number), &wanted);
     }
     for text in ["", "ab", "é🤔", "a\n\"b\""] {
         let wanted = derived::Reply::Text(derived::ArrayString {
             array: text,
             size: text.len(),
         });
-        debugs_as(&rt, &Reply::<6>::Text(text_of(text)), &wanted);
+        debug_is_that_of(&rt, &Reply::<6>::Text(text_of(text)), &wanted);
     }
     for (refusal, name) in [
         (Error::Utf8, "Error::Utf8"),
@@ -70,7 +70,7 @@ fn replies_are_printed_as_derived(rt: HostRuntime) {
         (Error::OutOfBounds, "Error::OutOfBounds"),
     ] {
         let wanted = derived::Reply::Refused(Alone(name));
-        debugs_as(&rt, &Reply::<5>::Refused(refusal), &wanted);
+        debug_is_that_of(&rt, &Reply::<5>::Refused(refusal), &wanted);
     }
 }
 
@@ -79,9 +79,9 @@ fn replies_are_printed_as_derived(rt: HostRuntime) {
 fn faults_are_printed_as_derived(rt: HostRuntime) {
     for line in [0, 1, 30, usize::MAX] {
         let wanted = derived::PlayFault::BadLine(line);
-        debugs_as(&rt, &PlayFault::BadLine(line), &wanted);
+        debug_is_that_of(&rt, &PlayFault::BadLine(line), &wanted);
     }
-    debugs_as(&rt, &PlayFault::Memory, &derived::PlayFault::Memory);
-    debugs_as(&rt, &PlayFault::Read, &derived::PlayFault::Read);
-    debugs_as(&rt, &PlayFault::Write, &derived::PlayFault::Write);
+    debug_is_that_of(&rt, &PlayFault::Memory, &derived::PlayFault::Memory);
+    debug_is_that_of(&rt, &PlayFault::Read, &derived::PlayFault::Read);
+    debug_is_that_of(&rt, &PlayFault::Write, &derived::PlayFault::Write);
 }

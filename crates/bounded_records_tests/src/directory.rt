@@ -49,7 +49,8 @@ fn equal_texts_are_one_key(rt: HostRuntime) {
     agree(&rt, names.next(), None);
 }
 
-/// How many users `ranked` tells apart, a square of a prime.
+/// How many ranks are tried: that of the empty username, and those of 18 letters, each one to 20 times. It is 19
+/// times 19, so steps of a number that 19 does not divide come to every rank.
 const RANKS: u16 = 361;
 
 /// All ranked users are there, each with `more` behind its role, and no others.
@@ -126,8 +127,8 @@ fn each_refused_growth_changes_nothing(rt: HostRuntime) {
     let mut count = 0u8;
     let mut growths = 0u32;
     for _ in 0..TIMES {
-        let rest = scarce.leave_more(rt.alloc());
-        rest.expect(&rt, "the rest is taken again");
+        let taken_again = scarce.leave_more(rt.alloc());
+        taken_again.expect(&rt, "the rest is taken again");
         let before = count;
         for number in before..COUNT {
             match users.insert(lettered(number)) {

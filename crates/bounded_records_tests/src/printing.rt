@@ -31,7 +31,7 @@ const TEXTS: [(&str, &str); 4] = [
 ];
 
 /// How a text of a user is to be printed.
-fn text_form(text: &str) -> derived::ArrayString {
+fn printed_text(text: &str) -> derived::ArrayString {
     derived::ArrayString {
         array: text,
         size: text.len(),
@@ -39,15 +39,15 @@ fn text_form(text: &str) -> derived::ArrayString {
 }
 
 /// How a user of these texts is to be printed.
-fn user_form<'a>(texts: &(&'a str, &'a str)) -> derived::User<'a> {
+fn printed_user<'a>(texts: &(&'a str, &'a str)) -> derived::User<'a> {
     derived::User {
-        username: text_form(texts.0),
-        role: text_form(texts.1),
+        username: printed_text(texts.0),
+        role: printed_text(texts.1),
     }
 }
 
 /// Asserts that one value is printed for debugging as the other, in each form, at each width.
-fn debugs_as<T: Debug, W: Debug>(rt: &(impl Abort + AllocGlobal), value: &T, wanted: &W) {
+fn debug_is_that_of<T: Debug, W: Debug>(rt: &(impl Abort + AllocGlobal), value: &T, wanted: &W) {
     let apart = first_debug_difference(rt.alloc(), value, wanted);
     let apart = apart.expect(rt, "memory for what is printed");
     agree(rt, apart, None);
@@ -68,9 +68,9 @@ fn a_directory_is_printed_as_a_set(rt: HostRuntime) {
         let texts = TEXTS.get(..count).unwrap_or_default();
         let mut wanted = BTreeSet::new(rt.alloc());
         for texts in texts {
-            wanted.insert(user_form(texts)).expect(&rt, "memory");
+            wanted.insert(printed_user(texts)).expect(&rt, "memory");
         }
-        debugs_as(&rt, &of_first(&rt, texts), &wanted);
+        debug_is_that_of(&rt, &of_first(&rt, texts), &wanted);
     }
 }
 
@@ -83,11 +83,11 @@ fn are_printed(
 ) {
     let (mut usernames, mut wanted) = (Vec::new(rt.alloc()), Vec::new(rt.alloc()));
     for texts in texts {
-        usernames.push(text_form(texts.0)).expect(rt, "memory");
-        wanted.push(user_form(texts)).expect(rt, "memory");
+        usernames.push(printed_text(texts.0)).expect(rt, "memory");
+        wanted.push(printed_user(texts)).expect(rt, "memory");
     }
-    debugs_as(rt, names, &usernames);
-    debugs_as(rt, users, &wanted);
+    debug_is_that_of(rt, names, &usernames);
+    debug_is_that_of(rt, users, &wanted);
 }
 
 /// Takes the first users and the last ones out of both iterators.

@@ -137,8 +137,8 @@ fn each_refused_growth_changes_nothing(rt: HostRuntime) {
     let mut renames = 0u32;
     let mut dumps = 0u32;
     for _ in 0..TIMES {
-        let rest = scarce.leave_more(rt.alloc());
-        rest.expect(&rt, "the rest is taken again");
+        let taken_again = scarce.leave_more(rt.alloc());
+        taken_again.expect(&rt, "the rest is taken again");
         let before = count;
         for number in before..COUNT {
             let user = numbered(number);

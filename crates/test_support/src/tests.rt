@@ -129,11 +129,11 @@ fn what_is_left_can_be_had(rt: HostRuntime) {
     let Some(mut scarce) = scarce else {
         return;
     };
-    let rest = scarce.leave_more(rt.alloc());
-    rest.expect(&rt, "the rest is taken again");
+    let taken_again = scarce.leave_more(rt.alloc());
+    taken_again.expect(&rt, "the rest is taken again");
     let none = can_be_had(rt.alloc(), 1000);
-    let rest = scarce.leave(rt.alloc(), 10000);
-    rest.expect(&rt, "the rest is taken again");
+    let taken_again = scarce.leave(rt.alloc(), 10000);
+    taken_again.expect(&rt, "the rest is taken again");
     let little = can_be_had(rt.alloc(), 1000);
     let much = can_be_had(rt.alloc(), 20000);
     drop(scarce);

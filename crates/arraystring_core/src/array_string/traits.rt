@@ -1,4 +1,5 @@
-//! The traits of a string: how it is printed, made, compared, hashed and appended to.
+//! The traits of a string: how it is printed, made, compared, hashed and appended to. Those that compare and hash
+//! stand in drain/traits.rt, too, since the gate takes no `impl` that a macro of this repository wrote.
 ghost use Rattle.std.specs.Prelude.{◌≡◌, Ok, [], ◌++◌, chars, nat_eq, IsOk, Some, refl};
 ghost use Rattle.std.specs.Cmp.{on_equiv, on_per, partial_equiv_from_equiv, on_total, on_po};
 ghost use Rattle.std.specs.Cmp.Lexicographic.{pointwise, nat_list_eq_equiv, slice_cmp, nat_list_cmp_total, texts_po, texts_ties, bytes_decides};

@@ -1,6 +1,6 @@
 //! Each call once, and the least and the greatest capacities, on values worked out by hand. A character
 //! that is not printable is written in a result as Rust's `{:?}` escapes it.
-use super::calls::{check_rows, check_table};
+use super::calls::{check_blocks, check_rows};
 use super::table::{agree, string};
 use arraystring::error::OutOfBounds;
 use arraystring::prelude::{MaxString, SmallString};
@@ -12,7 +12,7 @@ use test_support::table::LETTERS;
 
 #[test]
 fn texts_and_capacities(rt: HostRuntime) {
-    check_table(
+    check_blocks(
         &rt,
         "
         # 8 | characters of each width are pushed and popped
@@ -203,7 +203,7 @@ const A_WIDER_LAST: &str = "xxxxxxxxxxxxxxxxxxxxxxxxxxxxxxxxxxxxxxxxxxxxxxxxxxxx
 
 #[test]
 fn the_least_and_the_greatest_capacities(rt: HostRuntime) {
-    check_table(
+    check_blocks(
         &rt,
         "
         # 0 | a string of no bytes takes the empty text alone

@@ -28,7 +28,7 @@ use test_support::table::{column, rows};
 
 /// Makes the calls of a table in blocks. The line over a block is `# 8 | what it shows`, if 8 is
 /// the capacity.
-pub(crate) fn check_table(rt: &(impl Abort + AllocGlobal), table: &str) {
+pub(crate) fn check_blocks(rt: &(impl Abort + AllocGlobal), table: &str) {
     for block in table.split('#') {
         let (heading, rows) = block.split_once('\n').unwrap_or_default();
         let capacity = column(heading, 0).parse().unwrap_or(u16::MAX);

@@ -21,7 +21,7 @@ const ZEROS_23: &str = "00000000000000000000000";
 /// refusal, and the others make the cut. The unchecked are called if the text fits. What is next in
 /// an iterator that is borrowed comes after the first item that does not fit, which is taken too:
 /// no character if the column is empty, no piece if it is `None`.
-pub(super) fn check_table<const N: usize>(rt: &impl Abort, table: &str)
+pub(super) fn check_constructors<const N: usize>(rt: &impl Abort, table: &str)
     requires { N ≤ 300 }
 {
     for row in rows(table) {
@@ -103,7 +103,7 @@ fn of_pieces<const N: usize>(pieces: &[&str]) -> (ArrayString<N>, Option<ArraySt
 
 #[test]
 fn what_is_made(rt: HostRuntime) {
-    check_table::<23>(
+    check_constructors::<23>(
         &rt,
         "
         My String                | My, String               | My String               | My String               |      | None
@@ -115,14 +115,14 @@ fn what_is_made(rt: HostRuntime) {
         abc🤔de                  | ab,c🤔,d,e               | abc🤔de                 | abc🤔de                 |      | None
         ",
     );
-    check_table::<0>(
+    check_constructors::<0>(
         &rt,
         "
           |   |             | |      | None
         x | x | OutOfBounds | |      | None
         ",
     );
-    check_table::<1>(
+    check_constructors::<1>(
         &rt,
         "
         ab  | a,b  | OutOfBounds | a |      | None
@@ -130,10 +130,10 @@ fn what_is_made(rt: HostRuntime) {
         éa  | é,a  | OutOfBounds |   | a    | a
         ",
     );
-    check_table::<2>(&rt, "abcd | a,b,c,d | OutOfBounds | ab | d | d");
-    check_table::<3>(&rt, "abcdef | ab,cd,ef | OutOfBounds | abc | e | ef");
-    check_table::<4>(&rt, "a🤔b | a,🤔b | OutOfBounds | a | b | None");
-    check_table::<5>(
+    check_constructors::<2>(&rt, "abcd | a,b,c,d | OutOfBounds | ab | d | d");
+    check_constructors::<3>(&rt, "abcdef | ab,cd,ef | OutOfBounds | abc | e | ef");
+    check_constructors::<4>(&rt, "a🤔b | a,🤔b | OutOfBounds | a | b | None");
+    check_constructors::<5>(
         &rt,
         "
         a🤔b     | a,🤔b      | OutOfBounds | a🤔   |      | None
@@ -143,8 +143,8 @@ fn what_is_made(rt: HostRuntime) {
         abc🤔de  | ab,c🤔,d,e | OutOfBounds | abc   | d    | d
         ",
     );
-    check_table::<255>(&rt, "255 x | 255 x | 255 x | 255 x |      | None");
-    check_table::<300>(
+    check_constructors::<255>(&rt, "255 x | 255 x | 255 x | 255 x |      | None");
+    check_constructors::<300>(
         &rt,
         "
         255 x | 255 x | 255 x       | 255 x |      | None

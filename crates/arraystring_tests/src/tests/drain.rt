@@ -1,7 +1,7 @@
 //! Iterators over what was taken out, and what is left of it, on values worked out by hand.
 ghost use Rattle.std.specs.Prelude.{◌≤◌};
 
-use super::printing::{debugs, debugs_as, derived};
+use super::printing::{debug_is, debug_is_that_of, derived};
 use super::table::{agree, hash_of, number, returned, string};
 use arraystring::{ArrayString, Drain};
 use std::process::Abort;
@@ -25,7 +25,7 @@ fn taken_out<const N: usize>(written: &str) -> Drain<N> {
 ///
 /// With no text, the step is one of the drain that the row above left, and first of a default drain.
 /// With no result, it gives no character.
-fn check_table<const N: usize>(rt: &impl Abort, table: &str)
+fn check_drains<const N: usize>(rt: &impl Abort, table: &str)
     requires { N ≤ 300 }
 {
     let mut drain = Drain::<N>::default();
@@ -44,7 +44,7 @@ fn check_table<const N: usize>(rt: &impl Abort, table: &str)
 
 #[test]
 fn steps_from_both_ends(rt: HostRuntime) {
-    check_table::<23>(
+    check_drains::<23>(
         &rt,
         "
         [A🤔B]   | next      | A    | 🤔B
@@ -61,14 +61,14 @@ fn steps_from_both_ends(rt: HostRuntime) {
         ",
     );
     // Nothing was taken out.
-    check_table::<4>(
+    check_drains::<4>(
         &rt,
         "
          | next      |      |
          | next_back |      |
         ",
     );
-    check_table::<0>(
+    check_drains::<0>(
         &rt,
         "
         [] | next      |      |
@@ -91,7 +91,7 @@ fn walk_by(rt: &(impl Abort + AllocGlobal), text: &str, choice: u32) {
     let mut wanted = text.chars();
     let mut choice = choice;
     for _ in text.chars() {
-        debugs_as(rt, &drain, &derived::Drain(wanted.as_str()));
+        debug_is_that_of(rt, &drain, &derived::Drain(wanted.as_str()));
         if choice & 1 == 0 {
             agree(rt, text, drain.next(), wanted.next());
         } else {
@@ -100,7 +100,7 @@ fn walk_by(rt: &(impl Abort + AllocGlobal), text: &str, choice: u32) {
         choice >>= 1;
     }
     agree(rt, text, drain.as_str(), "");
-    debugs_as(rt, &drain, &derived::Drain(""));
+    debug_is_that_of(rt, &drain, &derived::Drain(""));
     agree(rt, text, drain.next(), None);
     agree(rt, text, drain.next_back(), None);
 }
@@ -178,7 +178,7 @@ fn what_is_left_is_compared_and_printed(rt: HostRuntime) {
         ",
     );
     let wanted = "Drain(\"\")|Drain(\n    \"\",\n)|Drain(\"\")|Drain(\"\")|Drain(\"\")";
-    debugs(&rt, &Drain::<5>::default(), wanted);
+    debug_is(&rt, &Drain::<5>::default(), wanted);
     let wanted = "Drain(\"bc\")|Drain(\n    \"bc\",\n)|Drain(\"bc\")|Drain(\"bc\")|Drain(\"bc\")";
-    debugs(&rt, &left("a[bc]"), wanted);
+    debug_is(&rt, &left("a[bc]"), wanted);
 }

@@ -1,5 +1,5 @@
 //! Refusals: how they are printed and hashed, and how they become an `Error` or a `ValueError`.
-use super::printing::{debugs_as, displays};
+use super::printing::{debug_is_that_of, display_is};
 use super::table::{agree, hash_of};
 use arraystring::error::{Error, OutOfBounds, Utf8, Utf16};
 use arraystring::integration::{NotText, ValueError};
@@ -16,8 +16,8 @@ fn prints<T: Display + Debug>(
     name: &str,
     debug: &str,
 ) {
-    displays(rt, refusal, name);
-    debugs_as(rt, refusal, &Alone(debug));
+    display_is(rt, refusal, name);
+    debug_is_that_of(rt, refusal, &Alone(debug));
 }
 
 /// Asserts that a refusal becomes this case of `Error`, and how both are printed and hashed.

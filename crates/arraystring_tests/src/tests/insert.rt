@@ -1,7 +1,7 @@
 //! What is put into a string, and what is added from an iterator, on values worked out by hand.
 ghost use Rattle.std.specs.Prelude.{◌≤◌};
 
-use super::calls::check_table;
+use super::calls::check_blocks;
 use super::construct::next;
 use super::table::agree;
 use arraystring::prelude::SmallString;
@@ -11,7 +11,7 @@ use test_support::table::column;
 
 #[test]
 fn insertions(rt: HostRuntime) {
-    check_table(
+    check_blocks(
         &rt,
         "
         # 23 | characters and texts are inserted
@@ -145,7 +145,7 @@ fn a_full_string_has_no_room_at_any_index(rt: HostRuntime) {
 ///     text before | characters | pieces | text after | next character | next piece
 ///
 /// if the text after is the same by the characters and by the pieces.
-fn check_row<const N: usize>(rt: &impl Abort, row: &str)
+fn check_extension<const N: usize>(rt: &impl Abort, row: &str)
     requires { N ≤ 300 }
 {
     let (mut chars, mut pieces) = (column(row, 1).chars(), column(row, 2).split(','));
@@ -161,11 +161,11 @@ fn check_row<const N: usize>(rt: &impl Abort, row: &str)
 /// A full string takes one more item too.
 #[test]
 fn what_is_added(rt: HostRuntime) {
-    check_row::<5>(&rt, "ab  | c🤔de   | c🤔,d,e    | abc   | d | d");
-    check_row::<5>(&rt, "abc | dexyz   | d,ex,y,z   | abcde | y | y");
-    check_row::<5>(&rt, "xyz | abc🤔de | ab,c🤔,d,e | xyzab | 🤔 | d");
-    check_row::<6>(&rt, "ab  | c🤔d    | c,🤔,d     | abc   | d | d");
-    check_row::<6>(&rt, "ab  | cd🤔e   | cd,🤔,e    | abcd  | e | e");
-    check_row::<7>(&rt, "xy  | abc🤔de | ab,c🤔,d,e | xyabc | d | d");
-    check_row::<255>(&rt, "255 x | abc | a,b | 255 x | b | b");
+    check_extension::<5>(&rt, "ab  | c🤔de   | c🤔,d,e    | abc   | d | d");
+    check_extension::<5>(&rt, "abc | dexyz   | d,ex,y,z   | abcde | y | y");
+    check_extension::<5>(&rt, "xyz | abc🤔de | ab,c🤔,d,e | xyzab | 🤔 | d");
+    check_extension::<6>(&rt, "ab  | c🤔d    | c,🤔,d     | abc   | d | d");
+    check_extension::<6>(&rt, "ab  | cd🤔e   | cd,🤔,e    | abcd  | e | e");
+    check_extension::<7>(&rt, "xy  | abc🤔de | ab,c🤔,d,e | xyabc | d | d");
+    check_extension::<255>(&rt, "255 x | abc | a,b | 255 x | b | b");
 }

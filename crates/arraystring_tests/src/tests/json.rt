@@ -277,8 +277,8 @@ fn value_at_last<S: Json>(
     let mut refused = 0u32;
     let mut made = Err(AllocError);
     for _ in 0..TIMES {
-        let rest = scarce.leave_more(alloc);
-        rest.expect(rt, "the rest is taken again");
+        let taken_again = scarce.leave_more(alloc);
+        taken_again.expect(rt, "the rest is taken again");
         made = string.value(alloc);
         if made.is_ok() {
             break;

@@ -9,7 +9,7 @@ use std::process::Abort;
 use test_support::printing::first_debug_difference;
 
 /// Asserts that a value is printed as a text, in each form that could pad or cut it, at each width.
-pub(crate) fn displays<T: Display>(rt: &(impl Abort + AllocGlobal), value: &T, wanted: &str) {
+pub(crate) fn display_is<T: Display>(rt: &(impl Abort + AllocGlobal), value: &T, wanted: &str) {
     for width in 0..300usize {
         let printed = format!(in rt.alloc();
             "{value}{value:#}{value:width$}{value:<width$}{value:>width$}{value:*^width$}\
@@ -25,7 +25,7 @@ pub(crate) fn displays<T: Display>(rt: &(impl Abort + AllocGlobal), value: &T, w
 }
 
 /// Asserts how a value is printed for debugging: plainly, on lines, and in three widths.
-pub(crate) fn debugs<T: Debug>(rt: &(impl Abort + AllocGlobal), value: &T, wanted: &str) {
+pub(crate) fn debug_is<T: Debug>(rt: &(impl Abort + AllocGlobal), value: &T, wanted: &str) {
     let printed = format!(in rt.alloc();
         "{value:?}|{value:#?}|{value:4?}|{value:12?}|{value:>12?}"
     );
@@ -49,7 +49,7 @@ pub(crate) mod derived {
 }
 
 /// Asserts that one value is printed for debugging as the other, in each form, at each width.
-pub(crate) fn debugs_as<T: Debug, W: Debug>(
+pub(crate) fn debug_is_that_of<T: Debug, W: Debug>(
     rt: &(impl Abort + AllocGlobal),
     value: &T,
     wanted: &W,
@@ -63,12 +63,12 @@ pub(crate) fn debugs_as<T: Debug, W: Debug>(
 fn texts_are_printed_as_they_are(rt: HostRuntime) {
     for text in "| a | é | € | 🤔 | aé€🤔bé | ab | abc".split('|') {
         let text = text.trim_matches(' ');
-        displays(&rt, &SmallString::from(text), text);
-        displays(&rt, &CacheString::from_str_truncate(text), text);
+        display_is(&rt, &SmallString::from(text), text);
+        display_is(&rt, &CacheString::from_str_truncate(text), text);
     }
-    displays(&rt, &MaxString::from(MANY_LETTERS), MANY_LETTERS);
+    display_is(&rt, &MaxString::from(MANY_LETTERS), MANY_LETTERS);
     let cached = CacheString::from_str_truncate(MANY_LETTERS);
-    displays(
+    display_is(
         &rt,
         &cached,
         "abcdeabcdeabcdeabcdeabcdeabcdeabcdeabcdeabcdeabcdeabcdeabcdeabc",
@@ -80,25 +80,25 @@ fn shows<const N: usize>(rt: &(impl Abort + AllocGlobal), text: &str)
     requires { N ≤ 300 }
 {
     let mut string: ArrayString<N> = string(text);
-    displays(rt, &string, text);
+    display_is(rt, &string, text);
     let wanted = derived::ArrayString {
         array: text,
         size: text.len(),
     };
-    debugs_as(rt, &string, &wanted);
+    debug_is_that_of(rt, &string, &wanted);
     let drained = string.drain(..).unwrap_or_default();
-    debugs_as(rt, &drained, &derived::Drain(text));
+    debug_is_that_of(rt, &drained, &derived::Drain(text));
 }
 
 /// Asserts how a `CacheString` of a text that fits is printed.
 fn shows_cached(rt: &(impl Abort + AllocGlobal), text: &str) {
     let string = CacheString::from_str_truncate(text);
-    displays(rt, &string, text);
+    display_is(rt, &string, text);
     let wanted = derived::ArrayString {
         array: text,
         size: text.len(),
     };
-    debugs_as(rt, &string, &derived::CacheString(wanted));
+    debug_is_that_of(rt, &string, &derived::CacheString(wanted));
 }
 
 #[test]
@@ -125,14 +125,14 @@ fn strings_are_printed_for_debugging(rt: HostRuntime) {
         ArrayString { array: \"\", size:    0 }|\
         ArrayString { array: \"\", size:            0 }|\
         ArrayString { array: \"\", size:            0 }";
-    debugs(&rt, &SmallString::new(), wanted);
+    debug_is(&rt, &SmallString::new(), wanted);
     let wanted = "ArrayString { array: \"abc\", size: 3 }|\
         ArrayString {\n    array: \"abc\",\n    size: 3,\n}|\
         ArrayString { array: \"abc\", size:    3 }|\
         ArrayString { array: \"abc\", size:            3 }|\
         ArrayString { array: \"abc\", size:            3 }";
-    debugs(&rt, &ArrayString::<8>::from("abc"), wanted);
-    debugs(&rt, &SmallString::from("abc"), wanted);
+    debug_is(&rt, &ArrayString::<8>::from("abc"), wanted);
+    debug_is(&rt, &SmallString::from("abc"), wanted);
     let mut text: ArrayString<8> = ArrayString::from("aé");
     let _ = text.remove(0);
     let wanted = "ArrayString { array: \"é\", size: 2 }|\
@@ -140,7 +140,7 @@ fn strings_are_printed_for_debugging(rt: HostRuntime) {
         ArrayString { array: \"é\", size:    2 }|\
         ArrayString { array: \"é\", size:            2 }|\
         ArrayString { array: \"é\", size:            2 }";
-    debugs(&rt, &text, wanted);
+    debug_is(&rt, &text, wanted);
 }
 
 #[test]
@@ -150,11 +150,11 @@ fn cached_strings_are_printed_for_debugging(rt: HostRuntime) {
         CacheString(ArrayString { array: \"\", size:    0 })|\
         CacheString(ArrayString { array: \"\", size:            0 })|\
         CacheString(ArrayString { array: \"\", size:            0 })";
-    debugs(&rt, &CacheString::new(), wanted);
+    debug_is(&rt, &CacheString::new(), wanted);
     let wanted = "CacheString(ArrayString { array: \"aé€🤔\", size: 10 })|\
         CacheString(\n    ArrayString {\n        array: \"aé€🤔\",\n        size: 10,\n    },\n)|\
         CacheString(ArrayString { array: \"aé€🤔\", size:   10 })|\
         CacheString(ArrayString { array: \"aé€🤔\", size:           10 })|\
         CacheString(ArrayString { array: \"aé€🤔\", size:           10 })";
-    debugs(&rt, &CacheString::from_str_truncate("aé€🤔"), wanted);
+    debug_is(&rt, &CacheString::from_str_truncate("aé€🤔"), wanted);
 }

@@ -1,11 +1,11 @@
 //! Parts of a string, on values worked out by hand.
-use super::calls::check_table;
+use super::calls::check_blocks;
 use super::table::agree;
 use arraystring::{ArrayString, Error};
 
 #[test]
 fn ranges(rt: HostRuntime) {
-    check_table(
+    check_blocks(
         &rt,
         "
         # 23 | parts are borrowed

@@ -1,9 +1,9 @@
 //! What is taken out of a string, on values worked out by hand.
-use super::calls::check_table;
+use super::calls::check_blocks;
 
 #[test]
 fn removals(rt: HostRuntime) {
-    check_table(
+    check_blocks(
         &rt,
         "
         # 23 | characters are removed

@@ -6,8 +6,8 @@ use arraystring::ArrayString;
 use std::process::Abort;
 use test_support::table::{column, rows};
 
-/// The string of a text that begins at an offset, or as near to it as leaves the text its room. Of the
-/// eight bytes as many as are left are after it.
+/// A string of 8 bytes whose text begins at `offset` of the array. If the text is too long for that, it ends where
+/// the array ends.
 fn behind(text: &str, offset: usize) -> ArrayString<8> {
     let room = 8usize.saturating_sub(text.len());
     let before = "........".get(..offset.min(room)).unwrap_or_default();

@@ -3,7 +3,7 @@
 //! has, and differ at each index.
 ghost use Rattle.std.specs.Prelude.{◌≤◌};
 
-use super::calls::check_table;
+use super::calls::check_blocks;
 use super::table::{MANY_LETTERS, agree, hash_of};
 use arraystring::{ArrayString, CacheString};
 use std::cmp::Ordering;
@@ -12,7 +12,7 @@ use test_support::table::{LETTERS, column, rows};
 
 #[test]
 fn orders_and_additions(rt: HostRuntime) {
-    check_table(
+    check_blocks(
         &rt,
         "
         # 8 | texts are ordered by their characters
@@ -152,7 +152,7 @@ fn of_other_types<const N: usize>(
     is_less(rt, row, &drained, &other);
 }
 
-/// The string of a text in parts, as much of it as fits, which begins at an offset.
+/// A string whose text begins at `offset` of the array: the three parts, joined and cut to what fits there.
 fn behind<const N: usize>(offset: usize, parts: [&str; 3]) -> ArrayString<N>
     requires { N ≤ 300 }
 {

@@ -1,5 +1,5 @@
 //! Trimmed strings, on values worked out by hand.
-use super::calls::{check_row, check_table};
+use super::calls::{check_blocks, check_row};
 use super::table::{agree, string};
 use arraystring::MaxString;
 use std::process::Abort;
@@ -7,7 +7,7 @@ use test_support::table::{column, rows};
 
 #[test]
 fn trimmed_texts(rt: HostRuntime) {
-    check_table(
+    check_blocks(
         &rt,
         "
         # 255 | texts are trimmed

@@ -13,7 +13,7 @@ use test_support::table::{column, rows};
 ///     units in hexadecimal | `try_from_utf16` | `from_utf16` | `from_utf16_lossy`
 ///
 /// Each of the last three has the text that its call makes, or the name of its refusal.
-fn check_table<const N: usize>(rt: &impl Abort, table: &str)
+fn check_texts_of_units<const N: usize>(rt: &impl Abort, table: &str)
     requires { N ≤ 300 }
 {
     for row in rows(table) {
@@ -84,7 +84,7 @@ fn units_are_read(rt: HostRuntime) {
 
 #[test]
 fn what_is_made_of_units(rt: HostRuntime) {
-    check_table::<23>(
+    check_texts_of_units::<23>(
         &rt,
         "
         D834 DD1E 6D 75 73 69 63    | 𝄞music | 𝄞music | 𝄞music
@@ -95,7 +95,7 @@ fn what_is_made_of_units(rt: HostRuntime) {
         DD14 D83E                   | Utf16  | Utf16  | \u{FFFD}\u{FFFD}
         ",
     );
-    check_table::<0>(
+    check_texts_of_units::<0>(
         &rt,
         "
                 |             |       |
@@ -103,8 +103,8 @@ fn what_is_made_of_units(rt: HostRuntime) {
         61 D800 | OutOfBounds |       |
         ",
     );
-    check_table::<1>(&rt, "D800 | Utf16 | Utf16 |");
-    check_table::<2>(
+    check_texts_of_units::<1>(&rt, "D800 | Utf16 | Utf16 |");
+    check_texts_of_units::<2>(
         &rt,
         "
         D800          | Utf16       | Utf16 |
@@ -112,7 +112,7 @@ fn what_is_made_of_units(rt: HostRuntime) {
         61 62 63 D800 | OutOfBounds | ab    | ab
         ",
     );
-    check_table::<3>(
+    check_texts_of_units::<3>(
         &rt,
         "
         D800       | Utf16       | Utf16 | \u{FFFD}
@@ -121,7 +121,7 @@ fn what_is_made_of_units(rt: HostRuntime) {
         DBFF DFFF  | OutOfBounds |       |
         ",
     );
-    check_table::<4>(
+    check_texts_of_units::<4>(
         &rt,
         "
         61 D800 62 | Utf16      | Utf16      | a\u{FFFD}
@@ -130,26 +130,26 @@ fn what_is_made_of_units(rt: HostRuntime) {
         ",
     );
     // The first stop decides: a character that does not fit, or a lone surrogate.
-    check_table::<5>(
+    check_texts_of_units::<5>(
         &rt,
         "
         D834 DD1E E9 D800 | OutOfBounds | 𝄞 | 𝄞
         D834 DD1E E9 61   | OutOfBounds | 𝄞 | 𝄞
         ",
     );
-    check_table::<6>(&rt, "D834 DD1E E9 D800 | Utf16 | Utf16 | 𝄞é");
-    check_table::<8>(
+    check_texts_of_units::<6>(&rt, "D834 DD1E E9 D800 | Utf16 | Utf16 | 𝄞é");
+    check_texts_of_units::<8>(
         &rt,
         "D7FF E000 FFFF | OutOfBounds | \u{D7FF}\u{E000} | \u{D7FF}\u{E000}",
     );
-    check_table::<9>(
+    check_texts_of_units::<9>(
         &rt,
         "
         D7FF E000 FFFF       | \u{D7FF}\u{E000}\u{FFFF} | \u{D7FF}\u{E000}\u{FFFF} | \u{D7FF}\u{E000}\u{FFFF}
         61 E9 20AC D83E DD14 | OutOfBounds | aé€ | aé€
         ",
     );
-    check_table::<10>(&rt, "61 E9 20AC D83E DD14 | aé€🤔 | aé€🤔 | aé€🤔");
+    check_texts_of_units::<10>(&rt, "61 E9 20AC D83E DD14 | aé€🤔 | aé€🤔 | aé€🤔");
     // A long list.
     let row = "300 units | OutOfBounds | \0\0\0\0\0\0\0\0\0\0\0\0\0\0\0\0\0\0\0\0\0\0\0 \
         | \0\0\0\0\0\0\0\0\0\0\0\0\0\0\0\0\0\0\0\0\0\0\0";

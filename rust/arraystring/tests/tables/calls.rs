@@ -19,7 +19,7 @@ use arraystring::utils::is_char_boundary;
 use arraystring::{ArrayString, MaxString};
 
 use crate::at_capacity;
-use crate::rows::{column, hash_of, parsed, returned, rows};
+use crate::rows::{Table, column, hash_of, parsed, returned, rows};
 
 /// The calls that rows have made.
 static MADE: Mutex<BTreeSet<String>> = Mutex::new(BTreeSet::new());
@@ -36,11 +36,6 @@ fn calls() -> impl Iterator<Item = &'static str> {
     arms.flat_map(|(names, _)| names.split('"').skip(1).step_by(2))
 }
 
-/// Whether this is the name of a call of the tables.
-pub fn is_call(name: &str) -> bool {
-    calls().any(|known| known == plain(name))
-}
-
 /// The calls of the tables that no row has made.
 pub fn not_made() -> Vec<&'static str> {
     let made = MADE.lock().expect("no panic");
@@ -48,26 +43,27 @@ pub fn not_made() -> Vec<&'static str> {
 }
 
 /// Makes the calls of blocks. The line over a block is `# 8 | what it shows`, where 8 is the capacity.
-pub fn blocks(table: &str) -> usize {
+pub fn blocks(table: &Table) -> usize {
     let of_block = |block: &str| {
         let (heading, rows) = block.split_once('\n').unwrap_or_default();
-        at(parsed(heading, 0), rows)
+        at_capacity!(parsed(heading, 0), hold, rows)
     };
-    table.split('#').skip(1).map(of_block).sum()
+    table.text.split('#').skip(1).map(of_block).sum()
 }
 
 /// Makes the calls of a table on strings of one capacity.
-pub fn at(capacity: usize, table: &str) -> usize {
-    fn hold<const N: usize>(table: &str) -> usize {
-        hold_from(table, |text| ArrayString::<N>::from(text))
-    }
-    at_capacity!(capacity, hold, table)
+pub fn rows_at(table: &Table) -> usize {
+    at_capacity!(table.capacity(), hold, &table.text)
+}
+
+fn hold<const N: usize>(table: &str) -> usize {
+    hold_from(table, |text| ArrayString::<N>::from(text))
 }
 
 /// Makes the calls of a table on strings of 8 bytes whose texts begin at each offset of the array that leaves them their room.
-pub fn anywhere(table: &str) -> usize {
+pub fn wherever_it_begins(table: &Table) -> usize {
     let at_offset = |offset: usize| {
-        hold_from(table, |text| {
+        hold_from(&table.text, |text| {
             let before = &"........"[..offset.min(8 - text.len())];
             let mut behind = ArrayString::<8>::from(before);
             behind.push_str(text);

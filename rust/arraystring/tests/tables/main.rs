@@ -1,47 +1,41 @@
 //! The tables of the proved crate's tests, read from its files and played on the Rust crate: one table tests both builds.
 //!
-//! A table is a text with `|` in it that a call of a test is given alone, perhaps at a capacity (`::<23>`). What it says is
-//! told by its shape: blocks under lines such as `# 8 | ..`, steps over a drain, units in hexadecimal, constructors, or calls.
+//! A table is a text with `|` in it that a function of a test is given alone, perhaps at a capacity (`::<23>`). The name of this
+//! function says what plays the table here: `PLAYERS` has it.
 
 mod calls;
 mod contract;
-mod named;
+mod made;
+mod read;
 mod rows;
-mod shapes;
 
 use std::collections::BTreeMap;
 
-use rows::{Table, column, rows, tables};
+use rows::{Table, tables};
 
 /// Where the tables are.
 const FOLDER: &str = "../../crates/arraystring_tests/src/tests";
 
-/// How many rows of each shape are played at least.
-const LEAST: &[(&str, usize)] =
-    &[("blocks", 400), ("calls", 100), ("anywhere", 100), ("drains", 10), ("units", 20), ("made", 20), ("extended", 5)];
+/// A player: the name of the function that is given its tables, how many of their rows it plays at least, and what plays a table here
+/// and returns how many rows it has played.
+type Player = (&'static str, usize, fn(&Table) -> usize);
 
-/// What the rows of a table are.
-fn shape(table: &Table) -> Option<&'static str> {
-    let first = rows(&table.text).next()?;
-    if first.trim_start().starts_with('#') {
-        return Some("blocks");
-    }
-    let columns = first.split('|').count();
-    let is_hex =
-        column(first, 0).split(' ').all(|digits| digits.len() <= 4 && digits.chars().all(|ch| ch.is_ascii_hexdigit()));
-    let second = if columns > 1 { column(first, 1) } else { "" };
-    match (table.capacity, columns) {
-        (Some(_), 4) if second == "next" || second == "next_back" => Some("drains"),
-        (Some(_), 4) if is_hex => Some("units"),
-        _ if second.split(' ').all(calls::is_call) && columns >= 5 => {
-            Some(if table.capacity.is_some() { "calls" } else { "anywhere" })
-        }
-        // A text and its pieces, or a text before and what is added to it.
-        (Some(_), 6) if column(first, 1).replace(',', "") == column(first, 0) => Some("made"),
-        (Some(_), 6) => Some("extended"),
-        _ => None,
-    }
-}
+const PLAYERS: &[Player] = &[
+    ("check_blocks", 400, calls::blocks),
+    ("check_comparisons", 4, read::comparisons),
+    ("check_constructors", 20, made::constructors),
+    ("check_cuts", 18, read::cuts),
+    ("check_drains", 10, read::drains),
+    ("check_extension", 5, made::extension),
+    ("check_orders", 6, read::orders),
+    ("check_reading", 18, read::reading),
+    ("check_rows", 100, calls::rows_at),
+    ("check_texts_of_units", 20, made::texts_of_units),
+    ("check_trims", 23, read::trims),
+    ("check_units", 9, read::units),
+    ("check_walks", 7, read::walks),
+    ("check_wherever_it_begins", 100, calls::wherever_it_begins),
+];
 
 /// Calls a function at a capacity that is known when it runs.
 macro_rules! at_capacity {
@@ -59,32 +53,16 @@ pub(crate) use at_capacity;
 
 #[test]
 fn each_table_holds_here_too() {
-    let folder = std::path::Path::new(FOLDER);
     let mut played: BTreeMap<&str, usize> = BTreeMap::new();
-    for table in tables(folder) {
-        if let Some((name, _, play)) = named::PLAYERS.iter().find(|(name, ..)| *name == table.player) {
-            *played.entry(name).or_default() += play(&table);
-            continue;
-        }
-        let shape = shape(&table)
-            .unwrap_or_else(|| panic!("{}: `{}` is given a table of no known shape", table.file, table.player));
-        println!("{}: `{}`: {shape}", table.file, table.player);
-        let capacity = table.capacity.unwrap_or(8);
-        let text = table.text.as_str();
-        *played.entry(shape).or_default() += match shape {
-            "blocks" => calls::blocks(text),
-            "calls" => calls::at(capacity, text),
-            "anywhere" => calls::anywhere(text),
-            "drains" => shapes::walked_at(capacity, text),
-            "units" => shapes::made_of_units_at(capacity, text),
-            "extended" => shapes::extended_at(capacity, text),
-            _ => shapes::made_at(capacity, text),
-        };
+    for table in tables(std::path::Path::new(FOLDER)) {
+        let player = PLAYERS.iter().find(|(name, ..)| *name == table.player);
+        let (name, _, play) = player
+            .unwrap_or_else(|| panic!("{}: nothing in `PLAYERS` plays the tables of `{}`", table.file, table.player));
+        *played.entry(name).or_default() += play(&table);
     }
-    let named = named::PLAYERS.iter().map(|(name, least, _)| (*name, *least));
-    for (shape, least) in LEAST.iter().copied().chain(named) {
-        let count = played.get(shape).copied().unwrap_or_default();
-        assert!(count >= least, "{count} rows of {shape} were played, where at least {least} are due: {played:?}");
+    for (name, least, _) in PLAYERS {
+        let count = played.get(name).copied().unwrap_or_default();
+        assert!(count >= *least, "{count} rows of {name} were played, where at least {least} are due: {played:?}");
     }
     let missing = calls::not_made();
     assert!(missing.is_empty(), "no row of a table in crates/arraystring_tests/src/tests makes {missing:?}");

@@ -55,6 +55,13 @@ pub struct Table {
     pub text: String,
 }
 
+impl Table {
+    /// The capacity, which has to be written.
+    pub fn capacity(&self) -> usize {
+        self.capacity.unwrap_or_else(|| panic!("{}: `{}` is called at no capacity", self.file, self.player))
+    }
+}
+
 /// All tables of a folder, by file.
 pub fn tables(folder: &Path) -> Vec<Table> {
     let mut files = Vec::new();

@@ -1,4 +1,4 @@
-//! The tables that are told by the name of their player alone.
+//! What bytes and units are read as, how texts are cut, trimmed and compared, and what a drain gives.
 
 use std::cmp::Ordering;
 
@@ -10,28 +10,15 @@ use arraystring::{ArrayString, CacheString, Drain, MaxString, SmallString};
 use crate::at_capacity;
 use crate::rows::{Table, column, hash_of, parsed, returned, rows};
 
-/// A player: its name, how many rows it plays at least, and what plays a table and returns how many rows it has played.
-type Player = (&'static str, usize, fn(&Table) -> usize);
-
-pub const PLAYERS: &[Player] = &[
-    ("check_comparisons", 4, |table| comparisons(&table.text)),
-    ("check_cuts", 18, |table| cuts(&table.text)),
-    ("check_orders", 6, |table| at_capacity!(table.capacity.unwrap_or(255), orders, &table.text, 63 128 255)),
-    ("check_reading", 18, |table| reading(&table.text)),
-    ("check_trims", 23, |table| trims(&table.text)),
-    ("check_units", 9, |table| units(&table.text)),
-    ("check_walks", 7, |table| walks(&table.text)),
-];
-
 /// How bytes among letters are read. The columns are, in hexadecimal but for the last,
 ///
 ///     first byte | as far as this one | bytes behind it | read
 ///
 /// At each offset of each size stands one of the first bytes in turn, with the bytes behind it. Where these do not fit, std says
 /// how all is read.
-fn reading(table: &str) -> usize {
+pub fn reading(table: &Table) -> usize {
     std::thread::scope(|scope| {
-        let threads: Vec<_> = rows(table).map(|row| scope.spawn(move || reading_of(row))).collect();
+        let threads: Vec<_> = rows(&table.text).map(|row| scope.spawn(move || reading_of(row))).collect();
         threads.into_iter().map(|thread| thread.join().expect("no panic")).sum()
     })
 }
@@ -82,7 +69,11 @@ fn as_in_std(row: &str, bytes: &[u8]) {
 ///     less | greater
 ///
 /// Each pair stands at each index among letters, in texts of each size.
-fn orders<const N: usize>(table: &str) -> usize {
+pub fn orders(table: &Table) -> usize {
+    at_capacity!(table.capacity(), orders_at, &table.text, 63 128 255)
+}
+
+fn orders_at<const N: usize>(table: &str) -> usize {
     let of_row = |row: &&str| {
         let sizes: usize = (0..N).map(|index| order_at::<N>(row, index)).sum();
         let last = N + 1 - column(row, 1).len();
@@ -141,9 +132,9 @@ fn is_less<T: Ord + ?Sized>(row: &str, less: &T, greater: &T) {
 
 /// What units are read as. The columns are units in hexadecimal, and characters and lone surrogates in hexadecimal. After the
 /// last of these nothing is read any more.
-fn units(table: &str) -> usize {
+pub fn units(table: &Table) -> usize {
     let unit = |digits: &str| u16::from_str_radix(digits, 16).expect("a unit");
-    rows(table)
+    rows(&table.text)
         .inspect(|row| {
             let units: Vec<u16> = column(row, 0).split_whitespace().map(unit).collect();
             let mut walk = Units::new(&units);
@@ -157,8 +148,8 @@ fn units(table: &str) -> usize {
 }
 
 /// How texts are cut. The columns are a text, a size, and the text cut to it. The size is a boundary where the cut has it.
-fn cuts(table: &str) -> usize {
-    rows(table)
+pub fn cuts(table: &Table) -> usize {
+    rows(&table.text)
         .inspect(|row| {
             let (text, size, wanted) = (column(row, 0), parsed::<u8>(row, 1), column(row, 2));
             assert_eq!(is_boundary(text, size as usize), wanted.len() == size as usize, "{row}");
@@ -168,8 +159,8 @@ fn cuts(table: &str) -> usize {
 }
 
 /// Walks over texts, from the back where a choice has a bit. The columns are how many choices there are, and the text.
-fn walks(table: &str) -> usize {
-    rows(table)
+pub fn walks(table: &Table) -> usize {
+    rows(&table.text)
         .inspect(|row| {
             let text = column(row, 1);
             for choice in 0..parsed::<u32>(row, 0) {
@@ -191,11 +182,38 @@ fn walks(table: &str) -> usize {
         .count()
 }
 
+/// Asserts what each step over a drain gives. The columns are
+///
+///     text, with what is taken out in `[ ]` | step | result | what is left
+///
+/// With no text, the step is one of the drain that the row above left, and first of a default drain. With no result, it gives
+/// no character.
+pub fn drains(table: &Table) -> usize {
+    at_capacity!(table.capacity(), walked, &table.text)
+}
+
+fn walked<const N: usize>(table: &str) -> usize {
+    let mut drain = Drain::<N>::default();
+    rows(table)
+        .inspect(|row| {
+            if let Some((before, rest)) = column(row, 0).split_once('[') {
+                let (inside, after) = rest.split_once(']').expect("the end of the part");
+                let mut text: ArrayString<N> = [before, inside, after].into_iter().collect();
+                let start = before.len() as u8;
+                drain = text.drain(start..start + inside.len() as u8).expect("the part");
+                assert_eq!(text.as_str(), [before, after].concat(), "{row}");
+            }
+            let answer = if column(row, 1) == "next" { drain.next() } else { drain.next_back() };
+            assert_eq!((answer, drain.as_str()), (column(row, 2).chars().next(), column(row, 3)), "{row}");
+        })
+        .count()
+}
+
 /// Comparisons of drains, of which `[ ]` has in it what is left after a step from each end. The columns are
 ///
 ///     one drain | `cmp` | | the other | order
-fn comparisons(table: &str) -> usize {
-    rows(table)
+pub fn comparisons(table: &Table) -> usize {
+    rows(&table.text)
         .inspect(|row| {
             let (one, other) = (left(column(row, 0)), left(column(row, 3)));
             let order = Ord::cmp(&one, &other);
@@ -227,11 +245,11 @@ fn left(written: &str) -> Drain<8> {
 ///     first character | last character | calls that trim each
 ///
 /// where the characters are in hexadecimal. Each is after `a`, before it, and on both sides.
-fn trims(table: &str) -> usize {
+pub fn trims(table: &Table) -> usize {
     let character = |row: &str, at: usize| {
         char::from_u32(u32::from_str_radix(column(row, at), 16).expect("a number")).expect("a character")
     };
-    rows(table)
+    rows(&table.text)
         .inspect(|row| {
             let calls = column(row, 2);
             for ch in character(row, 0)..=character(row, 1) {

@@ -1,11 +1,10 @@
-//! The tables that are told by their shape, but those of calls: what constructors make, of text and of units, what iterators add,
-//! and steps over a drain.
+//! What constructors make, of text and of units, and what iterators add.
 
 use arraystring::error::OutOfBounds;
-use arraystring::{ArrayString, Drain, Error};
+use arraystring::{ArrayString, Error};
 
 use crate::at_capacity;
-use crate::rows::{column, rows};
+use crate::rows::{Table, column, rows};
 
 /// What was made: the text, or the name of the refusal.
 fn told<const N: usize>(made: Result<ArrayString<N>, Error>) -> String {
@@ -20,8 +19,8 @@ fn next(row: &str, ch: Option<char>, piece: Option<&str>) {
 /// Asserts what each constructor makes of a text. The columns are
 ///
 ///     text | the same in pieces | made whole | cut | next character | next piece
-pub fn made_at(capacity: usize, table: &str) -> usize {
-    at_capacity!(capacity, made, table)
+pub fn constructors(table: &Table) -> usize {
+    at_capacity!(table.capacity(), made, &table.text)
 }
 
 fn made<const N: usize>(table: &str) -> usize {
@@ -68,8 +67,8 @@ fn made<const N: usize>(table: &str) -> usize {
 ///     units in hexadecimal | `try_from_utf16` | `from_utf16` | `from_utf16_lossy`
 ///
 /// where the last three are texts, or the names of refusals.
-pub fn made_of_units_at(capacity: usize, table: &str) -> usize {
-    at_capacity!(capacity, made_of_units, table)
+pub fn texts_of_units(table: &Table) -> usize {
+    at_capacity!(table.capacity(), made_of_units, &table.text)
 }
 
 fn made_of_units<const N: usize>(table: &str) -> usize {
@@ -92,8 +91,8 @@ fn made_of_units<const N: usize>(table: &str) -> usize {
 /// Asserts what is added from iterators that are lent. The columns are
 ///
 ///     text before | characters | pieces | text after | next character | next piece
-pub fn extended_at(capacity: usize, table: &str) -> usize {
-    at_capacity!(capacity, extended, table)
+pub fn extension(table: &Table) -> usize {
+    at_capacity!(table.capacity(), extended, &table.text)
 }
 
 fn extended<const N: usize>(table: &str) -> usize {
@@ -106,33 +105,6 @@ fn extended<const N: usize>(table: &str) -> usize {
             by_pieces.extend(pieces.by_ref());
             assert_eq!((by_chars.as_str(), by_pieces), (column(row, 3), by_chars), "{row}");
             next(row, chars.next(), pieces.next());
-        })
-        .count()
-}
-
-/// Asserts what each step over a drain gives. The columns are
-///
-///     text, with what is taken out in `[ ]` | step | result | what is left
-///
-/// With no text, the step is one of the drain that the row above left, and first of a default drain. With no result, it gives
-/// no character.
-pub fn walked_at(capacity: usize, table: &str) -> usize {
-    at_capacity!(capacity, walked, table)
-}
-
-fn walked<const N: usize>(table: &str) -> usize {
-    let mut drain = Drain::<N>::default();
-    rows(table)
-        .inspect(|row| {
-            if let Some((before, rest)) = column(row, 0).split_once('[') {
-                let (inside, after) = rest.split_once(']').expect("the end of the part");
-                let mut text: ArrayString<N> = [before, inside, after].into_iter().collect();
-                let start = before.len() as u8;
-                drain = text.drain(start..start + inside.len() as u8).expect("the part");
-                assert_eq!(text.as_str(), [before, after].concat(), "{row}");
-            }
-            let answer = if column(row, 1) == "next" { drain.next() } else { drain.next_back() };
-            assert_eq!((answer, drain.as_str()), (column(row, 2).chars().next(), column(row, 3)), "{row}");
         })
         .count()
 }
