@@ -6,7 +6,7 @@ ghost use Rattle.std.specs.Iterator.{IsFiniteIterable};
 ghost use Rattle.arraystring_base.specs.declared.error.Error.TheVariants as error;
 ghost use Rattle.arraystring_base.specs.declared.utf16.Unit16.{Unit16};
 ghost use Rattle.arraystring_base.specs.Text.{size, bytes, cut, IsText, IsWellFormed};
-ghost use Rattle.arraystring_base.specs.Utf16.{IsReading, first_stop, lossy_text};
+ghost use Rattle.arraystring_base.specs.Utf16.{IsReading, first_stop, lossy_text, text_units};
 ghost use Rattle.arraystring_core.specs.Edits.{Makes, from_out_of_bounds, with_text, split};
 ghost use Rattle.arraystring_core.specs.FromUtf16.{GivesWhole, GivesPrefix};
 ghost use Rattle.arraystring_core.specs.Construct.{IsWholeOrRefused};
@@ -209,6 +209,7 @@ impl CacheString {
         ensures too_large { held result ≡ Err error.OutOfBounds → IsWellFormed given.now }
         ensures whole { (t : List ℕ)
             → IsText t → bytes t ≡ given.now → IsWholeOrRefused t 63 (held result) }
+        ensures made { IsOk result ↔ (IsWellFormed given.now × (length given.now ≤ 63)) }
         ensures bytes { IfOk result (λ made. bytes made.0.text ≡ given.now) }
         ensures text { IfOk result (λ made. IsText made.0.text) }
     {
@@ -256,8 +257,9 @@ impl CacheString {
     /// - `Err(Error::Utf16)` if it is a lone surrogate;
     /// - `Err(Error::OutOfBounds)` if it is a character that does not fit.
     pub fn try_from_utf16(units: &[u16]) -> Result<Self, Error>
-        ensures { (items : List Unit16)
+        ensures whole { (items : List Unit16)
             → IsReading units.now items → GivesWhole (first_stop items 63) (held result) }
+        ensures units { IfOk result (λ made. text_units made.0.text ≡ units.now) }
     {
         Ok(CacheString(ArrayString::try_from_utf16(units)?))
     }

@@ -321,6 +321,7 @@ impl CacheString {
     /// ensures too_large { held result ≡ Err error.OutOfBounds → IsWellFormed given.now }
     /// ensures whole { (t : List ℕ)
     ///     → IsText t → bytes t ≡ given.now → IsWholeOrRefused t 63 (held result) }
+    /// ensures made { IsOk result ↔ (IsWellFormed given.now × (length given.now ≤ 63)) }
     /// ensures bytes { IfOk result (λ made. bytes made.0.text ≡ given.now) }
     /// ensures text { IfOk result (λ made. IsText made.0.text) }
     /// ```
@@ -393,8 +394,9 @@ impl CacheString {
     /// <details><summary>Contract</summary>
     ///
     /// ```text
-    /// ensures { (items : List Unit16)
+    /// ensures whole { (items : List Unit16)
     ///     → IsReading units.now items → GivesWhole (first_stop items 63) (held result) }
+    /// ensures units { IfOk result (λ made. text_units made.0.text ≡ units.now) }
     /// ```
     ///
     /// [How to read a contract](crate::contracts)
