@@ -12,9 +12,9 @@ that does not tell them apart, as `Error.Display` and `Error.From.Utf8`. What br
 one that names it, directly or by others.
 
 Every public function that has a body is asked for, each function of a trait's impl that has clauses or ghost members and
-whose type is public, and of a program all functions but `main`; tests, what a trait declares and the crates FOR_TESTS are
-not. Two are asked for where a function decides something, so that its contract has an equivalence or it returns a `bool`: one
-for each direction. None is asked for a function that only calls the one of its name with `_counted`.
+whose type is public, and of a program all functions but `main`; tests, what a trait declares, the crates FOR_TESTS and the
+EXAMPLES are not. Two are asked for where a function decides something, so that its contract has an equivalence or it returns
+a `bool`: one for each direction. None is asked for a function that only calls the one of its name with `_counted`.
 
 So one is asked for where `==` of a public type is by hand and was derived: `rt` wants ghost members there, which say what it
 compares. If it were true of all values, a test that compares by `==` would say nothing.
@@ -33,6 +33,8 @@ from repository import MORE, closed, crates, public_types, read, sources, wrong_
 
 # Only tests call test_support, and memory_tests is one: what is wrong there its own tests and theirs see, or `tools/run refused`.
 FOR_TESTS = {"test_support", "memory_tests"}
+# Callers that pages quote. What a call that they make can do wrong, its own crate shows.
+EXAMPLES = {"arraystring_uses", "bounded_records_uses"}
 # They borrow what they speak of, or call it, so that the prover has the fact. Without that they are as true.
 LAWS_THAT_BORROW = {"text_fits", "text_spelled", "left_fits", "keys_ascend"}
 # What the prover says before the values at which a goal is false; the log cuts it off somewhere behind.
@@ -180,7 +182,7 @@ def main(arguments, root):
         return f"no wrong bodies are in crates/{lacking[0]}/{MORE}" if lacking else more(root, arguments[1:] or have)
     log = read(Path(arguments[0])) if arguments else None
     known = [Crate(root / "crates" / it) for it in crates(root)]
-    asked = [it for it in known if it.folder.name not in FOR_TESTS]
+    asked = [it for it in known if it.folder.name not in FOR_TESTS | EXAMPLES]
     lacking = {f"{crate.folder.name} {name}": count for crate in asked for name, count in crate.lacking()}
     faults = [fault for crate in known for fault in faults_of(crate, log)]
     faults += [f"wrong bodies of {name} that are missing: {count}" for name, count in lacking.items() if count]

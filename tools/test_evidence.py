@@ -30,6 +30,7 @@ fn twice(value: u8) -> u8 {
 ONCE, IS_ONE = "file: src/lib.rt\nold:     value + value\nnew:     value + 0\n", "Number { value: 1 }"
 FOLDER, END = "crates/numbers/must-fail", r"\Z"
 FILE, OTHER, PROGRAM = "crates/numbers/src/lib.rt", "crates/numbers/src/other.rt", "crates/program/src/main.rt"
+UNASKED = ("test_support", "memory_tests", "arraystring_uses", "bounded_records_uses")
 MISSING, NO_NAME = "wrong bodies of {} that are missing: {}\n".format, "numbers {}: no public function has this name\n".format
 SHOWN = """\
 impl {0} for Number {{
@@ -43,13 +44,13 @@ impl {0} for Number {{
 
 class Evidence(TreeTest):
     FILES = {
-        "crates.txt": "# numbers\nnumbers:\nprogram:\ntest_support:\nmemory_tests:\n",
+        "crates.txt": "".join(f"{it}:\n" for it in ("# numbers", "numbers", "program", *UNASKED)),
         FILE: SOURCE,
         "crates/numbers/src/tests.rt": "pub fn tried() {\n    1\n}\n",
         f"{FOLDER}/doubled.is_once.edit": ONCE,
         f"{FOLDER}/default.is_one.edit": f"file: src/lib.rt\nold:         Number {{ value: 0 }}\nnew:         {IS_ONE}\n",
         PROGRAM: "fn main() {\n    1\n}\n",
-        **{f"crates/{it}/src/lib.rt": "pub fn for_tests() {\n    1\n}\n" for it in ("test_support", "memory_tests")},
+        **{f"crates/{it}/src/lib.rt": "pub fn unasked() {\n    1\n}\n" for it in UNASKED},
     }
 
     def renamed(self, name, other):
@@ -86,6 +87,19 @@ class Evidence(TreeTest):
             ("", ("crates/numbers/deep/must-fail/any.edit", ONCE)),
             (NO_NAME("any"), (f"{FOLDER}/any.edit", ONCE)),
         )
+
+    def test_an_example_needs_none_and_one_that_it_has_is_held_as_others_are(self):
+        for crate in ("arraystring_uses", "bounded_records_uses"):
+            edit, text = f"crates/{crate}/must-fail/{{}}.edit".format, "file: src/lib.rt\nold:     1\nnew:     0\n"
+            self.assert_finds(
+                evidence,
+                ("", (edit("unasked.is_zero"), text)),
+                (f"{crate} any: no public function has this name\n", (edit("any"), text)),
+                (f"{crate} unasked.is_zero: src/lib.rt does not have this once:     2", (edit("unasked.is_zero"), text.replace("1", "2"))),
+            )
+            self.write("log", "3 passed, 0 failed\n")
+            lacking = f"{crate} unasked.is_zero: the log does not say that it is refused\n"
+            self.assert_finds(evidence, (lacking, (edit("unasked.is_zero"), text)), words=[str(self.root / "log")])
 
     def test_no_function_is_a_fault(self):
         with self.changed(*((it, None) for it in self.FILES if it.startswith("crates/numbers/"))):

@@ -6,7 +6,7 @@ ghost use Rattle.std.specs.Iterator.{IsFiniteIterable};
 ghost use Rattle.arraystring_base.specs.declared.error.Error.TheVariants as error;
 ghost use Rattle.arraystring_base.specs.declared.utf16.Unit16.{Unit16};
 ghost use Rattle.arraystring_base.specs.Text.{size, bytes, cut, IsText, IsWellFormed};
-ghost use Rattle.arraystring_base.specs.Utf16.{IsReading, first_stop, lossy_text};
+ghost use Rattle.arraystring_base.specs.Utf16.{IsReading, first_stop, lossy_text, text_units};
 ghost use Rattle.arraystring_core.specs.Edits.{Makes, from_out_of_bounds, with_text, split};
 ghost use Rattle.arraystring_core.specs.FromUtf16.{GivesWhole, GivesPrefix};
 ghost use Rattle.arraystring_core.specs.Construct.{IsWholeOrRefused};
@@ -81,11 +81,13 @@ impl CacheString {
     pub fn try_from_iterator<'a, I: IntoIterator<Item = &'a str> + Drop>(
         pieces: I,
     ) -> Result<Self, OutOfBounds>
-        requires { IsFiniteIterable I.into_iter_gives I.IntoIter.can_next I.IntoIter.remaining pieces }
+        requires { IsFiniteIterable I.into_iter_gives I.IntoIter.can_next
+            I.IntoIter.remaining pieces }
         ensures taken { (taken : List (Bor (List ℕ)))
             × Takes I.into_iter_gives I.IntoIter.next_gives joined_pieces pieces 63 taken
             × IsWholeOrRefused (joined_pieces taken) 63 (from_out_of_bounds (held result)) }
-        ensures whole { (all : List (List ℕ)) → Gives I.into_iter_gives I.IntoIter.next_gives piece_text pieces all
+        ensures whole { (all : List (List ℕ))
+            → Gives I.into_iter_gives I.IntoIter.next_gives piece_text pieces all
             → IsWholeOrRefused (joined all) 63 (from_out_of_bounds (held result)) }
     {
         Ok(CacheString(ArrayString::try_from_iterator(pieces)?))
@@ -98,11 +100,13 @@ impl CacheString {
     ///
     /// The iterator must end, and until then the precondition of its `next` must hold.
     pub fn from_iterator<'a, I: IntoIterator<Item = &'a str> + Drop>(pieces: I) -> Self
-        requires { IsFiniteIterable I.into_iter_gives I.IntoIter.can_next I.IntoIter.remaining pieces }
+        requires { IsFiniteIterable I.into_iter_gives I.IntoIter.can_next
+            I.IntoIter.remaining pieces }
         ensures taken { (taken : List (Bor (List ℕ)))
             × Takes I.into_iter_gives I.IntoIter.next_gives joined_pieces pieces 63 taken
             × (result.0.text ≡ cut (joined_pieces taken) 63) }
-        ensures whole { (all : List (List ℕ)) → Gives I.into_iter_gives I.IntoIter.next_gives piece_text pieces all
+        ensures whole { (all : List (List ℕ))
+            → Gives I.into_iter_gives I.IntoIter.next_gives piece_text pieces all
             → result.0.text ≡ cut (joined all) 63 }
     {
         CacheString(ArrayString::from_iterator(pieces))
@@ -115,11 +119,14 @@ impl CacheString {
     /// All pieces that the iterator returns must fit together. The iterator must end, and until then
     /// the precondition of its `next` must hold.
     pub fn from_iterator_unchecked<'a, I: IntoIterator<Item = &'a str> + Drop>(pieces: I) -> Self
-        requires ends { IsFiniteIterable I.into_iter_gives I.IntoIter.can_next I.IntoIter.remaining pieces }
+        requires ends { IsFiniteIterable I.into_iter_gives I.IntoIter.can_next
+            I.IntoIter.remaining pieces }
         requires fits { Fits I.into_iter_gives I.IntoIter.next_gives joined_pieces pieces 63 }
-        ensures taken { (taken : List (Bor (List ℕ))) × TakesAll I.into_iter_gives I.IntoIter.next_gives pieces taken
+        ensures taken { (taken : List (Bor (List ℕ)))
+            × TakesAll I.into_iter_gives I.IntoIter.next_gives pieces taken
             × (result.0.text ≡ joined_pieces taken) }
-        ensures whole { (all : List (List ℕ)) → Gives I.into_iter_gives I.IntoIter.next_gives piece_text pieces all
+        ensures whole { (all : List (List ℕ))
+            → Gives I.into_iter_gives I.IntoIter.next_gives piece_text pieces all
             → result.0.text ≡ joined all }
     {
         CacheString(ArrayString::from_iterator_unchecked(pieces))
@@ -137,10 +144,13 @@ impl CacheString {
     pub fn try_from_chars<I: IntoIterator<Item = char> + Drop>(
         characters: I,
     ) -> Result<Self, OutOfBounds>
-        requires { IsFiniteIterable I.into_iter_gives I.IntoIter.can_next I.IntoIter.remaining characters }
-        ensures taken { (taken : List ℕ) × Takes I.into_iter_gives I.IntoIter.next_gives (λ cs. cs) characters 63 taken
+        requires { IsFiniteIterable I.into_iter_gives I.IntoIter.can_next
+            I.IntoIter.remaining characters }
+        ensures taken { (taken : List ℕ)
+            × Takes I.into_iter_gives I.IntoIter.next_gives (λ cs. cs) characters 63 taken
             × IsWholeOrRefused taken 63 (from_out_of_bounds (held result)) }
-        ensures whole { (all : List ℕ) → Gives I.into_iter_gives I.IntoIter.next_gives (λ c. c) characters all
+        ensures whole { (all : List ℕ)
+            → Gives I.into_iter_gives I.IntoIter.next_gives (λ c. c) characters all
             → IsWholeOrRefused all 63 (from_out_of_bounds (held result)) }
     {
         Ok(CacheString(ArrayString::try_from_chars(characters)?))
@@ -153,10 +163,13 @@ impl CacheString {
     ///
     /// The iterator must end, and until then the precondition of its `next` must hold.
     pub fn from_chars<I: IntoIterator<Item = char> + Drop>(characters: I) -> Self
-        requires { IsFiniteIterable I.into_iter_gives I.IntoIter.can_next I.IntoIter.remaining characters }
-        ensures taken { (taken : List ℕ) × Takes I.into_iter_gives I.IntoIter.next_gives (λ cs. cs) characters 63 taken
+        requires { IsFiniteIterable I.into_iter_gives I.IntoIter.can_next
+            I.IntoIter.remaining characters }
+        ensures taken { (taken : List ℕ)
+            × Takes I.into_iter_gives I.IntoIter.next_gives (λ cs. cs) characters 63 taken
             × (result.0.text ≡ cut taken 63) }
-        ensures whole { (all : List ℕ) → Gives I.into_iter_gives I.IntoIter.next_gives (λ c. c) characters all
+        ensures whole { (all : List ℕ)
+            → Gives I.into_iter_gives I.IntoIter.next_gives (λ c. c) characters all
             → result.0.text ≡ cut all 63 }
     {
         CacheString(ArrayString::from_chars(characters))
@@ -169,11 +182,14 @@ impl CacheString {
     /// The characters that the iterator returns must fit. The iterator must end, and until then the
     /// precondition of its `next` must hold.
     pub fn from_chars_unchecked<I: IntoIterator<Item = char> + Drop>(characters: I) -> Self
-        requires ends { IsFiniteIterable I.into_iter_gives I.IntoIter.can_next I.IntoIter.remaining characters }
+        requires ends { IsFiniteIterable I.into_iter_gives I.IntoIter.can_next
+            I.IntoIter.remaining characters }
         requires fits { Fits I.into_iter_gives I.IntoIter.next_gives (λ cs. cs) characters 63 }
-        ensures taken { (taken : List ℕ) × TakesAll I.into_iter_gives I.IntoIter.next_gives characters taken
+        ensures taken { (taken : List ℕ)
+            × TakesAll I.into_iter_gives I.IntoIter.next_gives characters taken
             × (result.0.text ≡ taken) }
-        ensures whole { (all : List ℕ) → Gives I.into_iter_gives I.IntoIter.next_gives (λ c. c) characters all
+        ensures whole { (all : List ℕ)
+            → Gives I.into_iter_gives I.IntoIter.next_gives (λ c. c) characters all
             → result.0.text ≡ all }
     {
         CacheString(ArrayString::from_chars_unchecked(characters))
@@ -191,7 +207,9 @@ impl CacheString {
     pub fn try_from_utf8(given: &[u8]) -> Result<Self, Error>
         ensures malformed { ¬ (IsWellFormed given.now) → held result ≡ Err error.Utf8 }
         ensures too_large { held result ≡ Err error.OutOfBounds → IsWellFormed given.now }
-        ensures whole { (t : List ℕ) → IsText t → bytes t ≡ given.now → IsWholeOrRefused t 63 (held result) }
+        ensures whole { (t : List ℕ)
+            → IsText t → bytes t ≡ given.now → IsWholeOrRefused t 63 (held result) }
+        ensures made { IsOk result ↔ (IsWellFormed given.now × (length given.now ≤ 63)) }
         ensures bytes { IfOk result (λ made. bytes made.0.text ≡ given.now) }
         ensures text { IfOk result (λ made. IsText made.0.text) }
     {
@@ -207,7 +225,8 @@ impl CacheString {
     /// 3.9), even if only bytes that would be cut off are malformed.
     pub fn from_utf8(given: &[u8]) -> Result<Self, Utf8>
         ensures well_formed { IsOk result ↔ IsWellFormed given.now }
-        ensures cut { (t : List ℕ) → IsText t → bytes t ≡ given.now → IfOk result (λ made. made.0.text ≡ cut t 63) }
+        ensures cut { (t : List ℕ)
+            → IsText t → bytes t ≡ given.now → IfOk result (λ made. made.0.text ≡ cut t 63) }
         ensures text { IfOk result (λ made. IsText made.0.text) }
     {
         Ok(CacheString(ArrayString::from_utf8(given)?))
@@ -238,7 +257,9 @@ impl CacheString {
     /// - `Err(Error::Utf16)` if it is a lone surrogate;
     /// - `Err(Error::OutOfBounds)` if it is a character that does not fit.
     pub fn try_from_utf16(units: &[u16]) -> Result<Self, Error>
-        ensures { (items : List Unit16) → IsReading units.now items → GivesWhole (first_stop items 63) (held result) }
+        ensures whole { (items : List Unit16)
+            → IsReading units.now items → GivesWhole (first_stop items 63) (held result) }
+        ensures units { IfOk result (λ made. text_units made.0.text ≡ units.now) }
     {
         Ok(CacheString(ArrayString::try_from_utf16(units)?))
     }
@@ -252,7 +273,8 @@ impl CacheString {
     /// Returns `Err(Utf16)` if a lone surrogate comes right after that prefix, even if the string
     /// is full.
     pub fn from_utf16(units: &[u16]) -> Result<Self, Utf16>
-        ensures { (items : List Unit16) → IsReading units.now items → GivesPrefix (first_stop items 63) (held result) }
+        ensures { (items : List Unit16)
+            → IsReading units.now items → GivesPrefix (first_stop items 63) (held result) }
     {
         Ok(CacheString(ArrayString::from_utf16(units)?))
     }
@@ -260,7 +282,8 @@ impl CacheString {
     /// Creates a string from the longest prefix of the characters of `units` that fits. Each lone
     /// surrogate is read as U+FFFD, which takes three bytes.
     pub fn from_utf16_lossy(units: &[u16]) -> Self
-        ensures { (items : List Unit16) → IsReading units.now items → result.0.text ≡ cut (lossy_text items) 63 }
+        ensures { (items : List Unit16)
+            → IsReading units.now items → result.0.text ≡ cut (lossy_text items) 63 }
     {
         CacheString(ArrayString::from_utf16_lossy(units))
     }
@@ -275,7 +298,8 @@ impl CacheString {
     /// - `Err(Error::OutOfBounds)` if `at` is past the text;
     /// - `Err(Error::Utf8)` if `at` is inside a character.
     pub fn split_off(&mut self, at: u8) -> Result<Self, Error>
-        ensures { Makes (split self.old.0.text at) self.old.0.text (with_text (held result)) self.new.0.text }
+        ensures { Makes (split self.old.0.text at) self.old.0.text
+            (with_text (held result)) self.new.0.text }
     {
         Ok(CacheString(self.0.split_off(at)?))
     }

@@ -17,8 +17,10 @@ impl CacheString {
     /// Returns `Err(AllocError)` if memory runs out.
     pub fn to_value(&self, alloc: Global) -> Result<Value, AllocError>
         ensures text { IfOk result (λ value. view value ≡ json_text self.now.0.text) }
-        ensures reads_back { IfOk result (λ value. text_within (view value) 63 ≡ Some self.now.0.text) }
-        ensures reads_whole { IfOk result (λ value. whole_text (view value) ≡ Some self.now.0.text) }
+        ensures reads_back { IfOk result
+            (λ value. text_within (view value) 63 ≡ Some self.now.0.text) }
+        ensures reads_whole { IfOk result
+            (λ value. whole_text (view value) ≡ Some self.now.0.text) }
     {
         self.0.to_value(alloc)
     }
@@ -31,7 +33,8 @@ impl CacheString {
     /// Returns `Err(NotText)` if `value` is no JSON string: null, a boolean, a number, an array or
     /// an object.
     pub fn from_value(value: &Value) -> Result<Self, NotText>
-        ensures { MatchResult result (λ string. text_within (view value.now) 63 ≡ Some string.0.text)
+        ensures { MatchResult result
+            (λ string. text_within (view value.now) 63 ≡ Some string.0.text)
             (λ _. text_within (view value.now) 63 ≡ None) }
     {
         Ok(CacheString(ArrayString::from_value(value)?))
@@ -48,7 +51,8 @@ impl CacheString {
     /// - `Err(ValueError::OutOfBounds)` if the JSON string is larger than 63 bytes.
     pub fn try_from_value(value: &Value) -> Result<Self, ValueError>
         ensures text { IfOk result (λ string. whole_text (view value.now) ≡ Some string.0.text) }
-        ensures refusal { IfErr result (λ error. IsWhyRefused (whole_text (view value.now)) 63 error) }
+        ensures refusal { IfErr result
+            (λ error. IsWhyRefused (whole_text (view value.now)) 63 error) }
     {
         Ok(CacheString(ArrayString::try_from_value(value)?))
     }

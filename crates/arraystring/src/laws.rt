@@ -27,7 +27,8 @@ use std::collections::BTreeMap;
 ///
 /// `last` must be what `text.chars().next_back()` returned.
 pub fn last_given(text: &str, last: Option<char>)
-    requires { (from : Chars) × (left : Chars) × (chars_rest from ≡ text.now) × chars_steps_back from last left }
+    requires { (from : Chars) × (left : Chars)
+        × (chars_rest from ≡ text.now) × chars_steps_back from last left }
     ensures { MatchOption last (chars text.now ≡ [])
         (λ c. chars text.now ≡ all_but_last (chars text.now) ++ c ∷ []) }
 {}

@@ -29,7 +29,8 @@ pub fn cut_of_cut()
 /// `i` is a boundary of a text if and only if one of its prefixes has size `i`.
 #[tactic(auto, using(crate::proofs::BoundaryLaws::boundary_prefix))]
 pub fn boundaries()
-    ensures { (t : List ℕ) (i : ℕ) → IsTrue (boundary t i) ↔ ((p : List ℕ) × IsPrefix p t × (size p ≡ i)) }
+    ensures { (t : List ℕ) (i : ℕ)
+        → IsTrue (boundary t i) ↔ ((p : List ℕ) × IsPrefix p t × (size p ≡ i)) }
 {}
 
 /// An index splits a text into the part before it and the part from it on. Joined, they are the text. If
@@ -71,7 +72,8 @@ pub fn order_of_bytes()
     ensures same { (a b : List ℕ) → slice_cmp nat_cmp (bytes a) (bytes b) ≡ slice_cmp nat_cmp a b }
     ensures less { (a b : List ℕ) → (slice_cmp nat_cmp (bytes a) (bytes b) ≡ Less) ↔ IsBefore a b }
     ensures equal { (a b : List ℕ) → (slice_cmp nat_cmp (bytes a) (bytes b) ≡ Equal) ↔ (a ≡ b) }
-    ensures greater { (a b : List ℕ) → (slice_cmp nat_cmp (bytes a) (bytes b) ≡ Greater) ↔ IsBefore b a }
+    ensures greater { (a b : List ℕ)
+        → (slice_cmp nat_cmp (bytes a) (bytes b) ≡ Greater) ↔ IsBefore b a }
 {}
 
 /// If two texts differ, one comes before the other. If `a` comes before `b` and `b` before `c`, `a`
@@ -90,14 +92,16 @@ pub fn only_reading(units: &[u16])
 
 /// The UTF-16 of a text is read as its characters, and as nothing else.
 pub fn text_reading()
-    ensures { (t : List ℕ) (items : List Unit16) → IsText t → (IsReading (text_units t) items) ↔ (items ≡ map Char t) }
+    ensures { (t : List ℕ) (items : List Unit16)
+        → IsText t → (IsReading (text_units t) items) ↔ (items ≡ map Char t) }
 {}
 
 /// Take the longest prefix of characters of the items that takes at most `n` bytes, and what comes right
 /// after it: that is the first stop of the items at `n` bytes, and no other is.
 #[tactic(auto, using(crate::proofs::Utf16Laws::first_stop_is))]
 pub fn one_stop()
-    ensures { (items : List Unit16) (n : ℕ) (stop : Stop) → (StopsAt items n stop) ↔ (first_stop items n ≡ stop) }
+    ensures { (items : List Unit16) (n : ℕ) (stop : Stop)
+        → (StopsAt items n stop) ↔ (first_stop items n ≡ stop) }
 {}
 
 /// `str::find` returns the boundary at which a character first stands. If it returns `None`, the character
@@ -108,7 +112,8 @@ pub fn one_stop()
 /// `place` must be what `text.find(c)` returned.
 #[tactic(auto, using(crate::proofs::FindLaws::find_first))]
 pub fn found_first(text: &str, c: char, place: Option<usize>)
-    requires { MatchOption place (FindsChar c text.now None) (MatchBeginsAt (FindsChar c) text.now) }
+    requires { MatchOption place (FindsChar c text.now None)
+        (MatchBeginsAt (FindsChar c) text.now) }
     ensures { MatchOption place
         (position_or_len (λ d. d == c) (chars text.now) ≡ length (chars text.now))
         (λ i. (i < size (chars text.now))

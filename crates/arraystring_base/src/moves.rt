@@ -29,7 +29,8 @@ pub fn shift<const N: usize>(
     requires source { from + len ≤ N }
     requires target { to + len ≤ N }
     requires countable { steps.old.moved + len < 2 ^ 64 }
-    ensures bytes { array.new ≡ take to array.old ++ (take len (drop from array.old) ++ drop (to + len) array.old) }
+    ensures bytes { array.new
+        ≡ take to array.old ++ (take len (drop from array.old) ++ drop (to + len) array.old) }
     ensures moved { steps.new.moved ≡ steps.old.moved + (if from == to then 0 else len) }
     ensures looked { steps.new.looked ≡ steps.old.looked }
 {
@@ -44,7 +45,8 @@ pub fn shift<const N: usize>(
 fn move_run<const N: usize>(array: &mut [u8; N], from: usize, to: usize, len: usize)
     requires source { from + len ≤ N }
     requires target { to + len ≤ N }
-    ensures { array.new ≡ take to array.old ++ (take len (drop from array.old) ++ drop (to + len) array.old) }
+    ensures { array.new
+        ≡ take to array.old ++ (take len (drop from array.old) ++ drop (to + len) array.old) }
 {
     let all = &mut array[..];
     if N < 16 || len < 16 {
@@ -63,7 +65,8 @@ fn move_long_run<const N: usize>(all: &mut [u8], from: usize, to: usize, len: us
     requires target { to + len ≤ length all.old }
     requires most { len ≤ N }
     requires long { 32 < len }
-    ensures { all.new ≡ take to all.old ++ (take len (drop from all.old) ++ drop (to + len) all.old) }
+    ensures { all.new
+        ≡ take to all.old ++ (take len (drop from all.old) ++ drop (to + len) all.old) }
 {
     if N <= 64 || len <= 64 {
         move_ends::<32>(all, from, to, len);
@@ -83,7 +86,8 @@ fn move_short_run<const N: usize>(all: &mut [u8], from: usize, to: usize, len: u
     requires target { to + len ≤ length all.old }
     requires most { len ≤ N }
     requires short { len < 16 }
-    ensures { all.new ≡ take to all.old ++ (take len (drop from all.old) ++ drop (to + len) all.old) }
+    ensures { all.new
+        ≡ take to all.old ++ (take len (drop from all.old) ++ drop (to + len) all.old) }
 {
     if N >= 4 && len >= 4 {
         if N >= 8 && len >= 8 {
@@ -105,7 +109,8 @@ fn move_ends<const K: usize>(all: &mut [u8], from: usize, to: usize, len: usize)
     requires target { to + len ≤ length all.old }
     requires least { K ≤ len }
     requires most { len - K ≤ K }
-    ensures { all.new ≡ take to all.old ++ (take len (drop from all.old) ++ drop (to + len) all.old) }
+    ensures { all.new
+        ≡ take to all.old ++ (take len (drop from all.old) ++ drop (to + len) all.old) }
 {
     let rest = len - K;
     let first = bytes_of::<K>(all, from);
@@ -121,7 +126,8 @@ fn move_pairs<const K: usize>(all: &mut [u8], from: usize, to: usize, len: usize
     requires target { to + len ≤ length all.old }
     requires least { K + K ≤ len }
     requires most { len - (K + K) ≤ K + K }
-    ensures { all.new ≡ take to all.old ++ (take len (drop from all.old) ++ drop (to + len) all.old) }
+    ensures { all.new
+        ≡ take to all.old ++ (take len (drop from all.old) ++ drop (to + len) all.old) }
 {
     let rest = len - (K + K);
     let front = bytes_of::<K>(all, from);
@@ -140,7 +146,8 @@ fn move_pairs<const K: usize>(all: &mut [u8], from: usize, to: usize, len: usize
 #[inline(always)]
 pub fn write_over<const N: usize>(array: &mut [u8; N], at: usize, given: &[u8])
     requires { at + length given.now ≤ N }
-    ensures { array.new ≡ take at array.old ++ (given.now ++ drop (at + length given.now) array.old) }
+    ensures { array.new
+        ≡ take at array.old ++ (given.now ++ drop (at + length given.now) array.old) }
 {
     let all = &mut array[..];
     if N < 16 || given.len() < 16 {
@@ -220,7 +227,8 @@ fn put_bytes<const K: usize>(all: &mut [u8], at: usize, bytes: Simd<u8, K>)
 #[inline(always)]
 fn put_pair<const K: usize>(all: &mut [u8], at: usize, first: Simd<u8, K>, second: Simd<u8, K>)
     requires { at + (K + K) ≤ length all.old }
-    ensures { all.new ≡ take at all.old ++ ((first.entry ++ second.entry) ++ drop (at + (K + K)) all.old) }
+    ensures { all.new
+        ≡ take at all.old ++ ((first.entry ++ second.entry) ++ drop (at + (K + K)) all.old) }
 {
     put_bytes(all, at, first);
     put_bytes(all, at + K, second);

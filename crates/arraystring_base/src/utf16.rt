@@ -77,7 +77,8 @@ impl<'a> FusedIterator for Units<'a> {}
 fn pair(high: u16, rest: &[u16]) -> Option<(char, &[u16])>
     ensures some { IfSome result (λ p. (low : ℕ)
         × IsHigh high × IsLow low × (p.0 ≡ pair_character high low) × (rest.now ≡ low ∷ p.1.now)) }
-    ensures none { IfNone result ((low : ℕ) (more : List ℕ) → rest.now ≡ low ∷ more → IsHigh high → IsLow low → ⊥) }
+    ensures none { IfNone result ((low : ℕ) (more : List ℕ)
+        → rest.now ≡ low ∷ more → IsHigh high → IsLow low → ⊥) }
 {
     if !is_high(high) {
         return None;

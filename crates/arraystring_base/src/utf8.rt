@@ -131,7 +131,8 @@ pub fn first_char(text: &str) -> (char, usize)
 #[tactic(auto, using(crate::proofs::LastLemmas::chars_empty))]
 pub fn last_char(text: &str, steps: &mut Steps) -> Option<(usize, char)>
     requires { steps.old.looked + 4 < 2 ^ 64 }
-    ensures some { IfSome result (λ last. (front : List ℕ) × (chars text.now ≡ front ++ last.1 ∷ []) × (size front ≡ last.0)) }
+    ensures some { IfSome result (λ last. (front : List ℕ)
+        × (chars text.now ≡ front ++ last.1 ∷ []) × (size front ≡ last.0)) }
     ensures none { IfNone result (chars text.now ≡ []) }
     ensures looked { steps.new.looked ≤ steps.old.looked + 4 }
     ensures least { IfSome result (λ _. steps.old.looked < steps.new.looked) }
@@ -150,7 +151,8 @@ pub fn last_char(text: &str, steps: &mut Steps) -> Option<(usize, char)>
 fn char_before_end(text: &str, steps: &mut Steps) -> (usize, char)
     requires some { 0 < length text.now }
     requires countable { steps.old.looked + 4 < 2 ^ 64 }
-    ensures last { (front : List ℕ) × (chars text.now ≡ front ++ result.1 ∷ []) × (size front ≡ result.0) }
+    ensures last { (front : List ℕ)
+        × (chars text.now ≡ front ++ result.1 ∷ []) × (size front ≡ result.0) }
     ensures looked { steps.new.looked ≤ steps.old.looked + 4 }
     ensures least { steps.old.looked < steps.new.looked }
     ensures each { steps.new.looked + result.0 ≡ steps.old.looked + length text.now }

@@ -108,7 +108,8 @@ impl<const N: usize> Model for ArrayString<N> {
 
     ghost invariant = { λ s. IsStored N s.array s.start s.size };
 
-    ghost inverse = { λ v. record { array = array_of v; start = start_of v; size = text_size v.text } };
+    ghost inverse = { λ v.
+        record { array = array_of v; start = start_of v; size = text_size v.text } };
 
     ghost inverse_ok = { λ s h i. record {
       array = stored-all h i;

@@ -38,7 +38,8 @@ impl<E: Env> Arguments for E {
 /// The contract speaks of what `arguments` returns (`gives`). No contract says what an `Env` returns. So
 /// only tests show that the word is the argument of the program.
 pub fn given_word<A: Arguments>(arguments: &A) -> Option<MaxString>
-    ensures { (count : Result ℕ Fault) × (first : List ℕ) × (second : Result ℕ Fault) × (rest : List ℕ)
+    ensures { (count : Result ℕ Fault) × (first : List ℕ)
+        × (second : Result ℕ Fault) × (rest : List ℕ)
         × A.gives arguments.now 1 count first × A.gives arguments.now 2 second rest
         × IsOnlyWord count first second result }
 {

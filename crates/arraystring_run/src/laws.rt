@@ -19,10 +19,12 @@ pub fn first_tight_position()
 /// are the same if a last line that is not empty lacks its line feed. Each input has one of these two forms.
 pub fn lines_of_input()
     ensures all_ended { (all : List (List ℕ)) → AreOneLine all → lines (joined_lines all) ≡ all }
-    ensures last_open { (all : List (List ℕ)) (last : List ℕ) → AreOneLine all → IsOneLine last → 0 < length last
+    ensures last_open { (all : List (List ℕ)) (last : List ℕ)
+        → AreOneLine all → IsOneLine last → 0 < length last
         → lines (joined_lines all ++ last) ≡ all ++ last ∷ [] }
     ensures no_ends { (input : List ℕ) → AreOneLine (lines input) }
-    ensures input { (input : List ℕ) → (joined_lines (lines input) ≡ input) ⊎ (joined_lines (lines input) ≡ with_newline input) }
+    ensures input { (input : List ℕ)
+        → (joined_lines (lines input) ≡ input) ⊎ (joined_lines (lines input) ≡ with_newline input) }
 {}
 
 /// Each command has a line: its word and its arguments, with numbers as they are printed. If no
@@ -41,6 +43,7 @@ pub fn one_reading()
 
 /// A script that has a bad line is not the lines of any commands. It has only one first bad line.
 pub fn one_bad_line()
-    ensures refused { (all : List (List ℕ)) (cs : List Command) (k : ℕ) → IsBadAt all k → AreLinesOf all cs → ⊥ }
+    ensures refused { (all : List (List ℕ)) (cs : List Command) (k : ℕ)
+        → IsBadAt all k → AreLinesOf all cs → ⊥ }
     ensures first { (all : List (List ℕ)) (j k : ℕ) → IsBadAt all j → IsBadAt all k → j ≡ k }
 {}

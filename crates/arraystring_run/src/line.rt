@@ -31,7 +31,8 @@ pub(crate) fn command_of_text(text: &str) -> Option<Command<'_>>
 
 /// What is before the first space, and what is after it.
 fn split_at_space(text: &str) -> Option<(&str, &str)>
-    ensures some { IfSome result (λ parts. (text.now ≡ parts.0.now ++ space ∷ parts.1.now) × IsOneWord parts.0.now) }
+    ensures some { IfSome result
+        (λ parts. (text.now ≡ parts.0.now ++ space ∷ parts.1.now) × IsOneWord parts.0.now) }
     ensures none { IfNone result (IsOneWord text.now) }
 {
     let end = find_byte(b' ', text.as_bytes());
@@ -83,7 +84,8 @@ fn command_given<'a>(word: &str, rest: &'a str) -> Option<Command<'a>>
 fn command_given_more<'a>(word: &str, rest: &'a str) -> Option<Command<'a>>
     requires { IsOneWord word.now }
     ensures some { IfSome result (λ c. IsLineOf (word.now ++ space ∷ rest.now) c) }
-    ensures none { IfNone result ((c : Command) → 2 ≤ length (arguments c) → IsLineOf (word.now ++ space ∷ rest.now) c → ⊥) }
+    ensures none { IfNone result ((c : Command)
+        → 2 ≤ length (arguments c) → IsLineOf (word.now ++ space ∷ rest.now) c → ⊥) }
 {
     let (start, rest) = number_before(rest)?;
     match word {
@@ -100,8 +102,10 @@ fn command_given_more<'a>(word: &str, rest: &'a str) -> Option<Command<'a>>
 
 /// The command of a word that takes the ends of a range and no more.
 fn command_of_range(word: &str, start: u8, end: u8) -> Option<Command<'static>>
-    ensures some { IfSome result (λ c. (word.now ≡ word_of c) × (arguments c ≡ Number start ∷ Number end ∷ [])) }
-    ensures none { IfNone result ((c : Command) (m n : ℕ) → word.now ≡ word_of c → arguments c ≡ Number m ∷ Number n ∷ [] → ⊥) }
+    ensures some { IfSome result
+        (λ c. (word.now ≡ word_of c) × (arguments c ≡ Number start ∷ Number end ∷ [])) }
+    ensures none { IfNone result ((c : Command) (m n : ℕ)
+        → word.now ≡ word_of c → arguments c ≡ Number m ∷ Number n ∷ [] → ⊥) }
 {
     match word {
         "drain" => Some(Command::Drain { start, end }),

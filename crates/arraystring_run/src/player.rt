@@ -62,7 +62,8 @@ pub fn play<const N: usize, I: Read, O: Write>(
 ) -> Result<(), PlayFault>
     ensures played { OnOk result (IfSome (I.remaining input.old)
         (λ given. IsPlayed given (cap N) (O.contents output.old) (O.contents output.new))) }
-    ensures bad_line { IfErr result (λ e. IfBadLine e (λ k. IfSome (I.remaining input.old) (λ given. IsBadAt (lines given) k))) }
+    ensures bad_line { IfErr result (λ e. IfBadLine e
+        (λ k. IfSome (I.remaining input.old) (λ given. IsBadAt (lines given) k))) }
     ensures unwritten { IfErr result (λ e. e ≢ PlayFault.Write → output.new ≡ output.old) }
     ensures part_played { IfErr result (λ e. e ≡ PlayFault.Write → IfSome (I.remaining input.old)
         (λ given. IsPartPlayed given (cap N) (O.contents output.old) (O.contents output.new))) }
@@ -81,9 +82,12 @@ fn play_commands<const N: usize, O: Write>(
     commands: &[Command<'_>],
     output: &mut O,
 ) -> Result<(), PlayFault>
-    ensures whole { OnOk result (Appends (O.contents output.old) (O.contents output.new) (run_printed commands.now (cap N))) }
+    ensures whole { OnOk result
+        (Appends (O.contents output.old) (O.contents output.new)
+        (run_printed commands.now (cap N))) }
     ensures part { IfErr result (λ e. e ≡ PlayFault.Write
-        → AppendsPrefix (O.contents output.old) (O.contents output.new) (run_printed commands.now (cap N))) }
+        → AppendsPrefix (O.contents output.old) (O.contents output.new)
+        (run_printed commands.now (cap N))) }
     ensures unwritten { IfErr result (λ e. e ≢ PlayFault.Write → output.new ≡ output.old) }
     ensures no_line { IfErr result (λ e. IfBadLine e (λ _. ⊥)) }
 {

@@ -24,7 +24,8 @@ pub(crate) fn write_all_replies<const N: usize, O: Write>(
     last: &ArrayString<N>,
 ) -> io::Result<()>
     ensures whole { OnOk result
-        (Appends (O.contents output.old) (O.contents output.new) (all_printed (map view_of replies.now) last.now.text)) }
+        (Appends (O.contents output.old) (O.contents output.new)
+        (all_printed (map view_of replies.now) last.now.text)) }
     ensures part { AppendsPrefix (O.contents output.old) (O.contents output.new)
         (all_printed (map view_of replies.now) last.now.text) }
 {
@@ -43,7 +44,8 @@ fn put_reply<const N: usize, O: Write>(
     output: &mut O,
     reply: &Reply<N>,
 ) -> io::Result<()>
-    ensures whole { OnOk result (IsPassed (O.contents output.old) (O.contents output.new) waiting.old waiting.new
+    ensures whole { OnOk result
+        (IsPassed (O.contents output.old) (O.contents output.new) waiting.old waiting.new
         (with_newline (printed (view_of reply.now)))) }
     ensures part { AppendsPrefix (O.contents output.old) (O.contents output.new)
         (waiting.old ++ with_newline (printed (view_of reply.now))) }
@@ -67,9 +69,11 @@ fn put_line_of<D: Display + Drop, O: Write>(
     value: D,
 ) -> io::Result<()>
     ensures whole { OnOk result (IfSome (D.output value)
-        (λ bs. IsPassed (O.contents output.old) (O.contents output.new) waiting.old waiting.new (with_newline (word.now ++ bs)))) }
+        (λ bs. IsPassed (O.contents output.old) (O.contents output.new) waiting.old waiting.new
+        (with_newline (word.now ++ bs)))) }
     ensures part { IfSome (D.output value)
-        (λ bs. AppendsPrefix (O.contents output.old) (O.contents output.new) (waiting.old ++ with_newline (word.now ++ bs))) }
+        (λ bs. AppendsPrefix (O.contents output.old) (O.contents output.new)
+        (waiting.old ++ with_newline (word.now ++ bs))) }
 {
     let line = line_of(word, value)?;
     waiting.put(output, line.as_str())
@@ -82,9 +86,11 @@ pub(crate) fn write_line_of<D: Display + Drop, O: Write>(
     value: D,
 ) -> io::Result<()>
     ensures whole { OnOk result (IfSome (D.output value)
-        (λ bs. Appends (O.contents output.old) (O.contents output.new) (with_newline (word.now ++ bs)))) }
+        (λ bs. Appends (O.contents output.old) (O.contents output.new)
+        (with_newline (word.now ++ bs)))) }
     ensures part { IfSome (D.output value)
-        (λ bs. AppendsPrefix (O.contents output.old) (O.contents output.new) (with_newline (word.now ++ bs))) }
+        (λ bs. AppendsPrefix (O.contents output.old) (O.contents output.new)
+        (with_newline (word.now ++ bs))) }
 {
     let line = line_of(word, value)?;
     write_text(output, line.as_str())
@@ -93,7 +99,8 @@ pub(crate) fn write_line_of<D: Display + Drop, O: Write>(
 /// Returns the line of a word and a short value. There is room for `bad line `, the 20 digits of a `usize`
 /// and a line feed.
 fn line_of<D: Display + Drop>(word: &str, value: D) -> Result<ArrayString<30>, fmt::Error>
-    ensures { IfOk result (λ line. IfSome (D.output value) (λ bs. bytes line.text ≡ with_newline (word.now ++ bs))) }
+    ensures { IfOk result (λ line. IfSome (D.output value)
+        (λ bs. bytes line.text ≡ with_newline (word.now ++ bs))) }
 {
     let mut line = ArrayString::<30>::new();
     writeln!(line, "{word}{value}")?;
@@ -108,7 +115,8 @@ fn put_text_line<O: Write>(
     word: &str,
     text: &str,
 ) -> io::Result<()>
-    ensures whole { OnOk result (IsPassed (O.contents output.old) (O.contents output.new) waiting.old waiting.new
+    ensures whole { OnOk result
+        (IsPassed (O.contents output.old) (O.contents output.new) waiting.old waiting.new
         (with_newline (word.now ++ text.now))) }
     ensures part { AppendsPrefix (O.contents output.old) (O.contents output.new)
         (waiting.old ++ with_newline (word.now ++ text.now)) }

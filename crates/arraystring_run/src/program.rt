@@ -48,7 +48,8 @@ pub fn serve<I: Read, O: Write, E: Write>(
     output: &mut O,
     errors: &mut E,
 ) -> u8
-    ensures { IsServed word.entry (I.remaining input.old) (O.contents output.old) (O.contents output.new)
+    ensures { IsServed word.entry (I.remaining input.old)
+        (O.contents output.old) (O.contents output.new)
         (E.contents errors.old) (E.contents errors.new)
         (input.new ≡ input.old) (output.new ≡ output.old) (errors.new ≡ errors.old) result }
 {
@@ -64,7 +65,8 @@ fn play_at<I: Read, O: Write>(
     output: &mut O,
 ) -> Option<Result<(), PlayFault>>
     ensures { IsOutcomeAt (option_map bytes_of capacity) (I.remaining input.old)
-        (O.contents output.old) (O.contents output.new) (input.new ≡ input.old) (output.new ≡ output.old) result }
+        (O.contents output.old) (O.contents output.new)
+        (input.new ≡ input.old) (output.new ≡ output.old) result }
 {
     Some(match capacity? {
         Capacity::Small => play::<23, I, O>(alloc, input, output),
@@ -76,7 +78,8 @@ fn play_at<I: Read, O: Write>(
 /// Writes the line of a fault, or how a program is called if nothing was played, and returns the status.
 fn report<E: Write>(played: Option<Result<(), PlayFault>>, errors: &mut E) -> u8
     ensures status { result ≡ status_at played }
-    ensures line { AppendsPrefix (E.contents errors.old) (E.contents errors.new) (report_at played) }
+    ensures line { AppendsPrefix (E.contents errors.old) (E.contents errors.new)
+        (report_at played) }
     ensures quiet { result ≡ 0 → errors.new ≡ errors.old }
 {
     match played {

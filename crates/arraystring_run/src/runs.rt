@@ -35,10 +35,12 @@ pub fn run<const N: usize>(
     text: &mut ArrayString<N>,
     commands: &[Command<'_>],
 ) -> Result<Outcome<N>, AllocError>
-    ensures replies { IfOk result (λ o. map view_of o.replies.items ≡ (after commands.now text.old.text (cap N)).replies) }
+    ensures replies { IfOk result
+        (λ o. map view_of o.replies.items ≡ (after commands.now text.old.text (cap N)).replies) }
     ensures one_each { IfOk result (λ o. vec_len o.replies ≡ length commands.now) }
     ensures text { OnOk result (text.new.text ≡ (after commands.now text.old.text (cap N)).text) }
-    ensures first_tight { IfOk result (λ o. o.first_tight ≡ first_tight_from 0 commands.now text.old.text (cap N)) }
+    ensures first_tight { IfOk result
+        (λ o. o.first_tight ≡ first_tight_from 0 commands.now text.old.text (cap N)) }
     ensures fits { size text.new.text ≤ cap N }
     ensures unchanged { OnErr result (text.new.text ≡ text.old.text) }
     ensures empty { commands.now ≡ [] → IsOk result }
@@ -66,7 +68,8 @@ fn fill<const N: usize>(
 ) -> Option<usize>
     requires empty { vec_len replies.old ≡ 0 }
     requires room { length commands.now ≤ vec_capacity replies.old }
-    ensures replies { map view_of replies.new.items ≡ (after commands.now text.old.text (cap N)).replies }
+    ensures replies { map view_of replies.new.items
+        ≡ (after commands.now text.old.text (cap N)).replies }
     ensures one_each { vec_len replies.new ≡ length commands.now }
     ensures in_place { vec_ptr replies.new ≡ vec_ptr replies.old }
     ensures text { text.new.text ≡ (after commands.now text.old.text (cap N)).text }
@@ -122,14 +125,18 @@ pub fn run_both<const N: usize, const M: usize>(
 ) -> Result<(Outcome<N>, Outcome<M>), AllocError>
     ensures first_replies { IfOk result
         (λ o. map view_of o.0.replies.items ≡ (after commands.now first.old.text (cap N)).replies) }
-    ensures first_text { OnOk result (first.new.text ≡ (after commands.now first.old.text (cap N)).text) }
-    ensures first_tight { IfOk result (λ o. o.0.first_tight ≡ first_tight_from 0 commands.now first.old.text (cap N)) }
-    ensures second_replies { IfOk result
-        (λ o. map view_of o.1.replies.items ≡ (after commands.now second.old.text (cap M)).replies) }
-    ensures second_text { OnOk result (second.new.text ≡ (after commands.now second.old.text (cap M)).text) }
-    ensures second_tight { IfOk result (λ o. o.1.first_tight ≡ first_tight_from 0 commands.now second.old.text (cap M)) }
-    ensures one_each { IfOk result
-        (λ o. (vec_len o.0.replies ≡ length commands.now) × (vec_len o.1.replies ≡ length commands.now)) }
+    ensures first_text { OnOk result
+        (first.new.text ≡ (after commands.now first.old.text (cap N)).text) }
+    ensures first_tight { IfOk result
+        (λ o. o.0.first_tight ≡ first_tight_from 0 commands.now first.old.text (cap N)) }
+    ensures second_replies { IfOk result (λ o. map view_of o.1.replies.items
+        ≡ (after commands.now second.old.text (cap M)).replies) }
+    ensures second_text { OnOk result
+        (second.new.text ≡ (after commands.now second.old.text (cap M)).text) }
+    ensures second_tight { IfOk result
+        (λ o. o.1.first_tight ≡ first_tight_from 0 commands.now second.old.text (cap M)) }
+    ensures one_each { IfOk result (λ o. (vec_len o.0.replies ≡ length commands.now)
+        × (vec_len o.1.replies ≡ length commands.now)) }
     ensures fits { (size first.new.text ≤ cap N) × (size second.new.text ≤ cap M) }
     ensures agree { first.old.text ≡ second.old.text → cap N ≤ cap M
         → IfOk result (λ o. AllAgree (commands_before commands.now o.0.first_tight)
@@ -138,7 +145,8 @@ pub fn run_both<const N: usize, const M: usize>(
         → IfOk result (λ o. IsNoSooner o.0.first_tight o.1.first_tight) }
     ensures same_text { first.old.text ≡ second.old.text → cap N ≤ cap M
         → IfOk result (λ o. o.0.first_tight ≡ None → first.new.text ≡ second.new.text) }
-    ensures unchanged { OnErr result ((first.new.text ≡ first.old.text) × (second.new.text ≡ second.old.text)) }
+    ensures unchanged { OnErr result
+        ((first.new.text ≡ first.old.text) × (second.new.text ≡ second.old.text)) }
     ensures empty { commands.now ≡ [] → IsOk result }
 {
     text_fits(first);

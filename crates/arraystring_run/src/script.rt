@@ -48,9 +48,11 @@ fn command_between<'a>(
 ) -> Option<Command<'a>>
     requires order { start ≤ end }
     requires within { end ≤ length script.now }
-    requires text { IfSome text (λ t. (t.now ≡ script.now) × IsCharBoundary t.now start × IsCharBoundary t.now end) }
+    requires text { IfSome text
+        (λ t. (t.now ≡ script.now) × IsCharBoundary t.now start × IsCharBoundary t.now end) }
     ensures some { IfSome result (λ c. IsLineOf (slice_range script.now start end) c) }
-    ensures none { IfNone result ((c : Command) → IsLineOf (slice_range script.now start end) c → ⊥) }
+    ensures none { IfNone result ((c : Command)
+        → IsLineOf (slice_range script.now start end) c → ⊥) }
 {
     let line = match text {
         Some(text) => &text[start..end],

@@ -45,8 +45,10 @@ impl Waiting {
     /// Lets a text wait. Only if there is not enough room, what waits is written first, in a whole block.
     #[inline(always)]
     pub(crate) fn put<O: Write>(&mut self, output: &mut O, text: &str) -> io::Result<()>
-        ensures whole { OnOk result (IsPassed (O.contents output.old) (O.contents output.new) self.old self.new text.now) }
-        ensures part { AppendsPrefix (O.contents output.old) (O.contents output.new) (self.old ++ text.now) }
+        ensures whole { OnOk result
+            (IsPassed (O.contents output.old) (O.contents output.new) self.old self.new text.now) }
+        ensures part { AppendsPrefix (O.contents output.old) (O.contents output.new)
+            (self.old ++ text.now) }
         ensures unsent { length self.old + length text.now ≤ 8192 → output.new ≡ output.old }
         ensures block { OnOk result (8192 < length self.old + length text.now
             → length self.new + 8192 ≤ length self.old + length text.now) }
@@ -65,8 +67,10 @@ impl Waiting {
     #[inline(never)]
     fn put_more<O: Write>(&mut self, output: &mut O, bytes: &[u8]) -> io::Result<()>
         requires { 8192 < length self.old + length bytes.now }
-        ensures whole { OnOk result (IsPassed (O.contents output.old) (O.contents output.new) self.old self.new bytes.now) }
-        ensures part { AppendsPrefix (O.contents output.old) (O.contents output.new) (self.old ++ bytes.now) }
+        ensures whole { OnOk result
+            (IsPassed (O.contents output.old) (O.contents output.new) self.old self.new bytes.now) }
+        ensures part { AppendsPrefix (O.contents output.old) (O.contents output.new)
+            (self.old ++ bytes.now) }
         ensures block { OnOk result (length self.new + 8192 ≤ length self.old + length bytes.now) }
     {
         let (first, rest) = bytes.split_at(BUFFER - self.count);
@@ -82,7 +86,8 @@ impl Waiting {
     /// Writes all that waits. If a write fails, a prefix of it was written.
     pub(crate) fn send<O: Write>(&mut self, output: &mut O) -> io::Result<()>
         ensures sent { OnOk result (self.new ≡ []) }
-        ensures whole { OnOk result (Appends (O.contents output.old) (O.contents output.new) self.old) }
+        ensures whole { OnOk result
+            (Appends (O.contents output.old) (O.contents output.new) self.old) }
         ensures part { AppendsPrefix (O.contents output.old) (O.contents output.new) self.old }
     {
         write_bytes(output, &self.bytes[..self.count])?;

@@ -21,7 +21,8 @@ pub(crate) fn write_text<O: Write>(output: &mut O, text: &str) -> io::Result<()>
 /// Writes bytes, as `write_text` writes a text.
 #[inline(never)]
 pub(crate) fn write_bytes<O: Write>(output: &mut O, bytes: &[u8]) -> io::Result<()>
-    ensures whole { OnOk result (Appends (O.contents output.old) (O.contents output.new) bytes.now) }
+    ensures whole { OnOk result
+        (Appends (O.contents output.old) (O.contents output.new) bytes.now) }
     ensures part { AppendsPrefix (O.contents output.old) (O.contents output.new) bytes.now }
 {
     let mut rest = bytes;
@@ -38,7 +39,8 @@ pub(crate) fn write_bytes<O: Write>(output: &mut O, bytes: &[u8]) -> io::Result<
 #[inline(always)]
 fn write_some<'a, O: Write>(output: &mut O, bytes: &'a [u8]) -> io::Result<&'a [u8]>
     ensures some { IfOk result (λ rest. (done : List ℕ)
-        × (bytes.now ≡ done ++ rest.now) × Appends (O.contents output.old) (O.contents output.new) done) }
+        × (bytes.now ≡ done ++ rest.now)
+        × Appends (O.contents output.old) (O.contents output.new) done) }
     ensures none { OnErr result (Keeps (O.contents output.old) (O.contents output.new)) }
 {
     if bytes.is_empty() {

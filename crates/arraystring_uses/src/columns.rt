@@ -26,7 +26,8 @@ pub fn padded<const N: usize>(text: &str, count: u8) -> Result<ArrayString<N>, E
 /// Returns how many bytes a column takes, or `None` if it is empty.
 #[tactic(auto, using(arraystring::proofs::Rules::sizes))]
 pub fn bytes_shown(column: &ArrayString<16>) -> Option<u8>
-    ensures { MatchOption result (column.now.text ≡ []) (λ bytes. (bytes ≡ size column.now.text) × (0 < bytes)) }
+    ensures { MatchOption result (column.now.text ≡ [])
+        (λ bytes. (bytes ≡ size column.now.text) × (0 < bytes)) }
 {
     match column.len() {
         0 => None,

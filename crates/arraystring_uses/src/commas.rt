@@ -31,7 +31,8 @@ fn push_piece<const N: usize>(
     index: usize,
     ch: char,
 ) -> Result<(), Error>
-    ensures { Makes (addition line.old.text (piece (index, ch)) (cap N)) line.old.text result line.new.text }
+    ensures { Makes (addition line.old.text (piece (index, ch)) (cap N))
+        line.old.text result line.new.text }
 {
     let mut longer = *line;
     if index % 4 == 3 {

@@ -19,7 +19,8 @@ impl<const N: usize> Line<N> {
     /// Sets the cursor at an index, or returns `None` if that is not a boundary.
     pub fn at(text: ArrayString<N>, cursor: u8) -> Option<Self>
         ensures made { IsSome result ↔ (boundary text.entry.text cursor ≡ true) }
-        ensures line { IfSome result (λ line. (line.text.text ≡ text.entry.text) × (line.cursor ≡ cursor)) }
+        ensures line { IfSome result
+            (λ line. (line.text.text ≡ text.entry.text) × (line.cursor ≡ cursor)) }
     {
         is_char_boundary(&text, cursor).ok()?;
         Some(Line { text, cursor })
@@ -47,8 +48,10 @@ impl<const N: usize> Line<N> {
     /// Returns `Err(Error::OutOfBounds)` if it does not fit. The line is then unchanged.
     #[tactic(auto, using(arraystring::proofs::Rules::cursors))]
     pub fn insert(&mut self, ch: char) -> Result<(), Error>
-        ensures before { OnOk result (front self.new.text.text self.new.cursor ≡ front self.old.text.text self.old.cursor ++ ch ∷ []) }
-        ensures after { OnOk result (back self.new.text.text self.new.cursor ≡ back self.old.text.text self.old.cursor) }
+        ensures before { OnOk result (front self.new.text.text self.new.cursor
+            ≡ front self.old.text.text self.old.cursor ++ ch ∷ []) }
+        ensures after { OnOk result
+            (back self.new.text.text self.new.cursor ≡ back self.old.text.text self.old.cursor) }
         ensures fits { IsOk result ↔ (size self.old.text.text + width ch ≤ cap N) }
         ensures error { IfErr result (λ error. error ≡ OutOfBounds) }
         ensures refused { OnErr result (self.new ≡ self.old) }
@@ -68,8 +71,10 @@ impl<const N: usize> Line<N> {
     /// Returns `Err(Error::OutOfBounds)` if it does not fit. The line is then unchanged.
     #[tactic(auto, using(arraystring::proofs::Rules::insertions, arraystring::proofs::Rules::sizes))]
     pub fn put(&mut self, piece: &str) -> Result<(), Error>
-        ensures before { OnOk result (front self.new.text.text self.new.cursor ≡ front self.old.text.text self.old.cursor ++ chars piece.now) }
-        ensures after { OnOk result (back self.new.text.text self.new.cursor ≡ back self.old.text.text self.old.cursor) }
+        ensures before { OnOk result (front self.new.text.text self.new.cursor
+            ≡ front self.old.text.text self.old.cursor ++ chars piece.now) }
+        ensures after { OnOk result
+            (back self.new.text.text self.new.cursor ≡ back self.old.text.text self.old.cursor) }
         ensures fits { IsOk result ↔ (size self.old.text.text + size (chars piece.now) ≤ cap N) }
         ensures error { IfErr result (λ error. error ≡ OutOfBounds) }
         ensures refused { OnErr result (self.new ≡ self.old) }
@@ -88,8 +93,10 @@ impl<const N: usize> Line<N> {
     pub fn left(&mut self) -> Option<char>
         ensures text { self.new.text.text ≡ self.old.text.text }
         ensures before { MatchOption result (front self.old.text.text self.old.cursor ≡ [])
-            (λ ch. front self.old.text.text self.old.cursor ≡ front self.new.text.text self.new.cursor ++ ch ∷ []) }
-        ensures after { IfSome result (λ ch. back self.new.text.text self.new.cursor ≡ ch ∷ back self.old.text.text self.old.cursor) }
+            (λ ch. front self.old.text.text self.old.cursor
+            ≡ front self.new.text.text self.new.cursor ++ ch ∷ []) }
+        ensures after { IfSome result (λ ch. back self.new.text.text self.new.cursor
+            ≡ ch ∷ back self.old.text.text self.old.cursor) }
         ensures start { IfNone result (self.new.cursor ≡ self.old.cursor) }
     {
         let before = self.before();

@@ -15,8 +15,10 @@ pub fn add_entry<const N: usize>(
     key: &str,
     value: &str,
 ) -> Result<(), Error>
-    ensures fits { IsOk result ↔ (size line.old.text + size (chars key.now ++ 61 ∷ chars value.now) ≤ cap N) }
-    ensures added { OnOk result (line.new.text ≡ line.old.text ++ (chars key.now ++ 61 ∷ chars value.now)) }
+    ensures fits { IsOk result
+        ↔ (size line.old.text + size (chars key.now ++ 61 ∷ chars value.now) ≤ cap N) }
+    ensures added { OnOk result
+        (line.new.text ≡ line.old.text ++ (chars key.now ++ 61 ∷ chars value.now)) }
     ensures refused { OnErr result (line.new.text ≡ line.old.text) }
 {
     let mut longer = *line;

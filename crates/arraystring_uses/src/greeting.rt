@@ -13,7 +13,8 @@ use arraystring::{ArrayString, Error};
 /// Returns `Err(Error::OutOfBounds)` if `@` and the name do not fit.
 #[tactic(auto, using(arraystring::proofs::Rules::at_start, arraystring::proofs::Rules::cuts, arraystring::proofs::Rules::literals))]
 pub fn greet(name: &str) -> Result<ArrayString<20>, Error>
-    ensures text { IfOk result (λ greeting. greeting.text ≡ cut (codes "@" ++ (chars name.now ++ codes ", welcome back")) 20) }
+    ensures text { IfOk result (λ greeting. greeting.text
+        ≡ cut (codes "@" ++ (chars name.now ++ codes ", welcome back")) 20) }
     ensures fits { IsOk result ↔ (size (chars name.now) < 20) }
     ensures refused { IfErr result (λ error. error ≡ OutOfBounds) }
 {

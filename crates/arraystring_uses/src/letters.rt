@@ -10,7 +10,8 @@ use arraystring::laws::last_given;
 /// Takes the first character out and returns it, or `None` if there is none.
 #[tactic(auto, using(arraystring::proofs::Rules::at_start))]
 pub fn take_first(text: &mut ArrayString<16>) -> Option<char>
-    ensures { MatchOption result ((text.old.text ≡ []) × (text.new.text ≡ [])) (λ first. text.old.text ≡ first ∷ text.new.text) }
+    ensures { MatchOption result ((text.old.text ≡ []) × (text.new.text ≡ []))
+        (λ first. text.old.text ≡ first ∷ text.new.text) }
 {
     match text.remove(0) {
         Ok(first) => Some(first),
@@ -21,7 +22,8 @@ pub fn take_first(text: &mut ArrayString<16>) -> Option<char>
 /// Appends `ch` if any character would fit, and says whether one would.
 #[tactic(auto, using(arraystring::proofs::Rules::sizes))]
 pub fn push_if_any_fits(text: &mut ArrayString<16>, ch: char) -> bool
-    ensures pushed { size text.old.text ≤ 12 → (result ≡ true) × (text.new.text ≡ text.old.text ++ ch ∷ []) }
+    ensures pushed { size text.old.text ≤ 12
+        → (result ≡ true) × (text.new.text ≡ text.old.text ++ ch ∷ []) }
     ensures refused { 12 < size text.old.text → (result ≡ false) × (text.new.text ≡ text.old.text) }
 {
     if text.len() > 12 {
@@ -34,7 +36,8 @@ pub fn push_if_any_fits(text: &mut ArrayString<16>, ch: char) -> bool
 /// Takes the last character out and returns it, or `None` if there is none.
 #[tactic(auto, using(arraystring::proofs::Rules::removals))]
 pub fn take_last(text: &mut ArrayString<16>) -> Option<char>
-    ensures { MatchOption result ((text.old.text ≡ []) × (text.new.text ≡ [])) (λ last. text.old.text ≡ text.new.text ++ last ∷ []) }
+    ensures { MatchOption result ((text.old.text ≡ []) × (text.new.text ≡ []))
+        (λ last. text.old.text ≡ text.new.text ++ last ∷ []) }
 {
     text.pop()
 }
@@ -42,14 +45,16 @@ pub fn take_last(text: &mut ArrayString<16>) -> Option<char>
 /// Returns the first character of `text`, or `None` if there is none.
 pub fn first_letter(text: &str) -> Option<char>
     ensures item { result ≡ slice_get (chars text.now) 0 }
-    ensures text { MatchOption result (chars text.now ≡ []) (λ first. chars text.now ≡ first ∷ drop 1 (chars text.now)) }
+    ensures text { MatchOption result (chars text.now ≡ [])
+        (λ first. chars text.now ≡ first ∷ drop 1 (chars text.now)) }
 {
     text.chars().next()
 }
 
 /// Returns the last character of `text`, or `None` if there is none.
 pub fn last_letter(text: &str) -> Option<char>
-    ensures { MatchOption result (chars text.now ≡ []) (λ last. chars text.now ≡ all_but_last (chars text.now) ++ last ∷ []) }
+    ensures { MatchOption result (chars text.now ≡ [])
+        (λ last. chars text.now ≡ all_but_last (chars text.now) ++ last ∷ []) }
 {
     let last = text.chars().next_back();
     last_given(text, last);

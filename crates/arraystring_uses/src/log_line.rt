@@ -32,7 +32,8 @@ impl Level {
 /// of whole characters that fits into 61, and ends with `…`, which takes three.
 #[tactic(auto, using(arraystring::proofs::Rules::literals, arraystring::proofs::Rules::cuts))]
 pub fn log_line(level: Level, message: &str) -> ArrayString<64>
-    ensures whole { size (full_line level (chars message.now)) ≤ 64 → result.text ≡ full_line level (chars message.now) }
+    ensures whole { size (full_line level (chars message.now)) ≤ 64
+        → result.text ≡ full_line level (chars message.now) }
     ensures cut { 64 < size (full_line level (chars message.now))
         → result.text ≡ cut (full_line level (chars message.now)) 61 ++ 0x2026 ∷ [] }
 {
@@ -45,7 +46,8 @@ pub fn log_line(level: Level, message: &str) -> ArrayString<64>
 #[tactic(auto, using(arraystring::proofs::Rules::cuts, arraystring::proofs::Rules::literals))]
 fn push_marked(line: &mut ArrayString<64>, text: &str)
     requires { size line.old.text ≤ 61 }
-    ensures whole { size (line.old.text ++ chars text.now) ≤ 64 → line.new.text ≡ line.old.text ++ chars text.now }
+    ensures whole { size (line.old.text ++ chars text.now) ≤ 64
+        → line.new.text ≡ line.old.text ++ chars text.now }
     ensures cut { 64 < size (line.old.text ++ chars text.now)
         → line.new.text ≡ cut (line.old.text ++ chars text.now) 61 ++ 0x2026 ∷ [] }
 {

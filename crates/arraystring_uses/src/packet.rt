@@ -3,7 +3,6 @@ ghost use Rattle.std.specs.Prelude.{◌≡◌, ◌<◌, ◌≤◌, ◌↔◌, Er
 ghost use Rattle.arraystring.specs.Refusals.{OutOfBounds};
 ghost use Rattle.arraystring.specs.Text.{IsWellFormed};
 
-use arraystring::laws::well_formed_or_not;
 use arraystring::{ArrayString, Error};
 
 /// Reads a name of at most 16 bytes.
@@ -16,6 +15,5 @@ pub fn name_in(given: &[u8]) -> Result<ArrayString<16>, Error>
     ensures too_long { result ≡ Err OutOfBounds → IsWellFormed given.now × (16 < length given.now) }
     ensures name { IsOk result ↔ (IsWellFormed given.now × (length given.now ≤ 16)) }
 {
-    well_formed_or_not(given);
     ArrayString::try_from_utf8(given)
 }

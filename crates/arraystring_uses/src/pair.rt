@@ -15,8 +15,10 @@ use arraystring::{ArrayString, Error};
 /// Returns `Err(Error::OutOfBounds)` if `line` has no `=`, or a part does not fit.
 pub fn pair(line: &str) -> Result<(ArrayString<20>, ArrayString<40>), Error>
     ensures key { IfOk result (λ pair. pair.0.text ≡ before_first (λ c. c == 61) (chars line.now)) }
-    ensures value { IfOk result (λ pair. pair.1.text ≡ after_first (λ c. c == 61) (chars line.now)) }
-    ensures made { IsOk result ↔ ((position_or_len (λ c. c == 61) (chars line.now) < length (chars line.now))
+    ensures value { IfOk result
+        (λ pair. pair.1.text ≡ after_first (λ c. c == 61) (chars line.now)) }
+    ensures made { IsOk result
+        ↔ ((position_or_len (λ c. c == 61) (chars line.now) < length (chars line.now))
         × (size (before_first (λ c. c == 61) (chars line.now)) ≤ 20)
         × (size (after_first (λ c. c == 61) (chars line.now)) ≤ 40)) }
     ensures refused { IfErr result (λ error. error ≡ OutOfBounds) }
@@ -37,7 +39,8 @@ pub fn pair(line: &str) -> Result<(ArrayString<20>, ArrayString<40>), Error>
 pub fn pair_of(line: &ArrayString<64>) -> Result<(ArrayString<20>, ArrayString<40>), Error>
     ensures key { IfOk result (λ pair. pair.0.text ≡ before_first (λ c. c == 61) line.now.text) }
     ensures value { IfOk result (λ pair. pair.1.text ≡ after_first (λ c. c == 61) line.now.text) }
-    ensures made { IsOk result ↔ ((position_or_len (λ c. c == 61) line.now.text < length line.now.text)
+    ensures made { IsOk result
+        ↔ ((position_or_len (λ c. c == 61) line.now.text < length line.now.text)
         × (size (before_first (λ c. c == 61) line.now.text) ≤ 20)
         × (size (after_first (λ c. c == 61) line.now.text) ≤ 40)) }
     ensures refused { IfErr result (λ error. error ≡ OutOfBounds) }
@@ -81,8 +84,8 @@ pub fn there_and_back(
 /// Removes the first `=` and all that comes after it from `line`, and returns the removed text. If there
 /// is no `=`, returns `None` and changes nothing.
 pub fn split_value(line: &mut ArrayString<64>) -> Option<ArrayString<64>>
-    ensures { MatchOption result
-        ((line.new.text ≡ line.old.text) × (position_or_len (λ c. c == 61) line.old.text ≡ length line.old.text))
+    ensures { MatchOption result ((line.new.text ≡ line.old.text)
+        × (position_or_len (λ c. c == 61) line.old.text ≡ length line.old.text))
         (λ rest. (line.new.text ≡ before_first (λ c. c == 61) line.old.text)
         × (rest.text ≡ 61 ∷ after_first (λ c. c == 61) line.old.text)) }
 {

@@ -18,7 +18,8 @@ pub fn part<const N: usize>(text: &ArrayString<N>, start: u8, end: u8) -> Option
 #[tactic(auto, using(arraystring::proofs::Rules::cursors))]
 pub fn prefix<const N: usize>(text: &ArrayString<N>, end: u8) -> Option<&str>
     ensures { MatchOption result (boundary text.now.text end ≡ false)
-        (λ found. (boundary text.now.text end ≡ true) × (chars found.now ≡ front text.now.text end)) }
+        (λ found. (boundary text.now.text end ≡ true)
+        × (chars found.now ≡ front text.now.text end)) }
 {
     text.get(0..end)
 }

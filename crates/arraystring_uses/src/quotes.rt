@@ -30,7 +30,8 @@ pub fn quoted<const N: usize>(field: &str) -> Result<ArrayString<N>, Error>
 /// Appends a character, a quote twice.
 #[tactic(auto, using(arraystring::proofs::Rules::literals))]
 fn push_doubled<const N: usize>(line: &mut ArrayString<N>, ch: char) -> Result<(), Error>
-    ensures { Makes (addition line.old.text (doubled ch) (cap N)) line.old.text result line.new.text }
+    ensures { Makes (addition line.old.text (doubled ch) (cap N))
+        line.old.text result line.new.text }
 {
     if ch == '"' {
         line.try_push_str("\"\"")?;
@@ -59,7 +60,8 @@ pub fn replaced<const N: usize>(text: &str, from: char, to: &str) -> ArrayString
 #[tactic(auto, using(arraystring::proofs::Rules::additions, arraystring::proofs::Rules::cut_pieces))]
 fn push_exchanged<const N: usize>(line: &mut ArrayString<N>, ch: char, from: char, to: &str) -> bool
     ensures text { line.new.text ≡ cut (line.old.text ++ exchanged from (chars to.now) ch) (cap N) }
-    ensures all { IsTrue result ↔ (size (line.old.text ++ exchanged from (chars to.now) ch) ≤ cap N) }
+    ensures all { IsTrue result
+        ↔ (size (line.old.text ++ exchanged from (chars to.now) ch) ≤ cap N) }
 {
     text_fits(line);
     if ch != from {

@@ -12,7 +12,8 @@ use std::fmt::Write;
 ///
 /// Returns `Err(fmt::Error)` if `write!` does. The text is then unchanged.
 pub fn add_row(line: &mut ArrayString<24>, first: &str, last: &str) -> fmt::Result
-    ensures added { OnOk result (bytes line.new.text ≡ bytes line.old.text ++ (first.now ++ (codes "-" ++ last.now))) }
+    ensures added { OnOk result
+        (bytes line.new.text ≡ bytes line.old.text ++ (first.now ++ (codes "-" ++ last.now))) }
     ensures refused { OnErr result (line.new.text ≡ line.old.text) }
 {
     let before = *line;

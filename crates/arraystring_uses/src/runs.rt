@@ -15,7 +15,8 @@ use std::alloc::{AllocError, Global};
 ///
 /// Returns `Err(AllocError)` if `run` does. The line is then unchanged.
 pub fn push_and_pop(alloc: Global, line: &mut ArrayString<23>, text: &str) -> Result<(), AllocError>
-    ensures text { OnOk result (line.new.text ≡ all_but_last (line.old.text ++ cut (chars text.now) (23 - size line.old.text))) }
+    ensures text { OnOk result (line.new.text
+        ≡ all_but_last (line.old.text ++ cut (chars text.now) (23 - size line.old.text))) }
     ensures refused { OnErr result (line.new.text ≡ line.old.text) }
 {
     run(alloc, line, &[Command::PushStr(text), Command::Pop])?;

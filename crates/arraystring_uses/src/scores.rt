@@ -24,7 +24,8 @@ pub fn record(
 ) -> Result<Option<u32>, AllocError>
     ensures old { IfOk result (λ old. old ≡ points scores.old name.text) }
     ensures found { OnOk result (points scores.new name.text ≡ Some score) }
-    ensures others { (other : List ℕ) → other ≢ name.text → points scores.new other ≡ points scores.old other }
+    ensures others { (other : List ℕ)
+        → other ≢ name.text → points scores.new other ≡ points scores.old other }
     ensures refused { OnErr result (points scores.new name.text ≡ points scores.old name.text) }
     ensures ordered { AllPairs IsBefore (names scores.new) }
 {

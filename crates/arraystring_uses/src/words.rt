@@ -54,7 +54,8 @@ pub fn path<const N: usize>(words: &[&str]) -> Result<ArrayString<N>, Error>
 /// Returns `Err(Error::OutOfBounds)` if not both fit. The text is then unchanged.
 #[tactic(auto, using(arraystring::proofs::Rules::additions))]
 pub fn add_both(line: &mut ArrayString<24>, first: &str, last: &str) -> Result<(), Error>
-    ensures { Makes (addition line.old.text (chars first.now ++ chars last.now) 24) line.old.text result line.new.text }
+    ensures { Makes (addition line.old.text (chars first.now ++ chars last.now) 24)
+        line.old.text result line.new.text }
 {
     let mut longer = *line;
     longer.try_push_str(first)?;

@@ -34,7 +34,8 @@ impl Model for Directory {
 
     ghost Value = { map.FinMap (slice_cmp nat_cmp) (List ℕ × List ℕ) };
 
-    ghost coded = { map.code (coded_list coded_ℕ) (coded× (coded_list coded_ℕ) (coded_list coded_ℕ)) };
+    ghost coded = { map.code (coded_list coded_ℕ)
+        (coded× (coded_list coded_ℕ) (coded_list coded_ℕ)) };
 
     ghost view = { λ d. map.from_entries (by_text d.users.entries) };
 
@@ -80,13 +81,19 @@ impl Directory {
     /// user under the username, the call is never refused.
     #[tactic(auto, using(crate::proofs::MapLemmas::get_users, crate::proofs::MapLemmas::insert_users, crate::proofs::MapLemmas::get_inserted))]
     pub fn insert(&mut self, user: User) -> Result<Option<User>, AllocError>
-        ensures old { IfOk result (λ old. option_map texts old ≡ map.get self.old user.username.text) }
-        ensures own { IfOk result (λ old. IfSome old (λ old. old.username.text ≡ user.username.text)) }
-        ensures after { OnOk result (self.new ≡ map.insert self.old user.username.text (texts user)) }
+        ensures old { IfOk result
+            (λ old. option_map texts old ≡ map.get self.old user.username.text) }
+        ensures own { IfOk result
+            (λ old. IfSome old (λ old. old.username.text ≡ user.username.text)) }
+        ensures after { OnOk result
+            (self.new ≡ map.insert self.old user.username.text (texts user)) }
         ensures found { OnOk result (map.get self.new user.username.text ≡ Some (texts user)) }
-        ensures others { (name : List ℕ) → name ≢ user.username.text → map.get self.new name ≡ map.get self.old name }
-        ensures len { IfOk result (λ old. map.len self.new ≡ map.len self.old + (if is_some old then 0 else 1)) }
-        ensures same { map.get self.old user.username.text ≡ Some (texts user) → self.new ≡ self.old }
+        ensures others { (name : List ℕ)
+            → name ≢ user.username.text → map.get self.new name ≡ map.get self.old name }
+        ensures len { IfOk result
+            (λ old. map.len self.new ≡ map.len self.old + (if is_some old then 0 else 1)) }
+        ensures same { map.get self.old user.username.text ≡ Some (texts user)
+            → self.new ≡ self.old }
         ensures err { OnErr result (self.new ≡ self.old) }
         ensures absent { OnErr result (map.get self.old user.username.text ≡ None) }
     {
@@ -96,7 +103,8 @@ impl Directory {
     /// Returns the user under `username`, or `None` if there is none. It allocates nothing.
     #[tactic(auto, using(crate::proofs::MapLemmas::get_users))]
     pub fn get(&self, username: &ArrayString<20>) -> Option<&User>
-        ensures found { option_map texts (option_copied result) ≡ map.get self.now username.now.text }
+        ensures found { option_map texts (option_copied result)
+            ≡ map.get self.now username.now.text }
         ensures own { IfSome result (λ user. user.now.username.text ≡ username.now.text) }
     {
         self.users.get(username)
@@ -117,7 +125,8 @@ impl Directory {
         ensures own { IfSome result (λ user. user.username.text ≡ username.now.text) }
         ensures after { self.new ≡ map.remove self.old username.now.text }
         ensures gone { map.get self.new username.now.text ≡ None }
-        ensures others { (name : List ℕ) → name ≢ username.now.text → map.get self.new name ≡ map.get self.old name }
+        ensures others { (name : List ℕ)
+            → name ≢ username.now.text → map.get self.new name ≡ map.get self.old name }
         ensures len { map.len self.new + (if is_some result then 1 else 0) ≡ map.len self.old }
         ensures unchanged { IfNone result (self.new ≡ self.old) }
     {
@@ -131,10 +140,14 @@ impl Directory {
         username: &ArrayString<20>,
         role: ArrayString<5>,
     ) -> Option<ArrayString<5>>
-        ensures old { option_map (λ old. (username.now.text, old.text)) result ≡ map.get self.old username.now.text }
-        ensures after { OnSome result (self.new ≡ map.insert self.old username.now.text (username.now.text, role.text)) }
-        ensures found { OnSome result (map.get self.new username.now.text ≡ Some (username.now.text, role.text)) }
-        ensures others { (name : List ℕ) → name ≢ username.now.text → map.get self.new name ≡ map.get self.old name }
+        ensures old { option_map (λ old. (username.now.text, old.text)) result
+            ≡ map.get self.old username.now.text }
+        ensures after { OnSome result
+            (self.new ≡ map.insert self.old username.now.text (username.now.text, role.text)) }
+        ensures found { OnSome result
+            (map.get self.new username.now.text ≡ Some (username.now.text, role.text)) }
+        ensures others { (name : List ℕ)
+            → name ≢ username.now.text → map.get self.new name ≡ map.get self.old name }
         ensures names { map.keys self.new ≡ map.keys self.old }
         ensures unchanged { IfNone result (self.new ≡ self.old) }
     {

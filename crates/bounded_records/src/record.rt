@@ -78,7 +78,8 @@ impl Error for RecordFault {}
 /// Returns the record of a user. No other user has this record. It allocates nothing.
 pub fn encode(user: &User) -> [u8; RECORD_SIZE]
     ensures record { IsRecord result user.now.username.text user.now.role.text }
-    ensures only { (username role : List ℕ) → IsRecord result username role → texts user.now ≡ (username, role) }
+    ensures only { (username role : List ℕ)
+        → IsRecord result username role → texts user.now ≡ (username, role) }
 {
     let mut record = [0; RECORD_SIZE];
     let (username, role) = record.split_at_mut(ROLE_OFFSET);
@@ -99,11 +100,13 @@ pub fn encode(user: &User) -> [u8; RECORD_SIZE]
 /// - `Err(RecordFault::Padding)` if a byte after them is not zero.
 pub fn decode(given: &[u8]) -> Result<User, RecordFault>
     ensures user { (username role : List ℕ)
-        → IsOkAnd result (λ user. texts user ≡ (username, role)) ↔ IsRecord given.now username role }
+        → IsOkAnd result (λ user. texts user ≡ (username, role))
+        ↔ IsRecord given.now username role }
     ensures only { (username role other_username other_role : List ℕ)
         → IsRecord given.now username role → IsRecord given.now other_username other_role
         → (username ≡ other_username) × (role ≡ other_role) }
-    ensures fault { (fault : RecordFault) → IsErrAnd result (λ e. e ≡ fault) ↔ IsFirstFault given.now fault }
+    ensures fault { (fault : RecordFault)
+        → IsErrAnd result (λ e. e ≡ fault) ↔ IsFirstFault given.now fault }
 {
     if !has_length(given) {
         return Err(RecordFault::Length);
@@ -146,7 +149,8 @@ fn has_length(given: &[u8]) -> bool
 fn counts_fit(username: &[u8], role: &[u8]) -> bool
     requires username { 0 < length username.now }
     requires role { 0 < length role.now }
-    ensures { IsTrue result ↔ ((count username.now ≤ USERNAME_CAPACITY) × (count role.now ≤ ROLE_CAPACITY)) }
+    ensures { IsTrue result
+        ↔ ((count username.now ≤ USERNAME_CAPACITY) × (count role.now ≤ ROLE_CAPACITY)) }
 {
     username[0] <= USERNAME_CAPACITY && role[0] <= ROLE_CAPACITY
 }
@@ -156,7 +160,8 @@ fn counts_fit(username: &[u8], role: &[u8]) -> bool
 fn text_of<const N: usize>(field: &[u8]) -> Result<ArrayString<N>, RecordFault>
     requires long { length field.now ≡ 1 + N }
     requires fits { count field.now ≤ N }
-    ensures ok { IfOk result (λ made. IsText made.text × (bytes made.text ≡ counted_bytes field.now)) }
+    ensures ok { IfOk result
+        (λ made. IsText made.text × (bytes made.text ≡ counted_bytes field.now)) }
     ensures fault { IfErr result (λ fault. fault ≡ Utf8) }
     ensures malformed { OnErr result (¬ (IsWellFormed (counted_bytes field.now))) }
 {
@@ -173,7 +178,8 @@ fn text_of<const N: usize>(field: &[u8]) -> Result<ArrayString<N>, RecordFault>
 fn are_padded(username: &[u8], role: &[u8]) -> bool
     requires username { count username.now < length username.now }
     requires role { count role.now < length role.now }
-    ensures { IsTrue result ↔ (All (λ b. b ≡ 0) (padding username.now) × All (λ b. b ≡ 0) (padding role.now)) }
+    ensures { IsTrue result
+        ↔ (All (λ b. b ≡ 0) (padding username.now) × All (λ b. b ≡ 0) (padding role.now)) }
 {
     is_padded(username) && is_padded(role)
 }

@@ -32,8 +32,10 @@ impl User {
     /// - `Err(UserFault::Role)` if the role is larger than 5 bytes.
     pub fn new(username: &str, role: &str) -> Result<Self, UserFault>
         ensures user { IfOk result (λ user. texts user ≡ (chars username.now, chars role.now)) }
-        ensures fits { OnOk result ((size (chars username.now) ≤ 20) × (size (chars role.now) ≤ 5)) }
-        ensures fault { IfErr result (λ fault. IsFirstTooLarge (chars username.now) (chars role.now) fault) }
+        ensures fits { OnOk result
+            ((size (chars username.now) ≤ 20) × (size (chars role.now) ≤ 5)) }
+        ensures fault { IfErr result
+            (λ fault. IsFirstTooLarge (chars username.now) (chars role.now) fault) }
     {
         let username = ArrayString::try_from_str(username).map_err(|_| UserFault::Username)?;
         let role = ArrayString::try_from_str(role).map_err(|_| UserFault::Role)?;

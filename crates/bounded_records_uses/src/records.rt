@@ -11,7 +11,8 @@ use bounded_records::{RecordFault, decode};
 ///
 /// Those of `decode`.
 pub fn role_in(given: &[u8]) -> Result<ArrayString<5>, RecordFault>
-    ensures role { (username role : List ℕ) → IsRecord given.now username role → IsOkAnd result (λ found. found.text ≡ role) }
+    ensures role { (username role : List ℕ)
+        → IsRecord given.now username role → IsOkAnd result (λ found. found.text ≡ role) }
     ensures fault { IfErr result (λ fault. IsFirstFault given.now fault) }
 {
     Ok(decode(given)?.role)

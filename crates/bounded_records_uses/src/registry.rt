@@ -17,7 +17,8 @@ use std::alloc::{AllocError, Global};
 /// Returns `Err(AllocError)` if `Directory::insert` does. Nothing has changed then.
 pub fn enter(users: &mut Directory, user: User) -> Result<Option<ArrayString<5>>, AllocError>
     ensures role { IfOk result (λ role. option_map (λ role. role.text) role ≡ Some user.role.text) }
-    ensures after { OnOk result (users.new ≡ finite.insert users.old user.username.text (texts user)) }
+    ensures after { OnOk result
+        (users.new ≡ finite.insert users.old user.username.text (texts user)) }
     ensures refused { OnErr result (users.new ≡ users.old) }
 {
     users.insert(user)?;
@@ -63,12 +64,14 @@ pub fn rename(
     ensures was { OnOk result (IsSome (finite.get users.old from.now.text)) }
     ensures free { OnOk result (finite.get users.old to.text ≡ None) }
     ensures after { OnOk result
-        (option_map (λ user. (to.text, user.1)) (finite.get users.old from.now.text) ≡ finite.get users.new to.text) }
+        (option_map (λ user. (to.text, user.1)) (finite.get users.old from.now.text)
+        ≡ finite.get users.new to.text) }
     ensures gone { OnOk result (finite.get users.new from.now.text ≡ None) }
     ensures others { (name : List ℕ) → name ≢ from.now.text → name ≢ to.text
         → finite.get users.new name ≡ finite.get users.old name }
     ensures refused { OnErr result (users.new ≡ users.old) }
-    ensures missing { IfErr result (λ cause. cause ≡ Missing → finite.get users.old from.now.text ≡ None) }
+    ensures missing { IfErr result
+        (λ cause. cause ≡ Missing → finite.get users.old from.now.text ≡ None) }
     ensures taken { IfErr result (λ cause. cause ≡ Taken
         → IsSome (finite.get users.old from.now.text) × IsSome (finite.get users.old to.text)) }
     ensures memory { IfErr result (λ cause. cause ≡ Memory
@@ -95,7 +98,8 @@ pub fn rename(
 pub fn strike_off(users: &mut Directory, name: &ArrayString<20>) -> bool
     ensures was { result ≡ is_some (finite.get users.old name.now.text) }
     ensures gone { finite.get users.new name.now.text ≡ None }
-    ensures others { (other : List ℕ) → other ≢ name.now.text → finite.get users.new other ≡ finite.get users.old other }
+    ensures others { (other : List ℕ)
+        → other ≢ name.now.text → finite.get users.new other ≡ finite.get users.old other }
 {
     users.remove(name).is_some()
 }

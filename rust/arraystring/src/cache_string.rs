@@ -166,11 +166,13 @@ impl CacheString {
     /// <details><summary>Contract</summary>
     ///
     /// ```text
-    /// requires { IsFiniteIterable I.into_iter_gives I.IntoIter.can_next I.IntoIter.remaining pieces }
+    /// requires { IsFiniteIterable I.into_iter_gives I.IntoIter.can_next
+    ///     I.IntoIter.remaining pieces }
     /// ensures taken { (taken : List (Bor (List ℕ)))
     ///     × Takes I.into_iter_gives I.IntoIter.next_gives joined_pieces pieces 63 taken
     ///     × IsWholeOrRefused (joined_pieces taken) 63 (from_out_of_bounds (held result)) }
-    /// ensures whole { (all : List (List ℕ)) → Gives I.into_iter_gives I.IntoIter.next_gives piece_text pieces all
+    /// ensures whole { (all : List (List ℕ))
+    ///     → Gives I.into_iter_gives I.IntoIter.next_gives piece_text pieces all
     ///     → IsWholeOrRefused (joined all) 63 (from_out_of_bounds (held result)) }
     /// ```
     ///
@@ -200,11 +202,13 @@ impl CacheString {
     /// <details><summary>Contract</summary>
     ///
     /// ```text
-    /// requires { IsFiniteIterable I.into_iter_gives I.IntoIter.can_next I.IntoIter.remaining pieces }
+    /// requires { IsFiniteIterable I.into_iter_gives I.IntoIter.can_next
+    ///     I.IntoIter.remaining pieces }
     /// ensures taken { (taken : List (Bor (List ℕ)))
     ///     × Takes I.into_iter_gives I.IntoIter.next_gives joined_pieces pieces 63 taken
     ///     × (result.0.text ≡ cut (joined_pieces taken) 63) }
-    /// ensures whole { (all : List (List ℕ)) → Gives I.into_iter_gives I.IntoIter.next_gives piece_text pieces all
+    /// ensures whole { (all : List (List ℕ))
+    ///     → Gives I.into_iter_gives I.IntoIter.next_gives piece_text pieces all
     ///     → result.0.text ≡ cut (joined all) 63 }
     /// ```
     ///
@@ -237,10 +241,13 @@ impl CacheString {
     /// <details><summary>Contract</summary>
     ///
     /// ```text
-    /// requires { IsFiniteIterable I.into_iter_gives I.IntoIter.can_next I.IntoIter.remaining characters }
-    /// ensures taken { (taken : List ℕ) × Takes I.into_iter_gives I.IntoIter.next_gives (λ cs. cs) characters 63 taken
+    /// requires { IsFiniteIterable I.into_iter_gives I.IntoIter.can_next
+    ///     I.IntoIter.remaining characters }
+    /// ensures taken { (taken : List ℕ)
+    ///     × Takes I.into_iter_gives I.IntoIter.next_gives (λ cs. cs) characters 63 taken
     ///     × IsWholeOrRefused taken 63 (from_out_of_bounds (held result)) }
-    /// ensures whole { (all : List ℕ) → Gives I.into_iter_gives I.IntoIter.next_gives (λ c. c) characters all
+    /// ensures whole { (all : List ℕ)
+    ///     → Gives I.into_iter_gives I.IntoIter.next_gives (λ c. c) characters all
     ///     → IsWholeOrRefused all 63 (from_out_of_bounds (held result)) }
     /// ```
     ///
@@ -269,10 +276,13 @@ impl CacheString {
     /// <details><summary>Contract</summary>
     ///
     /// ```text
-    /// requires { IsFiniteIterable I.into_iter_gives I.IntoIter.can_next I.IntoIter.remaining characters }
-    /// ensures taken { (taken : List ℕ) × Takes I.into_iter_gives I.IntoIter.next_gives (λ cs. cs) characters 63 taken
+    /// requires { IsFiniteIterable I.into_iter_gives I.IntoIter.can_next
+    ///     I.IntoIter.remaining characters }
+    /// ensures taken { (taken : List ℕ)
+    ///     × Takes I.into_iter_gives I.IntoIter.next_gives (λ cs. cs) characters 63 taken
     ///     × (result.0.text ≡ cut taken 63) }
-    /// ensures whole { (all : List ℕ) → Gives I.into_iter_gives I.IntoIter.next_gives (λ c. c) characters all
+    /// ensures whole { (all : List ℕ)
+    ///     → Gives I.into_iter_gives I.IntoIter.next_gives (λ c. c) characters all
     ///     → result.0.text ≡ cut all 63 }
     /// ```
     ///
@@ -309,7 +319,9 @@ impl CacheString {
     /// ```text
     /// ensures malformed { ¬ (IsWellFormed given.now) → held result ≡ Err error.Utf8 }
     /// ensures too_large { held result ≡ Err error.OutOfBounds → IsWellFormed given.now }
-    /// ensures whole { (t : List ℕ) → IsText t → bytes t ≡ given.now → IsWholeOrRefused t 63 (held result) }
+    /// ensures whole { (t : List ℕ)
+    ///     → IsText t → bytes t ≡ given.now → IsWholeOrRefused t 63 (held result) }
+    /// ensures made { IsOk result ↔ (IsWellFormed given.now × (length given.now ≤ 63)) }
     /// ensures bytes { IfOk result (λ made. bytes made.0.text ≡ given.now) }
     /// ensures text { IfOk result (λ made. IsText made.0.text) }
     /// ```
@@ -345,7 +357,8 @@ impl CacheString {
     ///
     /// ```text
     /// ensures well_formed { IsOk result ↔ IsWellFormed given.now }
-    /// ensures cut { (t : List ℕ) → IsText t → bytes t ≡ given.now → IfOk result (λ made. made.0.text ≡ cut t 63) }
+    /// ensures cut { (t : List ℕ)
+    ///     → IsText t → bytes t ≡ given.now → IfOk result (λ made. made.0.text ≡ cut t 63) }
     /// ensures text { IfOk result (λ made. IsText made.0.text) }
     /// ```
     ///
@@ -381,7 +394,9 @@ impl CacheString {
     /// <details><summary>Contract</summary>
     ///
     /// ```text
-    /// ensures { (items : List Unit16) → IsReading units.now items → GivesWhole (first_stop items 63) (held result) }
+    /// ensures whole { (items : List Unit16)
+    ///     → IsReading units.now items → GivesWhole (first_stop items 63) (held result) }
+    /// ensures units { IfOk result (λ made. text_units made.0.text ≡ units.now) }
     /// ```
     ///
     /// [How to read a contract](crate::contracts)
@@ -415,7 +430,8 @@ impl CacheString {
     /// <details><summary>Contract</summary>
     ///
     /// ```text
-    /// ensures { (items : List Unit16) → IsReading units.now items → GivesPrefix (first_stop items 63) (held result) }
+    /// ensures { (items : List Unit16)
+    ///     → IsReading units.now items → GivesPrefix (first_stop items 63) (held result) }
     /// ```
     ///
     /// [How to read a contract](crate::contracts)
@@ -442,7 +458,8 @@ impl CacheString {
     /// <details><summary>Contract</summary>
     ///
     /// ```text
-    /// ensures { (items : List Unit16) → IsReading units.now items → result.0.text ≡ cut (lossy_text items) 63 }
+    /// ensures { (items : List Unit16)
+    ///     → IsReading units.now items → result.0.text ≡ cut (lossy_text items) 63 }
     /// ```
     ///
     /// [How to read a contract](crate::contracts)
@@ -480,7 +497,8 @@ impl CacheString {
     /// <details><summary>Contract</summary>
     ///
     /// ```text
-    /// ensures { Makes (split self.old.0.text at) self.old.0.text (with_text (held result)) self.new.0.text }
+    /// ensures { Makes (split self.old.0.text at) self.old.0.text
+    ///     (with_text (held result)) self.new.0.text }
     /// ```
     ///
     /// [How to read a contract](crate::contracts)
@@ -550,11 +568,14 @@ impl CacheString {
     /// <details><summary>Contract</summary>
     ///
     /// ```text
-    /// requires ends { IsFiniteIterable I.into_iter_gives I.IntoIter.can_next I.IntoIter.remaining pieces }
+    /// requires ends { IsFiniteIterable I.into_iter_gives I.IntoIter.can_next
+    ///     I.IntoIter.remaining pieces }
     /// requires fits { Fits I.into_iter_gives I.IntoIter.next_gives joined_pieces pieces 63 }
-    /// ensures taken { (taken : List (Bor (List ℕ))) × TakesAll I.into_iter_gives I.IntoIter.next_gives pieces taken
+    /// ensures taken { (taken : List (Bor (List ℕ)))
+    ///     × TakesAll I.into_iter_gives I.IntoIter.next_gives pieces taken
     ///     × (result.0.text ≡ joined_pieces taken) }
-    /// ensures whole { (all : List (List ℕ)) → Gives I.into_iter_gives I.IntoIter.next_gives piece_text pieces all
+    /// ensures whole { (all : List (List ℕ))
+    ///     → Gives I.into_iter_gives I.IntoIter.next_gives piece_text pieces all
     ///     → result.0.text ≡ joined all }
     /// ```
     ///
@@ -586,11 +607,14 @@ impl CacheString {
     /// <details><summary>Contract</summary>
     ///
     /// ```text
-    /// requires ends { IsFiniteIterable I.into_iter_gives I.IntoIter.can_next I.IntoIter.remaining characters }
+    /// requires ends { IsFiniteIterable I.into_iter_gives I.IntoIter.can_next
+    ///     I.IntoIter.remaining characters }
     /// requires fits { Fits I.into_iter_gives I.IntoIter.next_gives (λ cs. cs) characters 63 }
-    /// ensures taken { (taken : List ℕ) × TakesAll I.into_iter_gives I.IntoIter.next_gives characters taken
+    /// ensures taken { (taken : List ℕ)
+    ///     × TakesAll I.into_iter_gives I.IntoIter.next_gives characters taken
     ///     × (result.0.text ≡ taken) }
-    /// ensures whole { (all : List ℕ) → Gives I.into_iter_gives I.IntoIter.next_gives (λ c. c) characters all
+    /// ensures whole { (all : List ℕ)
+    ///     → Gives I.into_iter_gives I.IntoIter.next_gives (λ c. c) characters all
     ///     → result.0.text ≡ all }
     /// ```
     ///

@@ -112,6 +112,7 @@
 //! | Written | Read | Example |
 //! |---|---|---|
 //! | `List Unit16` | a list of characters and lone surrogates | `[Char('a'), Lone(0xD800)]` |
+//! | `text_units t` | the UTF-16 of a text | `text_units "🤔"` is `[0xD83E, 0xDD14]` |
 //! | `IsReading u l` | the units `u` are read as the items `l`, and there is no other reading | `[0xD83E, 0xDD14]` is `[Char('🤔')]` |
 //! | `first_stop l n` | the longest prefix of characters of `l` that takes at most `n` bytes, and what comes right after it | `"a"` and `Char('b')` of `"ab"` at 1 |
 //! | `GivesWhole s r` | of a stop `s`: if nothing comes after its characters, `r` is `Ok` of them; after a lone surrogate `r` is `Err(Utf16)`; after a character it is `Err(OutOfBounds)` | `"a"` and then `Lone(0xD800)`: `Err(Utf16)` |

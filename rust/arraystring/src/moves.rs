@@ -31,7 +31,8 @@
 /// ```text
 /// requires source { from + len ≤ N }
 /// requires target { to + len ≤ N }
-/// ensures bytes { array.new ≡ take to array.old ++ (take len (drop from array.old) ++ drop (to + len) array.old) }
+/// ensures bytes { array.new
+///     ≡ take to array.old ++ (take len (drop from array.old) ++ drop (to + len) array.old) }
 /// ```
 ///
 /// [How to read a contract](crate::contracts)

@@ -23,7 +23,8 @@ use std::str::FromStr;
 impl<'a> Add<&'a str> for CacheString {
     type Output = Self;
 
-    ghost add_gives = { λ s given sum. Makes (addition_of_cut s.0.text (chars given.now) 63) s.0.text (Ok tt) sum.0.text };
+    ghost add_gives = { λ s given sum.
+        Makes (addition_of_cut s.0.text (chars given.now) 63) s.0.text (Ok tt) sum.0.text };
 
     fn add(self, given: &'a str) -> Self {
         CacheString(self.0 + given)
@@ -69,7 +70,8 @@ impl From<ArrayString<63>> for CacheString {
 impl FromStr for CacheString {
     type Err = OutOfBounds;
 
-    ghost from_str_gives = { λ string result. IsWholeOrRefused (chars string) 63 (from_out_of_bounds (held result)) };
+    ghost from_str_gives = { λ string result.
+        IsWholeOrRefused (chars string) 63 (from_out_of_bounds (held result)) };
 
     /// Creates a string from `string`.
     ///
@@ -85,7 +87,8 @@ impl FromStr for CacheString {
 impl Hash for CacheString {
     ghost hash_input = { λ s. fed.str (bytes s.0.text) };
 
-    ghost respects_eq = { (fed.on_Alike (λ s. s.0.text) (fed.same_Alike (λ t. fed.str (bytes t)) bytes_decides)).fed };
+    ghost respects_eq = { (fed.on_Alike (λ s. s.0.text)
+        (fed.same_Alike (λ t. fed.str (bytes t)) bytes_decides)).fed };
 
     fn hash<H: Hasher>(&self, state: &mut H) {
         self.0.hash(state);
@@ -106,7 +109,8 @@ impl Ord for CacheString {
     /// less than it. It is the order of the bytes of UTF-8 too.
     fn cmp(&self, other: &Self) -> Ordering
         ensures order { result ≡ slice_cmp nat_cmp self.now.0.text other.now.0.text }
-        ensures of_bytes { result ≡ slice_cmp nat_cmp (bytes self.now.0.text) (bytes other.now.0.text) }
+        ensures of_bytes { result
+            ≡ slice_cmp nat_cmp (bytes self.now.0.text) (bytes other.now.0.text) }
         ensures says { MatchOrdering result
             (IsBefore self.now.0.text other.now.0.text)
             (self.now.0.text ≡ other.now.0.text)

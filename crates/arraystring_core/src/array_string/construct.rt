@@ -1,5 +1,5 @@
 //! The constructors: from a `&str`, from pieces, from characters and from bytes of UTF-8.
-ghost use Rattle.std.specs.Prelude.{◌≡◌, ℕ, ◌↔◌, List, Err, IsOk, IfOk, chars};
+ghost use Rattle.std.specs.Prelude.{◌≡◌, ℕ, ◌≤◌, ◌↔◌, List, Err, IsOk, IfOk, chars, length};
 ghost use Rattle.std.specs.Borrow.{Bor};
 ghost use Rattle.std.specs.Iterator.{IsFiniteIterable};
 ghost use Rattle.arraystring_base.specs.Text.{bytes, cap, cut, IsText, IsWellFormed};
@@ -150,6 +150,7 @@ impl<const N: usize> ArrayString<N> {
         ensures too_large { result ≡ Err Error.OutOfBounds → IsWellFormed given.now }
         ensures whole { (t : List ℕ) → IsText t → bytes t ≡ given.now
             → IsWholeOrRefused t (cap N) result }
+        ensures made { IsOk result ↔ (IsWellFormed given.now × (length given.now ≤ cap N)) }
         ensures bytes { IfOk result (λ made. bytes made.text ≡ given.now) }
         ensures text { IfOk result (λ made. IsText made.text) }
     {

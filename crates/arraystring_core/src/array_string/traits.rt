@@ -97,7 +97,8 @@ impl<const N: usize> FromStr for ArrayString<N> {
 impl<const N: usize> Hash for ArrayString<N> {
     ghost hash_input = { λ s. fed.str (bytes s.text) };
 
-    ghost respects_eq = { (fed.on_Alike (λ s. s.text) (fed.same_Alike (λ t. fed.str (bytes t)) bytes_decides)).fed };
+    ghost respects_eq = { (fed.on_Alike (λ s. s.text)
+        (fed.same_Alike (λ t. fed.str (bytes t)) bytes_decides)).fed };
 
     fn hash<H: Hasher>(&self, state: &mut H) {
         self.as_str().hash(state);

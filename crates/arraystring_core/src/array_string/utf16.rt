@@ -1,8 +1,8 @@
 //! Strings from UTF-16.
-ghost use Rattle.std.specs.Prelude.{◌≡◌, [], List};
+ghost use Rattle.std.specs.Prelude.{◌≡◌, [], List, IfOk};
 ghost use Rattle.arraystring_base.specs.declared.utf16.Unit16.{Unit16};
 ghost use Rattle.arraystring_base.specs.Text.{cap, cut};
-ghost use Rattle.arraystring_base.specs.Utf16.{IsReading, first_stop, shown, lossy_text};
+ghost use Rattle.arraystring_base.specs.Utf16.{IsReading, first_stop, shown, lossy_text, text_units};
 ghost use Rattle.arraystring_core.specs.FromUtf16.{GivesWhole, GivesPrefix, stop_at};
 
 use crate::ArrayString;
@@ -22,8 +22,9 @@ impl<const N: usize> ArrayString<N> {
     /// - `Err(Error::Utf16)` if it is a lone surrogate;
     /// - `Err(Error::OutOfBounds)` if it is a character that does not fit.
     pub fn try_from_utf16(units: &[u16]) -> Result<Self, Error>
-        ensures { (items : List Unit16) → IsReading units.now items
+        ensures whole { (items : List Unit16) → IsReading units.now items
             → GivesWhole (first_stop items (cap N)) result }
+        ensures units { IfOk result (λ made. text_units made.text ≡ units.now) }
     {
         let mut made = Self::new();
         match made.add_units(units) {

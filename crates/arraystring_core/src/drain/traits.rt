@@ -57,7 +57,8 @@ impl<const N: usize> FusedIterator for Drain<N> {}
 impl<const N: usize> Hash for Drain<N> {
     ghost hash_input = { λ s. fed.str (bytes s.left) };
 
-    ghost respects_eq = { (fed.on_Alike (λ s. s.left) (fed.same_Alike (λ t. fed.str (bytes t)) bytes_decides)).fed };
+    ghost respects_eq = { (fed.on_Alike (λ s. s.left)
+        (fed.same_Alike (λ t. fed.str (bytes t)) bytes_decides)).fed };
 
     fn hash<H: Hasher>(&self, state: &mut H) {
         self.as_str().hash(state);

@@ -296,6 +296,7 @@ impl<const N: usize> ArrayString<N> {
     /// ensures too_large { result ≡ Err Error.OutOfBounds → IsWellFormed given.now }
     /// ensures whole { (t : List ℕ) → IsText t → bytes t ≡ given.now
     ///     → IsWholeOrRefused t (cap N) result }
+    /// ensures made { IsOk result ↔ (IsWellFormed given.now × (length given.now ≤ cap N)) }
     /// ensures bytes { IfOk result (λ made. bytes made.text ≡ given.now) }
     /// ensures text { IfOk result (λ made. IsText made.text) }
     /// ```

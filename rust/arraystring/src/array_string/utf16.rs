@@ -32,8 +32,9 @@ impl<const N: usize> ArrayString<N> {
     /// <details><summary>Contract</summary>
     ///
     /// ```text
-    /// ensures { (items : List Unit16) → IsReading units.now items
+    /// ensures whole { (items : List Unit16) → IsReading units.now items
     ///     → GivesWhole (first_stop items (cap N)) result }
+    /// ensures units { IfOk result (λ made. text_units made.text ≡ units.now) }
     /// ```
     ///
     /// [How to read a contract](crate::contracts)

@@ -240,7 +240,8 @@ impl Ord for CacheString {
     ///
     /// ```text
     /// ensures order { result ≡ slice_cmp nat_cmp self.now.0.text other.now.0.text }
-    /// ensures of_bytes { result ≡ slice_cmp nat_cmp (bytes self.now.0.text) (bytes other.now.0.text) }
+    /// ensures of_bytes { result
+    ///     ≡ slice_cmp nat_cmp (bytes self.now.0.text) (bytes other.now.0.text) }
     /// ensures says { MatchOrdering result
     ///     (IsBefore self.now.0.text other.now.0.text)
     ///     (self.now.0.text ≡ other.now.0.text)
