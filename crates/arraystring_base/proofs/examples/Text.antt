@@ -103,6 +103,10 @@ cut-behind_a_character : cut (codes "aé") 3 ≡ codes "aé"
 unfolding width
 cut-behind_a_character = refl
 
+cut-of_wide_characters : cut (codes "🤔🤔🤔") 9 ≡ codes "🤔🤔"
+unfolding width
+cut-of_wide_characters = refl
+
 cut-past_the_text : cut (codes "aé") 4 ≡ codes "aé"
 unfolding width
 cut-past_the_text = refl
@@ -125,6 +129,10 @@ back-at_each_index : (back (codes "aé") 0 ≡ codes "aé") × (back (codes "aé
     × (back (codes "aé") 3 ≡ []) × (back (codes "aé") 4 ≡ [])
 unfolding width
 back-at_each_index = (refl, refl, refl, refl, refl)
+
+back-of_wide_characters : back (codes "🤔🤔🤔") 8 ≡ codes "🤔"
+unfolding width
+back-of_wide_characters = refl
 
 boundary-at_each_index : (boundary (codes "aé") 0 ≡ true) × (boundary (codes "aé") 1 ≡ true) × (boundary (codes "aé") 2 ≡ false)
     × (boundary (codes "aé") 3 ≡ true) × (boundary (codes "aé") 4 ≡ false)
