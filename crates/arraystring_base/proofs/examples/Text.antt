@@ -171,11 +171,11 @@ IsLongestFitting-too_short : IsLongestFitting [] (codes "aé") 2 → ⊥
 unfolding width
 IsLongestFitting-too_short is = grind (arith, is.longest (codes "a") (codes "é", refl) (omega arith))
 
-IsBefore-a_longer_text : IsBefore (codes "a") (codes "ab")
-IsBefore-a_longer_text = inl (0x62, [], refl)
+IsBefore-the_shorter_text : IsBefore (codes "a") (codes "ab")
+IsBefore-the_shorter_text = inl (0x62, [], refl)
 
-IsBefore-a_greater_character : IsBefore (codes "ab") (codes "b")
-IsBefore-a_greater_character = inr ([], 0x61, 0x62, codes "b", [], refl, refl, omega arith)
+IsBefore-the_lesser_character : IsBefore (codes "ab") (codes "b")
+IsBefore-the_lesser_character = inr ([], 0x61, 0x62, codes "b", [], refl, refl, omega arith)
 
 -- (by their numbers: the UTF-16 of the first would be greater)
 IsBefore-the_last_of_three_bytes : IsBefore (0xFFFF ∷ []) (0x1_0000 ∷ [])
@@ -186,3 +186,16 @@ IsBefore-not_itself (inl (c, rest, e)) = cc
 IsBefore-not_itself (inr ([], c, d, x, y, a, b, lt)) = grind arith
 IsBefore-not_itself (inr (p ∷ [], c, d, x, y, a, b, lt)) = cc
 IsBefore-not_itself (inr (p ∷ q ∷ ps, c, d, x, y, a, b, lt)) = cc
+
+-- (a later character of the one is no match for an earlier one of the other)
+IsBefore-not_the_longer_text : IsBefore (codes "ba") (codes "b") → ⊥
+IsBefore-not_the_longer_text (inl (c, rest, e)) = grind arith
+IsBefore-not_the_longer_text (inr ([], c, d, x, y, a, b, lt)) = grind arith
+IsBefore-not_the_longer_text (inr (p ∷ [], c, d, x, y, a, b, lt)) = grind arith
+IsBefore-not_the_longer_text (inr (p ∷ q ∷ ps, c, d, x, y, a, b, lt)) = grind arith
+
+IsBefore-not_the_greater_character : IsBefore (codes "b") (codes "ac") → ⊥
+IsBefore-not_the_greater_character (inl (c, rest, e)) = grind arith
+IsBefore-not_the_greater_character (inr ([], c, d, x, y, a, b, lt)) = grind arith
+IsBefore-not_the_greater_character (inr (p ∷ [], c, d, x, y, a, b, lt)) = grind arith
+IsBefore-not_the_greater_character (inr (p ∷ q ∷ ps, c, d, x, y, a, b, lt)) = grind arith

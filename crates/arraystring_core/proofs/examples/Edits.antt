@@ -6,7 +6,7 @@ use Rattle.arraystring_base.specs.declared.error.Error.TheVariants as error
 use Rattle.arraystring_base.specs.declared.error.OutOfBounds.{OutOfBounds}
 use Rattle.arraystring_base.specs.declared.error.Utf8.{Utf8}
 use Rattle.arraystring_core.specs.Stored.{string_of}
-use Rattle.arraystring_core.specs.WhiteSpace.{is_space}
+use Rattle.arraystring_core.specs.WhiteSpace.{is_space, is_white_space}
 use Rattle.arraystring_core.specs.Edits.{Past, Room, Inside, error_of, past, crossed, at_end, inside, no_room, first_cause, ok_unless, result_of, text_of, Makes, from_out_of_bounds, from_utf8_error, with_text, addition, addition_of_cut, popping, insertion, insertion_of_cut, truncation, trimming, removal, clearing, split, uppercase, lowercase, draining, replacement}
 
 -- causes and tests
@@ -155,6 +155,11 @@ insertion-no_room : Makes (insertion (codes "aé") 1 (codes "x") 3) (codes "aé"
 unfolding width
 insertion-no_room = record { returns = refl; ok = tt; err = refl }
 
+-- the error is the same, but only a refusal for room is tight
+insertion-past_before_room : first_cause (insertion (codes "aé") 4 (codes "xy") 4).tests ≡ Some Past
+unfolding width
+insertion-past_before_room = refl
+
 insertion-room_before_inside : Makes (insertion (codes "🤔") 1 (codes "x") 4) (codes "🤔") (Err error.OutOfBounds) (codes "🤔")
 unfolding width
 insertion-room_before_inside = record { returns = refl; ok = tt; err = refl }
@@ -186,6 +191,11 @@ truncation-inside_a_character = record { returns = refl; ok = tt; err = refl }
 
 trimming-both_ends : Makes (trimming is_space (codes " a b ")) (codes " a b ") (Ok tt) (codes "a b")
 trimming-both_ends = record { returns = refl; ok = refl; err = tt }
+
+-- a tab and U+3000 are white space, and no spaces
+trimming-what_passes : Makes (trimming is_white_space (0x09 ∷ 0x61 ∷ 0x3000 ∷ [])) (0x09 ∷ 0x61 ∷ 0x3000 ∷ []) (Ok tt) (codes "a")
+unfolding is_white_space
+trimming-what_passes = record { returns = refl; ok = refl; err = tt }
 
 removal-between : Makes (removal (codes "aéb") 1) (codes "aéb") (Ok 0xE9) (codes "ab")
 unfolding width
@@ -272,6 +282,14 @@ replacement-reversed = record { returns = refl; ok = tt; err = refl }
 replacement-past_before_inside : Makes (replacement (codes "aé") 2 4 (codes "x") 9) (codes "aé") (Err error.OutOfBounds) (codes "aé")
 unfolding width
 replacement-past_before_inside = record { returns = refl; ok = tt; err = refl }
+
+replacement-past_before_room : first_cause (replacement (codes "aé") 1 4 (codes "xyz") 3).tests ≡ Some Past
+unfolding width
+replacement-past_before_room = refl
+
+replacement-reversed_before_room : first_cause (replacement (codes "aé") 3 1 (codes "xyz") 3).tests ≡ Some Past
+unfolding width
+replacement-reversed_before_room = refl
 
 replacement-room_before_inside : Makes (replacement (codes "🤔") 1 1 (codes "x") 4) (codes "🤔") (Err error.OutOfBounds) (codes "🤔")
 unfolding width
