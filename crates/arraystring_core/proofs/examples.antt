@@ -10,3 +10,5 @@ mod RangeEnds
 mod Drained
 mod FromUtf16
 mod Json
+mod Ascii
+mod Splice

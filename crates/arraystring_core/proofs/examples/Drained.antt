@@ -3,7 +3,7 @@ use Rattle.std.proofs.Common.{◌≡◌, [], ◌∷◌, refl, codes, Some, None,
 use Rattle.arraystring_base.specs.Text.{width}
 use Rattle.arraystring_base.specs.declared.error.Error.TheVariants as error
 use Rattle.arraystring_core.specs.Stored.{string_of}
-use Rattle.arraystring_core.specs.Drained.{Drained, drained, with_left, Front, Back, Walked, from_front, from_back, walked}
+use Rattle.arraystring_core.specs.Drained.{Drained, drained, removed_of, with_left, Front, Back, Walked, from_front, from_back, walked}
 
 -- of `aé`, 'a' was given from the front
 abbrev rest : Drained
@@ -15,6 +15,9 @@ Drained-left_and_yielded = (refl, refl)
 drained-from_an_index_on : drained (string_of (codes "aé")) 1 ≡ rest
 unfolding width
 drained-from_an_index_on = refl
+
+removed_of-both_parts : removed_of rest ≡ string_of (codes "aé")
+removed_of-both_parts = refl
 
 with_left-of_each_result : (with_left (Ok rest) ≡ Ok (codes "é")) × (with_left (Err error.Utf8) ≡ Err error.Utf8)
 with_left-of_each_result = (refl, refl)

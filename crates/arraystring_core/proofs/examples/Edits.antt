@@ -1,13 +1,13 @@
 -- Examples of the table of edits. `Makes ROW t result new` says that an edit of the text t returns the result and leaves the text
 -- new. 'é' takes two bytes and '🤔' four; the last number of a row is the capacity, where it has one.
-use Rattle.std.proofs.Common.{◌≡◌, ℕ, [], ◌∷◌, refl, codes, true, false, Some, None, Ok, Err}
+use Rattle.std.proofs.Common.{◌≡◌, ℕ, [], ◌∷◌, refl, codes, true, false, Some, None, Ok, Err, inl, inr, arith}
 use Rattle.arraystring_base.specs.Text.{width}
 use Rattle.arraystring_base.specs.declared.error.Error.TheVariants as error
 use Rattle.arraystring_base.specs.declared.error.OutOfBounds.{OutOfBounds}
 use Rattle.arraystring_base.specs.declared.error.Utf8.{Utf8}
 use Rattle.arraystring_core.specs.Stored.{string_of}
 use Rattle.arraystring_core.specs.WhiteSpace.{is_space, is_white_space}
-use Rattle.arraystring_core.specs.Edits.{Past, Room, Inside, error_of, past, crossed, at_end, inside, no_room, first_cause, ok_unless, result_of, text_of, Makes, from_out_of_bounds, from_utf8_error, with_text, addition, addition_of_cut, popping, insertion, insertion_of_cut, truncation, trimming, removal, clearing, split, uppercase, lowercase, draining, replacement}
+use Rattle.arraystring_core.specs.Edits.{Past, Room, Inside, error_of, past, crossed, at_end, inside, no_room, first_cause, NoneHolds, FirstHolds, ok_unless, result_of, text_of, Makes, from_out_of_bounds, from_utf8_error, with_text, addition, addition_of_cut, popping, insertion, insertion_of_cut, truncation, trimming, removal, clearing, split, uppercase, lowercase, draining, replacement}
 
 -- causes and tests
 
@@ -69,6 +69,27 @@ first_cause-of_two_that_hold = refl
 
 first_cause-the_second : first_cause (no_room 4 4 ∷ crossed 2 1 ∷ []) ≡ Some Past
 first_cause-the_second = refl
+
+NoneHolds-of_two : NoneHolds [] × NoneHolds (no_room 4 4 ∷ crossed 1 2 ∷ [])
+NoneHolds-of_two = (tt, (refl, (refl, tt)))
+
+NoneHolds-not_the_first : NoneHolds (no_room 5 4 ∷ crossed 1 2 ∷ []) → ⊥
+NoneHolds-not_the_first none = cc (none.0)
+
+NoneHolds-not_the_second : NoneHolds (no_room 4 4 ∷ crossed 2 1 ∷ []) → ⊥
+NoneHolds-not_the_second none = cc (none.1.0)
+
+FirstHolds-the_first : FirstHolds (no_room 5 4 ∷ crossed 2 1 ∷ []) Room
+FirstHolds-the_first = inl (refl, refl)
+
+FirstHolds-the_second : FirstHolds (no_room 4 4 ∷ crossed 2 1 ∷ []) Past
+FirstHolds-the_second = inr (refl, inl (refl, refl))
+
+FirstHolds-not_the_second_of_two : FirstHolds (no_room 5 4 ∷ crossed 2 1 ∷ []) Past → ⊥
+FirstHolds-not_the_second_of_two first = grind arith
+
+FirstHolds-not_one_that_does_not_hold : FirstHolds (no_room 4 4 ∷ []) Room → ⊥
+FirstHolds-not_one_that_does_not_hold first = grind arith
 
 -- rows
 

@@ -1,11 +1,12 @@
 -- Examples of what the constructors from UTF-16 return, by where the reading stops: at its end, at a lone surrogate (a fault), or at a
 -- character that does not fit (full).
-use Rattle.std.proofs.Common.{refl, arith, codes, Ok, Err}
+use Rattle.std.proofs.Common.{◌≡◌, refl, arith, codes, Some, None, Ok, Err}
 use Rattle.arraystring_base.specs.Utf16.{End, Fault, Full}
 use Rattle.arraystring_base.specs.declared.error.Error.TheVariants as error
 use Rattle.arraystring_base.specs.declared.error.Utf16.{Utf16}
+use Rattle.arraystring_base.specs.declared.utf16.Unit16.TheVariants.{Char, Lone}
 use Rattle.arraystring_core.specs.Stored.{string_of}
-use Rattle.arraystring_core.specs.FromUtf16.{GivesWhole, GivesPrefix}
+use Rattle.arraystring_core.specs.FromUtf16.{GivesWhole, GivesPrefix, stop_at}
 
 GivesWhole-all : GivesWhole (End (codes "ab")) (Ok (string_of (codes "ab")))
 GivesWhole-all = refl
@@ -58,3 +59,7 @@ GivesPrefix-not_cut_shorter gives = grind (arith, gives)
 -- what is too long is cut, and not refused
 GivesPrefix-no_error_of_no_room : (e : Utf16) → GivesPrefix (Full (codes "ab")) (Err e) → ⊥
 GivesPrefix-no_error_of_no_room e gives = gives
+
+stop_at-each_item : (stop_at None (codes "ab") ≡ End (codes "ab")) × (stop_at (Some (Lone 0xD800)) (codes "ab") ≡ Fault (codes "ab"))
+    × (stop_at (Some (Char 0x63)) (codes "ab") ≡ Full (codes "ab"))
+stop_at-each_item = (refl, refl, refl)

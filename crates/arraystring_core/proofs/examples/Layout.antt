@@ -3,8 +3,8 @@ use Rattle.std.proofs.Common.{◌≡◌, ℕ, List, [], ◌∷◌, refl, arith, 
 use Rattle.std.proofs.Math.Utf8.{encode}
 use Rattle.std.specs.Str.{chars, is_utf8}
 use Rattle.std.proofs.lemmas.Str.{IsUtf8-from_is_utf8, is_utf8-from_IsUtf8, IsUtf8-had}
-use Rattle.arraystring_base.specs.Text.{width}
-use Rattle.arraystring_core.specs.Layout.{stored, IsStored, IsDrained}
+use Rattle.arraystring_base.specs.Text.{width, utf8}
+use Rattle.arraystring_core.specs.Layout.{stored, IsStored, IsDrained, start_of, array_of}
 
 stored-from_offset_1 : stored (codes "xab.") 1 2 ≡ record { text = codes "ab"; spare = 1 ∷ codes "x." }
 unfolding chars
@@ -41,3 +41,10 @@ IsDrained-not_inside_a_character is = cc (is.at)
 
 IsDrained-not_past_the_capacity : IsDrained 4 (codes "xab.") 3 2 0 → ⊥
 IsDrained-not_past_the_capacity is = IsStored-not_past_the_capacity is.in_array
+
+start_of-the_first_number : start_of (record { text = codes "ab"; spare = 1 ∷ codes "x." }) ≡ 1
+start_of-the_first_number = refl
+
+array_of-text_and_spare : array_of (record { text = codes "aé"; spare = 1 ∷ codes "x." }) ≡ 0x78 ∷ 0x61 ∷ 0xC3 ∷ 0xA9 ∷ 0x2E ∷ []
+unfolding utf8
+array_of-text_and_spare = refl

@@ -1,7 +1,8 @@
 -- Examples of a closure that is called with characters. This one counts its calls, and may be called while it counts less than two.
 use Rattle.std.proofs.Common.{◌≡◌, ◌+◌, ◌<◌, ℕ, Bool, List, [], ◌∷◌, ◌++◌, refl, arith, codes, true}
 use Rattle.std.specs.List.{FoldsTo}
-use Rattle.arraystring_core.specs.Retain.{IsCallableInTurn}
+use Rattle.arraystring_core.specs.Retain.{IsCallableInTurn, ReturnsAs}
+use Rattle.arraystring_core.specs.WhiteSpace.{is_space}
 
 abbrev can : ℕ → ℕ → Type 0
 can calls c = calls < 2
@@ -22,3 +23,16 @@ IsCallableInTurn-twice = record { at = at }
 IsCallableInTurn-not_a_third_time : IsCallableInTurn can steps 0 (codes "abc") → ⊥
 IsCallableInTurn-not_a_third_time is =
     omega (arith, is.at (codes "ab") 0x63 [] 2 refl (1, (true, refl), (2, (true, refl), refl)))
+
+-- a closure that tells spaces, and one that returns anything
+abbrev tells : Unit {0} → ℕ → Bool → Type 0
+tells f c answer = answer ≡ is_space c
+
+abbrev guesses : Unit {0} → ℕ → Bool → Type 0
+guesses f c answer = answer ≡ answer
+
+ReturnsAs-it_tells : ReturnsAs tells tt is_space
+ReturnsAs-it_tells = record { at = λ c b returns. returns }
+
+ReturnsAs-not_if_it_guesses : ReturnsAs guesses tt is_space → ⊥
+ReturnsAs-not_if_it_guesses is = cc (is.at 0x61 true refl)
