@@ -138,7 +138,8 @@ StopsAt-not_full_before_what_fits : StopsAt (Char 0x61 ∷ Char 0xE9 ∷ []) 3 (
 unfolding width
 StopsAt-not_full_before_what_fits is = grind (arith, nat_tests)
 
-stop_behind-keeps_the_kind : (stop_behind 0x61 (End (codes "b")) ≡ End (codes "ab")) × (stop_behind 0x61 (Fault (codes "b")) ≡ Fault (codes "ab"))
+stop_behind-keeps_the_kind : (stop_behind 0x61 (End (codes "b")) ≡ End (codes "ab"))
+    × (stop_behind 0x61 (Fault (codes "b")) ≡ Fault (codes "ab"))
     × (stop_behind 0x61 (Full (codes "b")) ≡ Full (codes "ab"))
 stop_behind-keeps_the_kind = (refl, refl, refl)
 

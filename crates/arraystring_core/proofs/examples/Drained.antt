@@ -51,7 +51,8 @@ walked-both_ends : walked (Front ∷ Back ∷ []) (codes "A🤔B") ≡ both_ends
 walked-both_ends = refl
 
 -- the last character comes from the end that asks first, and then both give nothing
-walked-past_the_end : walked (Front ∷ Back ∷ Front ∷ Back ∷ Front ∷ []) (codes "A🤔B") ≡ record { fronts = codes "A🤔"; left = []; backs = codes "B" }
+walked-past_the_end : walked (Front ∷ Back ∷ Front ∷ Back ∷ Front ∷ []) (codes "A🤔B")
+    ≡ record { fronts = codes "A🤔"; left = []; backs = codes "B" }
 walked-past_the_end = refl
 
 walked-backs_in_the_order_given : walked (Back ∷ Back ∷ Back ∷ []) (codes "ABC") ≡ record { fronts = []; left = []; backs = codes "CBA" }

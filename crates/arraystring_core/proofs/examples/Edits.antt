@@ -31,10 +31,12 @@ past-not_at_its_end = refl
 crossed-reversed : crossed 2 1 ≡ record { holds = true; cause = Past }
 crossed-reversed = refl
 
-crossed-not_empty_or_in_order : (crossed 1 1 ≡ record { holds = false; cause = Past }) × (crossed 1 2 ≡ record { holds = false; cause = Past })
+crossed-not_empty_or_in_order : (crossed 1 1 ≡ record { holds = false; cause = Past })
+    × (crossed 1 2 ≡ record { holds = false; cause = Past })
 crossed-not_empty_or_in_order = (refl, refl)
 
-at_end-and_past_it : (at_end (codes "ab") 2 ≡ record { holds = true; cause = Past }) × (at_end (codes "ab") 3 ≡ record { holds = true; cause = Past })
+at_end-and_past_it : (at_end (codes "ab") 2 ≡ record { holds = true; cause = Past })
+    × (at_end (codes "ab") 3 ≡ record { holds = true; cause = Past })
 unfolding width
 at_end-and_past_it = (refl, refl)
 
@@ -46,7 +48,8 @@ inside-a_character : inside (codes "aé") 2 ≡ record { holds = true; cause = I
 unfolding width
 inside-a_character = refl
 
-inside-not_at_a_boundary : (inside (codes "aé") 0 ≡ record { holds = false; cause = Inside }) × (inside (codes "aé") 1 ≡ record { holds = false; cause = Inside })
+inside-not_at_a_boundary : (inside (codes "aé") 0 ≡ record { holds = false; cause = Inside })
+    × (inside (codes "aé") 1 ≡ record { holds = false; cause = Inside })
     × (inside (codes "aé") 3 ≡ record { holds = false; cause = Inside })
 unfolding width
 inside-not_at_a_boundary = (refl, refl, refl)
@@ -93,7 +96,8 @@ FirstHolds-not_one_that_does_not_hold first = grind arith
 
 -- rows
 
-Edit-tests_result_and_text : ((popping (codes "ab")).tests ≡ []) × ((popping (codes "ab")).result ≡ Some 0x62) × ((popping (codes "ab")).after ≡ codes "a")
+Edit-tests_result_and_text : ((popping (codes "ab")).tests ≡ [])
+    × ((popping (codes "ab")).result ≡ Some 0x62) × ((popping (codes "ab")).after ≡ codes "a")
 Edit-tests_result_and_text = (refl, refl, refl)
 
 ok_unless-there_is_a_cause : (ok_unless None (codes "a") ≡ Ok (codes "a")) × (ok_unless (Some Inside) (codes "a") ≡ Err error.Utf8)
@@ -103,7 +107,8 @@ result_of-done_and_refused : (result_of (split (codes "aé") 1) ≡ Ok (codes "�
 unfolding width
 result_of-done_and_refused = (refl, refl)
 
-text_of-done_and_refused : (text_of (split (codes "aé") 1) (codes "aé") ≡ codes "a") × (text_of (split (codes "aé") 2) (codes "aé") ≡ codes "aé")
+text_of-done_and_refused : (text_of (split (codes "aé") 1) (codes "aé") ≡ codes "a")
+    × (text_of (split (codes "aé") 2) (codes "aé") ≡ codes "aé")
 unfolding width
 text_of-done_and_refused = (refl, refl)
 
@@ -123,10 +128,12 @@ Makes-no_other_text_when_done makes = cc (makes.ok)
 Makes-no_other_text_when_refused : Makes (removal (codes "é") 1) (codes "é") (Err error.Utf8) [] → ⊥
 Makes-no_other_text_when_refused makes = cc (makes.err)
 
-from_out_of_bounds-of_each_result : (from_out_of_bounds {E = OutOfBounds} (Ok (codes "a")) ≡ Ok (codes "a")) × ((e : OutOfBounds) → from_out_of_bounds {A = ℕ} (Err e) ≡ Err error.OutOfBounds)
+from_out_of_bounds-of_each_result : (from_out_of_bounds {E = OutOfBounds} (Ok (codes "a")) ≡ Ok (codes "a"))
+    × ((e : OutOfBounds) → from_out_of_bounds {A = ℕ} (Err e) ≡ Err error.OutOfBounds)
 from_out_of_bounds-of_each_result = (refl, λ e. refl)
 
-from_utf8_error-of_each_result : (from_utf8_error {E = Utf8} (Ok (codes "a")) ≡ Ok (codes "a")) × ((e : Utf8) → from_utf8_error {A = ℕ} (Err e) ≡ Err error.Utf8)
+from_utf8_error-of_each_result : (from_utf8_error {E = Utf8} (Ok (codes "a")) ≡ Ok (codes "a"))
+    × ((e : Utf8) → from_utf8_error {A = ℕ} (Err e) ≡ Err error.Utf8)
 from_utf8_error-of_each_result = (refl, λ e. refl)
 
 with_text-of_each_result : (with_text (Ok (string_of (codes "ab"))) ≡ Ok (codes "ab")) × (with_text (Err error.Utf8) ≡ Err error.Utf8)

@@ -10,11 +10,13 @@ json_text-of_two_characters : json_text (codes "aé") ≡ string (0x61 ∷ 0xC3 
 unfolding utf8
 json_text-of_two_characters = refl
 
-text_within-cut : (text_within (string (0x61 ∷ 0xC3 ∷ 0xA9 ∷ [])) 3 ≡ Some (codes "aé")) × (text_within (string (0x61 ∷ 0xC3 ∷ 0xA9 ∷ [])) 2 ≡ Some (codes "a"))
+text_within-cut : (text_within (string (0x61 ∷ 0xC3 ∷ 0xA9 ∷ [])) 3 ≡ Some (codes "aé"))
+    × (text_within (string (0x61 ∷ 0xC3 ∷ 0xA9 ∷ [])) 2 ≡ Some (codes "a"))
 unfolding chars width
 text_within-cut = (refl, refl)
 
-text_within-no_other_value : (text_within null 3 ≡ None) × (text_within (boolean true) 3 ≡ None) × (text_within (number (unsigned 7)) 3 ≡ None)
+text_within-no_other_value : (text_within null 3 ≡ None)
+    × (text_within (boolean true) 3 ≡ None) × (text_within (number (unsigned 7)) 3 ≡ None)
     × (text_within (array no_items) 3 ≡ None) × (text_within (object no_members) 3 ≡ None)
 text_within-no_other_value = (refl, refl, refl, refl, refl)
 

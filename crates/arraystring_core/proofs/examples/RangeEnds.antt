@@ -30,11 +30,13 @@ OfReturnedBounds-of_no_bounds of = of.holds
 saturated_start-each_bound : (saturated_start (Included 7) ≡ 7) × (saturated_start (Excluded 7) ≡ 8) × (saturated_start Unbounded ≡ 0)
 saturated_start-each_bound = (refl, refl, refl)
 
-saturated_start-at_255 : (saturated_start (Included 255) ≡ 255) × (saturated_start (Excluded 254) ≡ 255) × (saturated_start (Excluded 255) ≡ 255)
+saturated_start-at_255 : (saturated_start (Included 255) ≡ 255)
+    × (saturated_start (Excluded 254) ≡ 255) × (saturated_start (Excluded 255) ≡ 255)
 saturated_start-at_255 = (refl, refl, refl)
 
 saturated_end-each_bound : (saturated_end (Included 7) 9 ≡ 8) × (saturated_end (Excluded 7) 9 ≡ 7) × (saturated_end Unbounded 9 ≡ 9)
 saturated_end-each_bound = (refl, refl, refl)
 
-saturated_end-at_255 : (saturated_end (Included 254) 9 ≡ 255) × (saturated_end (Included 255) 9 ≡ 255) × (saturated_end (Excluded 255) 9 ≡ 255)
+saturated_end-at_255 : (saturated_end (Included 254) 9 ≡ 255)
+    × (saturated_end (Included 255) 9 ≡ 255) × (saturated_end (Excluded 255) 9 ≡ 255)
 saturated_end-at_255 = (refl, refl, refl)

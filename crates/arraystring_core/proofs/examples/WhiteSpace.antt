@@ -15,7 +15,8 @@ in_ranges-ends_of_the_first = (refl, refl, refl, refl)
 in_ranges-a_later_one : (in_ranges ((2, 3) ∷ (5, 5) ∷ []) 5 ≡ true) × (in_ranges ((2, 3) ∷ (5, 5) ∷ []) 6 ≡ false)
 in_ranges-a_later_one = (refl, refl)
 
-is_white_space-tab_to_return : (is_white_space 0x08 ≡ false) × (is_white_space 0x09 ≡ true) × (is_white_space 0x0D ≡ true) × (is_white_space 0x0E ≡ false)
+is_white_space-tab_to_return : (is_white_space 0x08 ≡ false) × (is_white_space 0x09 ≡ true)
+    × (is_white_space 0x0D ≡ true) × (is_white_space 0x0E ≡ false)
 unfolding is_white_space
 is_white_space-tab_to_return = (refl, refl, refl, refl)
 
@@ -36,11 +37,13 @@ unfolding is_white_space
 is_white_space-ogham = (refl, refl, refl)
 
 -- U+200B, the space of width zero, is none
-is_white_space-quads_to_hair : (is_white_space 0x1FFF ≡ false) × (is_white_space 0x2000 ≡ true) × (is_white_space 0x200A ≡ true) × (is_white_space 0x200B ≡ false)
+is_white_space-quads_to_hair : (is_white_space 0x1FFF ≡ false) × (is_white_space 0x2000 ≡ true)
+    × (is_white_space 0x200A ≡ true) × (is_white_space 0x200B ≡ false)
 unfolding is_white_space
 is_white_space-quads_to_hair = (refl, refl, refl, refl)
 
-is_white_space-separators : (is_white_space 0x2027 ≡ false) × (is_white_space 0x2028 ≡ true) × (is_white_space 0x2029 ≡ true) × (is_white_space 0x202A ≡ false)
+is_white_space-separators : (is_white_space 0x2027 ≡ false) × (is_white_space 0x2028 ≡ true)
+    × (is_white_space 0x2029 ≡ true) × (is_white_space 0x202A ≡ false)
 unfolding is_white_space
 is_white_space-separators = (refl, refl, refl, refl)
 
