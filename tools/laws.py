@@ -6,12 +6,12 @@ another page each that begins a piece of code, and an answer of a proof is none.
 with `start t` and `end t` are `front-start`, `front-end`, `back-start` and `back-end`.
 
 A lemma stands in a file of proofs/, and not in the folder of a function. `rt` proves each, also one that nothing names. A law
-that callers can cite needs no name here; a lemma does, and a page that names it is no use of it.
+that callers can cite needs no name here; a lemma does, and a page or an example that names it is no use of it.
 """
 import re
 from collections import Counter
 
-from repository import crates, inline_code, read
+from repository import crates, inline_code, proof_files, read
 
 NAME = r"[^\s(){}\[\];,.]+"
 FAMILY = re.compile(r"((?:`[^` ]+-`(?:, | and | ))+)with ((?:`[^`]+`(?:, | and )?)+)")
@@ -40,7 +40,8 @@ def passed_on(root, crate):
 
 def faults_of_pages(root, crate):
     """The names on the pages of a crate that are no laws for its callers."""
-    answers = {name for it in root.glob("crates/*/proofs/*/**/*.antt") for _, name in ITEM.findall(read(it))}
+    proofs = [file for it in crates(root) for file in proof_files(root / "crates" / it) if not file.match("crates/*/proofs/*.antt")]
+    answers = {name for it in proofs for _, name in ITEM.findall(read(it))}
     for page in sorted((root / "crates" / crate).glob("*.md")):
         named, form = names_of(read(page)), r".*\w-\w.*"
         if page.name != "LAWS.md":
@@ -51,8 +52,8 @@ def faults_of_pages(root, crate):
 
 def main(arguments, root):
     faults = [it for crate in crates(root) for it in faults_of_pages(root, crate)]
-    folders = [root / "crates" / crate / part for crate in crates(root) for part in ("src", "specs", "proofs")]
-    files = [file for it in folders for file in sorted(it.rglob("*.*t"))]
+    folders = [root / "crates" / crate for crate in crates(root)]
+    files = [file for it in folders for file in [*it.glob("src/**/*.rt"), *it.glob("specs/**/*.antt"), *proof_files(it)]]
     words = Counter(word for it in files for word in re.findall(NAME, re.sub(r"(?m)^\s*(--|//).*$|::", " ", read(it))))
     for_callers = {name for crate in crates(root) if (root / "crates" / crate / "LAWS.md").is_file() for name in passed_on(root, crate)}
     lemmas = [(file, *it.group(2, 0)) for file in files if file.match("crates/*/proofs/*.antt") for it in ITEM.finditer(read(file))]

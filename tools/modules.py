@@ -1,7 +1,8 @@
-"""The modules of specs/ and proofs/, which are laid out as `rt fmt` does: their items, and what the names in them stand for."""
+"""The modules of specs/ and proofs/, which are laid out as `rt fmt` does: their items, and what the names in them stand for.
+Examples are left out."""
 import re
 
-from repository import crates, read
+from repository import crates, proof_files, read
 
 NAME = r"[^\s(){}\[\];,.]+"
 IMPORT = re.compile(r"(?m)^ *(?:unfoldable |pub |ghost )*use (Rattle[^\s{;]*?)(?:\.\{([^}]*)\})?(?: as ([^\s;]+))?;?$")
@@ -78,7 +79,7 @@ class Modules:
             listed = folder / "specs/Lib.antt"
             order = read(listed) if listed.exists() else ""
             specs = sorted(folder.glob("specs/**/*.antt"), key=lambda it: len(order.split(f"mod {it.stem}\n")[0]))
-            for file in [*specs, *sorted(folder.glob("proofs/**/*.antt"))]:
+            for file in [*specs, *proof_files(folder)]:
                 path = file.relative_to(root)
                 items, self.modules[module_of(path)] = parsed(path, read(file))
                 self.items += items

@@ -5,6 +5,8 @@ from pathlib import Path
 ROOT = Path(__file__).resolve().parent.parent
 # The folder of a crate with the wrong bodies that `rt ci` does not try.
 MORE = "more-wrong-bodies"
+# The folder of a crate with the examples of its definitions, one file for each file of specs/. No example is a use of anything.
+EXAMPLES = "proofs/examples"
 
 
 def read(path):
@@ -14,6 +16,11 @@ def read(path):
 def crates(root):
     """The names in crates.txt, in order."""
     return re.findall(r"(?m)^\w+", read(root / "crates.txt"))
+
+
+def proof_files(folder):
+    """The files of a crate's proofs/, without those of examples."""
+    return [it for it in sorted(folder.glob("proofs/**/*.antt")) if not it.is_relative_to(folder / EXAMPLES)]
 
 
 def sources(folder):

@@ -75,6 +75,11 @@ class Laws(TreeTest):
                       (ROWS, "= front-start", "= half_odd"), (LIB, "\\Amod", "pub mod")):
             with self.changed((FILE, END, ODD.replace("half-odd", "half_odd")), cites):
                 self.assertFalse(self.told(laws)[0], cites)
-        # (a page is no use)
-        with self.changed((FILE, END, ODD.replace("half-odd", "half_odd")), (PAGE, END, "`half_odd`\n")):
-            self.assertIn(NOTHING("half_odd"), self.told(laws)[1])
+        # (a page is no use, nor is an example)
+        for other in ((PAGE, END, "`half_odd`\n"), (f"{FOLDER}/proofs/examples/Numbers.antt", "half-of_one : half 1 ≡ 0\nhalf-of_one = half_odd 1\n")):
+            with self.changed((FILE, END, ODD.replace("half-odd", "half_odd")), other):
+                self.assertIn(NOTHING("half_odd"), self.told(laws)[1])
+
+    def test_an_example_is_no_law_for_callers(self):
+        example = (f"{FOLDER}/proofs/examples/Numbers.antt", "pub half-of_one : half 1 ≡ 0\nhalf-of_one = refl\n")
+        self.assert_finds(laws, ("", example), (NAMED("half-of_one"), example, (PAGE, END, "`half-of_one`\n")))

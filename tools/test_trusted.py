@@ -53,10 +53,40 @@ pub fn length_of(line: &Line) -> u8
     1
 }
 """
-PAGE = "## The words of `run`\n\n|Definition|What|\n|---|---|\n|`IsShort t`|short|\n|`limit`|three|\n|`rest_of t`|all but one|\n"
+PAGE = """\
+## The words of `run`
+
+|Definition|What|Example|Behind it|
+|---|---|---|---|
+|`IsShort t`|short|`IsShort []`|a law
+|`limit`|three|`limit ≡ 3`|
+|`rest_of t`|all but one|`rest_of (1 ∷ []) ≡ []`, `rest_of [] ≡ []`|
+"""
+EXAMPLES = """\
+-- of short texts
+use Rattle.base.specs.Words.{IsShort, limit}
+
+IsShort-empty : IsShort []
+IsShort-empty = omega arith
+
+IsShort-not_of_three : IsShort (1 ∷ 2 ∷ 3 ∷ []) → ⊥
+IsShort-not_of_three is = omega arith
+
+limit-is_three : limit ≡ 3
+limit-is_three = refl
+"""
+MORE = """\
+use Rattle.base.specs.Rows.{rest_of}
+
+rest_of-each_size : (rest_of [] ≡ []) × (rest_of (1 ∷ []) ≡ [])
+    × (rest_of (1 ∷ 2 ∷ []) ≡ 2 ∷ [])
+unfolding drop
+rest_of-each_size = (refl, refl, refl)
+"""
 LAWS = "use Rattle.base.specs.Words.{IsShort}\nuse Rattle.base.proofs.Order.{total}\n\n" \
     "pub empty-short : IsShort []\nempty-short = omega arith\n"
 LIST, FILE, END = "crates/base/specs/Lib.antt", "crates/base/specs/Words.antt", r"\Z"
+OF_WORDS, OF_ROWS = "crates/base/proofs/examples/Words.antt", "crates/base/proofs/examples/Rows.antt"
 RUN, USER = "crates/base/src/lib.rt", "crates/user/src/lib.rt"
 IN_ORDER = ["IsShort", "limit", "rest_of"]
 LIBRARIES = list(trusted.LIBRARIES)
@@ -69,6 +99,8 @@ class Trusted(TreeTest):
         FILE: WORDS,
         "crates/base/specs/Rows.antt": ROWS,
         "crates/base/proofs/WordLaws.antt": LAWS,
+        OF_WORDS: EXAMPLES,
+        OF_ROWS: MORE,
         RUN: SOURCE,
         trusted.PAGE: PAGE,
     }
@@ -188,9 +220,45 @@ class Trusted(TreeTest):
             (in_the_place("limit", "IsShort"), (trusted.PAGE, r"^(\|`IsShort.*\n)(\|`limit.*\n)", r"\2\1")),
             (in_the_place("None", "rest_of"), (trusted.PAGE, r"^\|`rest_of.*\n", "")),
             (in_the_place("more", "None"), (trusted.PAGE, END, "|`more t`|more|\n")),
-            ("", (trusted.PAGE, r"^\|`IsShort t`\|short\|\n\|`limit`\|three\|", "|`IsShort t`, `limit`|both|")),
+            ("", (trusted.PAGE, r"^\|`IsShort t`\|.*\n\|`limit`\|.*$", "|`IsShort t`, `limit`|both|`limit ≡ 3`, `IsShort []`|")),
             (in_the_place("IsShort", "rest_of"), (LIST, "(pub mod Words\n)(pub mod Rows\n)", r"\2\1")),
         )
         with self.changed((trusted.PAGE, r"^(\|`IsShort.*\n)(\|`limit.*\n)", r"\2\1"), (FILE, "^-- a text is short\n", "")):
             said = self.told(trusted)[1].splitlines()[3:]
         self.assertEqual(said, [f"{FILE}:3: IsShort has no comment", in_the_place("limit", "IsShort").strip()])
+
+    def test_a_definition_of_a_public_contract_has_an_example(self):
+        told = f"{FILE}:4: IsShort has no example in proofs/examples/Words.antt\n"
+        self.assert_finds(
+            trusted,
+            (told, (OF_WORDS, None)),
+            (told, (OF_WORDS, "^IsShort-", "IsShorter-")),
+            (told, (OF_WORDS, "^IsShort-", "-- IsShort-")),
+            ("", (OF_WORDS, "^IsShort-not.*\n", "")),
+            ("limit has no example", (OF_WORDS, "^limit-.*\n", ""), (OF_ROWS, END, "\nlimit-is_three : limit ≡ 3\n")),
+        )
+        with self.changed((RUN, "fn run", "fn play"), (trusted.PAGE, "")):
+            self.assertFalse(self.told(trusted)[0])
+            self.assert_finds(trusted, (told, (OF_WORDS, None)))
+            with self.changed((OF_WORDS, None), (RUN, "pub fn", "fn")):
+                self.assertFalse(self.told(trusted)[0])
+
+    def test_the_page_quotes_what_examples_state(self):
+        states = f"{trusted.PAGE}: no example of {{}} states {{}}\n".format
+        self.assert_finds(
+            trusted,
+            (states("limit", "limit ≡ 4"), (trusted.PAGE, "limit ≡ 3", "limit ≡ 4")),
+            (states("limit", "limit ≡ 3"), (OF_WORDS, " : limit ≡ 3", " : limit ≡ 4")),
+            (states("limit", "limit"), (trusted.PAGE, "limit ≡ 3", "limit")),
+            (states("limit", "IsShort []"), (trusted.PAGE, "`limit ≡ 3`", "`limit ≡ 3`, `IsShort []`")),
+            (states("IsShort or limit", "IsLong []"), (trusted.PAGE, r"^\|`IsShort.*\n\|`limit.*$", "|`IsShort`, `limit`|both|`IsLong []`|")),
+            (f"{trusted.PAGE} quotes no example of limit\n", (trusted.PAGE, "`limit ≡ 3`", "")),
+            (f"{trusted.PAGE} quotes no example of limit\n", (trusted.PAGE, r"\|Example\|", "|Others|")),
+            ("", (trusted.PAGE, r"`rest_of \[\] ≡ \[\]`", "`rest_of (1 ∷ 2 ∷ []) ≡ 2 ∷ []`")),
+        )
+
+    def test_what_only_an_example_names_is_told(self):
+        long = (FILE, END, "\n-- long\nabbrev pub IsLong : Text → Type 0\nIsLong t = limit < length t\n")
+        example = "use Rattle.base.specs.Words.{IsLong}\n\npub IsLong-of_four : IsLong four\nIsLong-of_four = omega arith\n"
+        for path in (OF_WORDS, "crates/base/proofs/examples/WordLaws.antt"):
+            self.assert_finds(trusted, ("IsLong is reached by no contract and no law", long, (path, EXAMPLES + example)))

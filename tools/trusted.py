@@ -13,17 +13,21 @@ words, and so on, and those of the `Model` of each type in its signature. Proofs
 `Model`, which is proved. One reads in the order of crates.txt, of specs/Lib.antt and of the lines: what a definition is made
 of comes before it.
 
+An example of the definition `cut` is named `cut-inside_a_character`. It stands in the folder EXAMPLES of the crate, in a file that
+is named as that of the definition. No example is followed: a definition that only examples name is told.
+
 It fails at what is no definition in specs/, but in modules named GhostProofs (`rt` stops at a call of a tactic there); at a
-definition that has no comment, or that no contract and no law reaches, where a law is what is `pub` in a module `..Laws`; and where
-the tables of PAGE are not of the definitions of `run` in order.
+definition that has no comment, or that no contract and no law reaches, where a law is what is `pub` in a module `..Laws`; at a
+definition of a public contract of the LIBRARIES that has no example; where the tables of PAGE are not of the definitions of `run` in
+order; and where a row of PAGE has something else in its column `Example` than what examples of its definitions state, or a part of it.
 """
 import re
 import sys
 from collections import namedtuple
 from itertools import zip_longest
 
-from modules import Modules, imports
-from repository import closed, crates, public_types, read, section, sources
+from modules import NAME, Modules, imports
+from repository import EXAMPLES, closed, crates, inline_code, public_types, read, section, sources
 
 LIBRARIES = ["arraystring_base", "arraystring_core", "arraystring", "arraystring_run", "bounded_records"]
 PAGE = "docs/definitions.md"
@@ -71,14 +75,37 @@ def faults_of_specs(tree, known):
             yield f"{item} has no comment"
 
 
-def faults_of_page(page, headline):
-    """Where the tables of PAGE are not of the definitions of the headline."""
-    rows = re.findall(r"(?m)^\|(`.*?`)\|", page)
-    told = [name for row in rows for name in re.findall(r"`([^\s`]+)[^`]*`", row)]
-    both = zip_longest([it.name for it in headline], told)
+def rows_of(page):
+    """The rows of the tables of a page: the names in the first column, and the code in the column `Example`."""
+    for table in re.findall(r"(?m)^\|.*\n\|---.*\n(?:\|.*\n)*", page):
+        head, _, *rows = [line.split("|") for line in table.splitlines()]
+        for row in rows:
+            yield re.findall(r"`([^\s`]+)[^`]*`", row[1]), inline_code(dict(zip(head, row)).get("Example", ""))
+
+
+def stated(root, item):
+    """What the examples of a definition state, and each part of it: `width 0x80 ≡ 2` of `(width 0x80 ≡ 2) × (width 0x7FF ≡ 2)`."""
+    file = root / item.path.parents[1] / EXAMPLES / item.path.name
+    examples = re.findall(rf"(?m)^({NAME}) : (.*(?:\n .*)*)", read(file)) if file.exists() else []
+    whole = [re.sub(r"\n *", " ", it) for name, it in examples if name.startswith(f"{item.name}-")]
+    return whole + [re.sub(r"^\((.*)\)$", r"\1", part) for it in whole for part in it.split(" × ")]
+
+
+def faults_of_page(root, headline):
+    """Where the tables of PAGE are not of the definitions of the headline, or quote what is none of their examples."""
+    rows = list(rows_of(section(read(root / PAGE), TABLES)))
+    both = zip_longest([it.name for it in headline], [name for names, _ in rows for name in names])
     first = next((f"{PAGE} has {name} in the place of {it}" for it, name in both if it != name), None)
     if first:
         yield first
+    examples = {it.name: stated(root, it) for it in headline}
+    for names, quoted in rows:
+        of_them = [it for name in names for it in examples.get(name, [])]
+        if of_them and not quoted:
+            yield f"{PAGE} quotes no example of {names[0]}"
+        for code in quoted:
+            if code not in of_them:
+                yield f"{PAGE}: no example of {' or '.join(names)} states {code}"
 
 
 def main(arguments, root):
@@ -97,6 +124,7 @@ def main(arguments, root):
         if arguments == ["--list"]:
             print("".join(f"{it}: {it.comment}\n" for it in found if it not in listed))
         listed += found
-    faults = [*faults_of_specs(tree, known), *faults_of_page(section(read(root / PAGE), TABLES), headline)]
+    bare = [f"{it} has no example in {EXAMPLES}/{it.path.name}" for it in everything if not stated(root, it)]
+    faults = [*faults_of_specs(tree, known), *bare, *faults_of_page(root, headline)]
     print("".join(f"{it}\n" for it in faults), end="", file=sys.stderr)
     return bool(faults)

@@ -16,3 +16,4 @@ pub mod SplitLaws
 pub mod CharacterLaws
 pub mod WellFormedLaws
 pub mod Rules
+mod examples

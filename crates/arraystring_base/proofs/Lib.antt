@@ -9,3 +9,4 @@ mod CutLemmas
 mod FirstLemmas
 mod LastLemmas
 mod MoveLemmas
+mod examples

@@ -16,3 +16,4 @@ mod EndLemmas
 mod CauseLemmas
 mod PartLemmas
 mod DrainLemmas
+mod examples

@@ -1,0 +1,5 @@
+mod Text
+mod Utf16
+mod Reading
+mod Counts
+mod Names

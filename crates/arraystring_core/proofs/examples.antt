@@ -1,0 +1,14 @@
+mod Stored
+mod Layout
+mod Parts
+mod WhiteSpace
+mod Edits
+mod Construct
+mod Taken
+mod Retain
+mod RangeEnds
+mod Drained
+mod FromUtf16
+mod Json
+mod Ascii
+mod Splice

@@ -1,0 +1,59 @@
+-- Examples of walks over what was taken out. '🤔' is U+1F914.
+use Rattle.std.proofs.Common.{◌≡◌, [], ◌∷◌, refl, codes, Some, None, Ok, Err}
+use Rattle.arraystring_base.specs.Text.{width}
+use Rattle.arraystring_base.specs.declared.error.Error.TheVariants as error
+use Rattle.arraystring_core.specs.Stored.{string_of}
+use Rattle.arraystring_core.specs.Drained.{Drained, drained, removed_of, with_left, Front, Back, Walked, from_front, from_back, walked}
+
+-- of `aé`, 'a' was given from the front
+abbrev rest : Drained
+rest = record { left = codes "é"; yielded = codes "a"; spare = [] }
+
+Drained-left_and_yielded : (rest.left ≡ codes "é") × (rest.yielded ≡ codes "a")
+Drained-left_and_yielded = (refl, refl)
+
+drained-from_an_index_on : drained (string_of (codes "aé")) 1 ≡ rest
+unfolding width
+drained-from_an_index_on = refl
+
+removed_of-both_parts : removed_of rest ≡ string_of (codes "aé")
+removed_of-both_parts = refl
+
+with_left-of_each_result : (with_left (Ok rest) ≡ Ok (codes "é")) × (with_left (Err error.Utf8) ≡ Err error.Utf8)
+with_left-of_each_result = (refl, refl)
+
+End-each_is_another : Front ≡ Back → ⊥
+End-each_is_another e = cc
+
+-- `A` from the front, `B` from the back, and the rest is left
+abbrev both_ends : Walked
+both_ends = record { fronts = codes "A"; left = codes "🤔"; backs = codes "B" }
+
+Walked-three_parts : (both_ends.fronts ≡ codes "A") × (both_ends.left ≡ codes "🤔") × (both_ends.backs ≡ codes "B")
+Walked-three_parts = (refl, refl, refl)
+
+from_front-first : from_front (Some 0x78) both_ends ≡ record { fronts = codes "xA"; left = codes "🤔"; backs = codes "B" }
+from_front-first = refl
+
+from_front-nothing : from_front None both_ends ≡ both_ends
+from_front-nothing = refl
+
+from_back-first : from_back (Some 0x78) both_ends ≡ record { fronts = codes "A"; left = codes "🤔"; backs = codes "xB" }
+from_back-first = refl
+
+from_back-nothing : from_back None both_ends ≡ both_ends
+from_back-nothing = refl
+
+walked-no_end : walked [] (codes "A🤔B") ≡ record { fronts = []; left = codes "A🤔B"; backs = [] }
+walked-no_end = refl
+
+walked-both_ends : walked (Front ∷ Back ∷ []) (codes "A🤔B") ≡ both_ends
+walked-both_ends = refl
+
+-- the last character comes from the end that asks first, and then both give nothing
+walked-past_the_end : walked (Front ∷ Back ∷ Front ∷ Back ∷ Front ∷ []) (codes "A🤔B")
+    ≡ record { fronts = codes "A🤔"; left = []; backs = codes "B" }
+walked-past_the_end = refl
+
+walked-backs_in_the_order_given : walked (Back ∷ Back ∷ Back ∷ []) (codes "ABC") ≡ record { fronts = []; left = []; backs = codes "CBA" }
+walked-backs_in_the_order_given = refl
