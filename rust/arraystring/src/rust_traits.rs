@@ -62,6 +62,19 @@ impl DerefMut for CacheString {
     }
 }
 
+/// Prints the text as a `str` is printed: in quotes, and with escapes. (In Rattle, and in arraystring 0.3.0, it is a struct around another.)
+///
+/// ```
+/// let key = arraystring::CacheString::from("a\"b");
+/// assert_eq!(format!("{key:?} {:?}", Some(key)), r#""a\"b" Some("a\"b")"#);
+/// ```
+impl fmt::Debug for CacheString {
+    #[inline]
+    fn fmt(&self, f: &mut fmt::Formatter<'_>) -> fmt::Result {
+        fmt::Debug::fmt(&self.0, f)
+    }
+}
+
 /// Implements what both types of strings have.
 macro_rules! as_text {
     ($(($($generics:tt)*) $string:ty),*) => {$(
