@@ -472,10 +472,7 @@ fn what_does_not_compile_is_written_in_another_way() -> Result<(), Error> {
     assert!(written!(table.row("s.remove(0) == 'a'"), WRITTEN, s.remove(0)? == 'a'));
     s = Name::from("ab");
     let row = table.row("s.drain(..at).collect::<String>()");
-    assert_eq!(
-        written!(row, WRITTEN, s.drain(..u8::try_from(at).or(Err(Error::OutOfBounds))?)?.collect::<String>()),
-        "a"
-    );
+    assert_eq!(written!(row, WRITTEN, s.drain(..u8::try_from(at)?)?.collect::<String>()), "a");
     s = Name::from("ab");
     assert_eq!((s.insert_str(1, "cde"), s.as_str()), (Ok(()), "acdb"));
     s = Name::from("ab");

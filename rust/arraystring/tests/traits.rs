@@ -7,6 +7,7 @@ use std::collections::{BTreeMap, BTreeSet, HashMap};
 use std::error::Error as StdError;
 use std::fmt::Write;
 use std::iter;
+use std::num::TryFromIntError;
 use std::rc::Rc;
 
 use arraystring::error::{OutOfBounds, Utf8, Utf16};
@@ -119,6 +120,26 @@ fn a_key_is_found_by_its_text() {
     assert_eq!((sorted.get("\u{10000}"), sorted.values().copied().collect::<Vec<_>>()), (Some(&2), vec![3, 1, 2]));
     let cached = HashMap::from([(CacheString::from_str_truncate("aé"), 1)]);
     assert_eq!(cached.get("aé"), Some(&1));
+}
+
+/// Each index that is no `u8` is past each text.
+#[test]
+fn an_index_that_is_no_u8_is_out_of_bounds() {
+    fn removed<T>(at: T) -> Result<char, Error>
+    where
+        u8: TryFrom<T, Error = TryFromIntError>,
+    {
+        let mut full = ArrayString::<255>::from("m".repeat(255).as_str());
+        full.remove(u8::try_from(at)?)
+    }
+    for at in 0..=1100usize {
+        let wanted = if at < 255 { Ok('m') } else { Err(Error::OutOfBounds) };
+        assert_eq!((removed(at), removed(at as u16), removed(at as i64)), (wanted, wanted, wanted), "{at}");
+    }
+    for at in [-1, -255, -256, i32::MIN] {
+        assert_eq!((removed(at), removed(at as usize)), (Err(Error::OutOfBounds), Err(Error::OutOfBounds)));
+    }
+    assert_eq!(Error::from(u8::try_from(256).expect_err("no u8")), Error::OutOfBounds);
 }
 
 #[test]
