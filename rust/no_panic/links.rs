@@ -174,7 +174,7 @@ macro_rules! calls_of {
                     clone: v.s.clone();
                     default: S::default();
                     deref: Deref::deref(&v.s).len();
-                    display: write!(Out(0), "{}", v.s);
+                    display: write!(Out(0), "{}{:9}{:*^9.3}", v.s, v.s, v.s);
                     extend_by_char_refs: v.s.extend(&[v.ch, v.ch]);
                     extend_by_strs: v.s.extend([v.text, v.text]);
                     extend_by_chars: v.s.extend(v.text.chars());

@@ -104,10 +104,10 @@ fn in_order(seats: HashMap<Name, u32>) -> BTreeMap<Name, u32> {
     sorted
 }
 
-/// A row of a fixed width. `{:<8}` pads a `&str`; a string itself ignores a width.
+/// A row of a fixed width.
 fn row(name: &Name, seats: u32) -> Result<ArrayString<12>, fmt::Error> {
     let mut row = ArrayString::new();
-    write!(row, "{:<8}{seats:>2}", name.as_str())?;
+    write!(row, "{name:<8}{seats:>2}")?;
     Ok(row)
 }
 

@@ -8,7 +8,8 @@
 //! No macro has an `unsafe` of its own. So rustc takes it only in an `unsafe` block, and a `SAFETY` comment before the block says why
 //! it is right.
 //!
-//! `required!` tests what a public `unsafe` call requires of its caller, with debug assertions and with the feature `checked`.
+//! `required!` tests what a public `unsafe` call requires of its caller, with debug assertions and with the feature `checked`. The
+//! feature `checked_utf8` tests what no index shows: that bytes are UTF-8, and that a number is a character.
 
 /// Whether each access is tested all the same: with debug assertions, with the feature `checked`, and where a `usize` has not the 64 bits of
 /// the proofs. A sum that wraps there is a panic then.
@@ -136,7 +137,7 @@ macro_rules! required_of_each {
 
 /// What the crate uses of `char`.
 pub(crate) mod char {
-    /// `char::from_u32_unchecked`. With the feature `checked` the number is tested.
+    /// `char::from_u32_unchecked`. With the feature `checked_utf8` the number is tested.
     ///
     /// # Safety
     ///
@@ -144,14 +145,14 @@ pub(crate) mod char {
     #[expect(clippy::disallowed_methods, reason = "it is tested here")]
     #[inline(always)]
     pub(crate) const unsafe fn from_u32_unchecked(number: u32) -> char {
-        if cfg!(feature = "checked") && char::from_u32(number).is_none() {
+        if cfg!(feature = "checked_utf8") && char::from_u32(number).is_none() {
             panic!("a character is no scalar value");
         }
         // SAFETY: the caller shows it.
         unsafe { char::from_u32_unchecked(number) }
     }
 
-    #[cfg(all(test, feature = "checked"))]
+    #[cfg(all(test, feature = "checked_utf8"))]
     mod tests {
         use std::panic::catch_unwind;
 
@@ -171,7 +172,7 @@ pub(crate) mod char {
 
 /// What it uses of `core::str`.
 pub(crate) mod str {
-    /// `str::from_utf8_unchecked`. No index shows that bytes are not UTF-8, so with the feature `checked` they are tested.
+    /// `str::from_utf8_unchecked`. No index shows that bytes are not UTF-8, so with the feature `checked_utf8` they are tested.
     ///
     /// # Safety
     ///
@@ -179,7 +180,7 @@ pub(crate) mod str {
     #[expect(clippy::disallowed_methods, reason = "it is tested here")]
     #[inline(always)]
     pub(crate) const unsafe fn from_utf8_unchecked(bytes: &[u8]) -> &str {
-        if cfg!(feature = "checked") && from_utf8(bytes).is_err() {
+        if cfg!(feature = "checked_utf8") && from_utf8(bytes).is_err() {
             panic!("a text is not UTF-8");
         }
         // SAFETY: the caller shows it.

@@ -30,7 +30,7 @@ mod traits;
 /// other.0.push_str("42");
 /// assert!(key == other && size_of::<CacheString>() == 65);
 /// ```
-#[derive(Clone, Copy, Debug)]
+#[derive(Clone, Copy)]
 pub struct CacheString(pub ArrayString<63>);
 
 /// Strings made from texts, characters, bytes and UTF-16, and the calls that return a string.

@@ -1,11 +1,12 @@
 // By hand: no proof stands behind this file.
-//! The string where a path or a name of the operating system is asked for, behind the feature `std`.
+//! The string where a path or a name of the operating system is asked for, or one that is owned, behind the feature `std`. Std makes an
+//! owned one of each `&T` of an `AsRef<OsStr>`.
 #![deny(unsafe_code)]
 
 extern crate std;
 
-use self::std::ffi::OsStr;
-use self::std::path::Path;
+use self::std::ffi::{OsStr, OsString};
+use self::std::path::{Path, PathBuf};
 use crate::{ArrayString, CacheString};
 
 /// Implements what both types of strings have.
@@ -40,6 +41,38 @@ macro_rules! as_names {
             #[inline]
             fn as_ref(&self) -> &Path {
                 self.as_str().as_ref()
+            }
+        }
+
+        /// A copy of the text. With the feature `std`.
+        ///
+        /// ```
+        /// use arraystring::{ArrayString, CacheString};
+        /// use std::ffi::OsString;
+        ///
+        /// let names: [OsString; 2] = [ArrayString::<4>::from("é").into(), CacheString::from("a").into()];
+        /// assert_eq!(names, ["é", "a"]);
+        /// ```
+        impl<$($generics)*> From<$string> for OsString {
+            #[inline]
+            fn from(string: $string) -> Self {
+                string.as_str().into()
+            }
+        }
+
+        /// A copy of the text. With the feature `std`.
+        ///
+        /// ```
+        /// use arraystring::{ArrayString, CacheString};
+        /// use std::path::{Path, PathBuf};
+        ///
+        /// let paths: [PathBuf; 2] = [ArrayString::<8>::from("notes").into(), CacheString::from("notes/ann.txt").into()];
+        /// assert_eq!(paths, [Path::new("notes"), Path::new("notes/ann.txt")]);
+        /// ```
+        impl<$($generics)*> From<$string> for PathBuf {
+            #[inline]
+            fn from(string: $string) -> Self {
+                string.as_str().into()
             }
         }
     )*};

@@ -11,6 +11,7 @@ use core::char::DecodeUtf16Error;
 use core::cmp::Ordering;
 use core::fmt;
 use core::hash::{Hash, Hasher};
+use core::num::TryFromIntError;
 use core::ops::{
     AddAssign, Deref, DerefMut, Index, Range, RangeFrom, RangeFull, RangeInclusive, RangeTo, RangeToInclusive,
 };
@@ -59,6 +60,19 @@ impl DerefMut for CacheString {
     #[inline]
     fn deref_mut(&mut self) -> &mut ArrayString<63> {
         &mut self.0
+    }
+}
+
+/// Prints the text as a `str` is printed: in quotes, and with escapes. (In Rattle, and in arraystring 0.3.0, it is a struct around another.)
+///
+/// ```
+/// let key = arraystring::CacheString::from("a\"b");
+/// assert_eq!(format!("{key:?} {:?}", Some(key)), r#""a\"b" Some("a\"b")"#);
+/// ```
+impl fmt::Debug for CacheString {
+    #[inline]
+    fn fmt(&self, f: &mut fmt::Formatter<'_>) -> fmt::Result {
+        fmt::Debug::fmt(&self.0, f)
     }
 }
 
@@ -184,6 +198,36 @@ macro_rules! as_text {
             }
         }
 
+        /// As [`from_iterator`](Self::from_iterator): what does not fit is cut off.
+        ///
+        /// ```
+        /// use arraystring::{ArrayString, CacheString};
+        ///
+        /// let words = ["one", "two"].map(ArrayString::<8>::from);
+        /// assert_eq!(words.into_iter().collect::<ArrayString<4>>(), "onet");
+        /// assert_eq!(words.into_iter().rev().collect::<CacheString>(), "twoone");
+        /// ```
+        impl<const M: usize, $($generics)*> FromIterator<ArrayString<M>> for $string {
+            fn from_iter<I: IntoIterator<Item = ArrayString<M>>>(strings: I) -> Self {
+                Self::from_iterator(strings)
+            }
+        }
+
+        /// As [`from_iterator`](Self::from_iterator): what does not fit is cut off.
+        ///
+        /// ```
+        /// use arraystring::{ArrayString, CacheString};
+        ///
+        /// let words = ["one", "two"].map(ArrayString::<8>::from);
+        /// assert_eq!(words.iter().collect::<ArrayString<4>>(), "onet");
+        /// assert_eq!(words.iter().rev().collect::<CacheString>(), "twoone");
+        /// ```
+        impl<'a, const M: usize, $($generics)*> FromIterator<&'a ArrayString<M>> for $string {
+            fn from_iter<I: IntoIterator<Item = &'a ArrayString<M>>>(strings: I) -> Self {
+                Self::from_iterator(strings)
+            }
+        }
+
         /// As [`extend_chars`](ArrayString::extend_chars): it adds what fits.
         ///
         /// ```
@@ -229,6 +273,38 @@ macro_rules! as_text {
         impl<'a, $($generics)*> Extend<&'a str> for $string {
             fn extend<I: IntoIterator<Item = &'a str>>(&mut self, pieces: I) {
                 self.extend_strs(pieces);
+            }
+        }
+
+        /// As [`extend_strs`](ArrayString::extend_strs): it adds what fits.
+        ///
+        /// ```
+        /// use arraystring::{ArrayString, CacheString};
+        ///
+        /// let (mut string, mut key) = (ArrayString::<4>::from("one"), CacheString::from("one"));
+        /// string.extend(["two", "three"].map(ArrayString::<8>::from));
+        /// key.extend([" ", "two"].map(ArrayString::<8>::from));
+        /// assert_eq!((string.as_str(), key.as_str()), ("onet", "one two"));
+        /// ```
+        impl<const M: usize, $($generics)*> Extend<ArrayString<M>> for $string {
+            fn extend<I: IntoIterator<Item = ArrayString<M>>>(&mut self, strings: I) {
+                self.extend_strs(strings);
+            }
+        }
+
+        /// As [`extend_strs`](ArrayString::extend_strs): it adds what fits.
+        ///
+        /// ```
+        /// use arraystring::{ArrayString, CacheString};
+        ///
+        /// let (mut string, mut key) = (ArrayString::<4>::from("one"), CacheString::from("one"));
+        /// string.extend(&["two", "three"].map(ArrayString::<8>::from));
+        /// key.extend(&[" ", "two"].map(ArrayString::<8>::from));
+        /// assert_eq!((string.as_str(), key.as_str()), ("onet", "one two"));
+        /// ```
+        impl<'a, const M: usize, $($generics)*> Extend<&'a ArrayString<M>> for $string {
+            fn extend<I: IntoIterator<Item = &'a ArrayString<M>>>(&mut self, strings: I) {
+                self.extend_strs(strings);
             }
         }
     )*};
@@ -390,6 +466,25 @@ impl From<DecodeUtf16Error> for Error {
 impl From<fmt::Error> for Error {
     #[inline]
     fn from(_error: fmt::Error) -> Self {
+        Error::OutOfBounds
+    }
+}
+
+/// An index that is no `u8` is past each text: `Error::OutOfBounds`. (A cast to `u8` would make 0 of 256.)
+///
+/// ```
+/// use arraystring::{ArrayString, Error};
+///
+/// fn take(text: &mut ArrayString<8>, at: usize) -> Result<char, Error> {
+///     text.remove(u8::try_from(at)?)
+/// }
+///
+/// let mut text = ArrayString::from("ab");
+/// assert_eq!((take(&mut text, 256), take(&mut text, 1)), (Err(Error::OutOfBounds), Ok('b')));
+/// ```
+impl From<TryFromIntError> for Error {
+    #[inline]
+    fn from(_error: TryFromIntError) -> Self {
         Error::OutOfBounds
     }
 }

@@ -368,9 +368,9 @@ fn what_is_required_is_tested_with_debug_assertions_or_checked_alone() {
     }
 }
 
-/// What panics with the feature alone: no index shows that a number is no character, or that bytes are no text.
-#[cfg(feature = "checked")]
-mod checked {
+/// What panics with a feature of its own: no index shows that a number is no character, or that bytes are no text.
+#[cfg(feature = "checked_utf8")]
+mod checked_utf8 {
     use std::hint::black_box;
     use std::panic::catch_unwind;
 

@@ -1,4 +1,4 @@
-//! What the feature `checked` tests: a call whose precondition is broken panics, at the call or where the text is read then.
+//! What the feature `checked` tests: a call whose precondition is broken panics.
 #![cfg(feature = "checked")]
 
 use std::hint::black_box;
@@ -117,57 +117,24 @@ fn what_is_required_is_tested_before_a_call_moves_a_long_run() {
     assert_eq!(moved(usize::MAX - 200, 201).as_deref(), why);
 }
 
-/// No text has a byte of 255: whoever writes one into what was lent is told where the text is lent again, to be read or written.
+/// The last byte is tested as the first one is, at each length.
 #[test]
-fn a_text_with_a_byte_of_none_panics_where_it_is_lent() {
-    let text = "aé€🤔";
-    let mut count = 0;
-    for offset in 0..=6 {
-        for at in 0..text.len() {
-            let mut string = ArrayString::<16>::from((".".repeat(offset) + text).as_str());
-            assert!(string.drain(..offset as u8).is_ok());
-            assert_eq!((string.as_mut_str().len(), string.as_str()), (text.len(), text));
-            // SAFETY: the text is lent no more: each call below has to end before it could do harm.
-            unsafe { string.as_mut_str().as_bytes_mut()[at] = 0xFF };
-            let calls: [(&str, &dyn Fn() -> usize); 4] = [
-                ("read", &|| { string }.as_str().len()),
-                ("written", &|| { string }.as_mut_str().len()),
-                ("written as a `str`", &|| { string }.split_at_mut(0).1.len()),
-                ("written in part", &|| { string }[..0].len()),
-            ];
-            assert_eq!(without_panic(&calls), [""; 0], "{offset} {at}");
-            count += calls.len();
-        }
-    }
-    assert_eq!(count, 7 * 10 * 4);
-}
-
-/// The last byte of a text is tested as the first one is, at each length.
-#[test]
-fn a_byte_of_none_is_told_at_each_length() {
+fn bytes_that_are_no_text_panic_at_each_length() {
     let mut count = 0;
     for len in 1..=255 {
         for at in [0, len / 2, len - 1] {
             let mut bytes = vec![b'm'; len];
             bytes[at] = 0xFF;
-            let lent = || {
-                let mut string = ArrayString::<255>::from("m".repeat(len).as_str());
-                // SAFETY: the text is lent no more: the next call has to end before it could do harm.
-                unsafe { string.as_mut_str().as_bytes_mut()[at] = 0xFF };
-                string
-            };
             // SAFETY: of no call here the precondition holds, so each has to end before it could do harm.
-            let calls: [(&str, &dyn Fn() -> usize); 4] = unsafe {
+            let calls: [(&str, &dyn Fn() -> usize); 2] = unsafe {
                 [
-                    ("made", &|| ArrayString::<255>::from_utf8_unchecked(&bytes).as_str().len()),
-                    ("cached", &|| CacheString::from_utf8_unchecked(&bytes).as_str().len()),
-                    ("read", &|| lent().as_str().len()),
-                    ("written", &|| lent().as_mut_str().len()),
+                    ("made", &|| ArrayString::<255>::from_utf8_unchecked(&bytes).len().into()),
+                    ("cached", &|| CacheString::from_utf8_unchecked(&bytes).len().into()),
                 ]
             };
             assert_eq!(without_panic(&calls), [""; 0], "{len} {at}");
             count += calls.len();
         }
     }
-    assert_eq!(count, 255 * 3 * 4);
+    assert_eq!(count, 255 * 3 * 2);
 }

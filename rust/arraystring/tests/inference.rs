@@ -1,7 +1,8 @@
 //! What rustc infers between std's texts where this crate is loaded. Of `str`, `String`, `Box<str>` and `Cow<str>` and of references to
 //! them each two were put beside each other, by `==` and `<`, and each into each other; as they are, and by `as_ref`, `borrow`,
 //! `into`, `parse`, `to_owned` and `collect`. Here stands all of that which rustc takes without this crate. One impl more for a type
-//! of std can leave it two answers where it had one, and then a line here is not compiled.
+//! of std can leave it two answers where it had one, and then a line here is not compiled. Below stands what is inferred of errors, of
+//! items that are collected, and of paths.
 #![allow(
     unused,
     noop_method_call,
@@ -10,9 +11,15 @@
 )]
 
 use std::borrow::{Borrow, Cow};
+use std::char::DecodeUtf16Error;
+use std::convert::Infallible;
+use std::ffi::{OsStr, OsString};
+use std::fmt::{self, Write};
+use std::num::{ParseIntError, TryFromIntError};
+use std::path::{Path, PathBuf};
 use std::rc::Rc;
 
-use arraystring as _;
+use arraystring::{ArrayString, CacheString, Error, OutOfBounds, Utf8, Utf16};
 
 /// Asserts a sign between a text and others, all of which are "b".
 macro_rules! signs {
@@ -253,4 +260,247 @@ fn texts_are_added() {
         })*};
     }
     added!((t, s, b, c) [(*t), t, s, (&s), b, (&b), c, (&c)]);
+}
+
+/// A `fmt::Error` is made of itself alone. So rustc takes each of these, in which nothing names the error of a closure or of an `into`.
+#[test]
+fn the_error_of_a_format_is_inferred() -> fmt::Result {
+    let (mut out, texts) = (String::new(), ["a", "b"]);
+    texts.iter().try_for_each(|text| {
+        write!(out, "{text}")?;
+        Ok(())
+    })?;
+    let count = texts.iter().try_fold(0, |count, text| {
+        out.write_str(text)?;
+        Ok(count + 1)
+    })?;
+    let sizes = texts.iter().map(|text| {
+        out.write_str(text)?;
+        Ok(text.len())
+    });
+    let all = sizes.collect::<Result<Vec<_>, _>>()?;
+    let sum = texts.iter().map(|text| Ok(out.write_str(text).map(|()| text.len())?)).sum::<Result<usize, _>>()?;
+    let mut put = |text| {
+        out.write_str(text)?;
+        Ok(())
+    };
+    put("c")?;
+    out.write_str("d").map_err(Into::into)?;
+    out.write_str("e").map_err(|error| error.into())?;
+    out.write_char('f').or_else(|error| Err(error.into()))?;
+    out.write_char('g').map_err(fmt::Error::from)?;
+    assert_eq!((count, all.len(), sum, &*out), (2, 2, 2, "ababababcdefg"));
+    Ok(())
+}
+
+/// The same, of an error that is always returned.
+#[test]
+fn an_error_that_is_returned_is_inferred() {
+    let errors: [fn() -> fmt::Result; 4] = [
+        || Err(fmt::Error.into()),
+        || Err(fmt::Error.into())?,
+        || Err(Default::default())?,
+        || Err(fmt::Error::from(Default::default())),
+    ];
+    assert!(errors.into_iter().all(|error| error() == Err(fmt::Error)));
+}
+
+/// A string of ours in a `Display` and in a `Write` of one's own.
+#[test]
+fn the_error_of_a_format_is_inferred_beside_those_of_a_string() {
+    struct Line(ArrayString<4>);
+    impl fmt::Display for Line {
+        fn fmt(&self, f: &mut fmt::Formatter) -> fmt::Result {
+            self.0.chars().try_for_each(|ch| {
+                write!(f, "{ch}.")?;
+                Ok(())
+            })?;
+            self.0.split(',').map(|part| Ok(f.write_str(part)?)).collect::<Result<(), _>>()?;
+            f.write_str(&self.0).map_err(Into::into)
+        }
+    }
+    impl Write for Line {
+        fn write_str(&mut self, text: &str) -> fmt::Result {
+            let mut copy = self.0;
+            copy.try_push_str(text).or(Err(fmt::Error))?;
+            copy.try_insert(0, '-').map_err(|_| fmt::Error)?;
+            copy.remove(0).ok().ok_or(fmt::Error)?;
+            copy.write_str("").map_err(Into::into)?;
+            text.chars().try_for_each(|ch| {
+                self.0.write_char(ch)?;
+                self.0.try_push(ch).or(Err(fmt::Error))?;
+                self.0.pop().ok_or(fmt::Error)?;
+                Ok(())
+            })?;
+            Ok(())
+        }
+    }
+    let mut line = Line("a".into());
+    assert_eq!((write!(line, "b"), line.to_string()), (Ok(()), "a.b.abab".to_string()));
+    assert_eq!((write!(line, "cde"), line.0.as_str()), (Err(fmt::Error), "ab"));
+}
+
+/// What `?`, `into` and `map_err` make of the errors of this crate and of std's.
+#[test]
+fn an_error_of_a_string_is_made_of_others() -> Result<(), Error> {
+    let mut s = ArrayString::<8>::from("ab");
+    s.try_push('c')?;
+    s.try_insert(0, 'd')?;
+    s.truncate(3)?;
+    write!(s, "e")?;
+    s.try_write(format_args!("f"))?;
+    ArrayString::<4>::from_utf16(&[0x61])?;
+    let lone = || char::decode_utf16([0xD800]).next().expect("an item").map(drop);
+    s.remove(u8::try_from(0usize).or(Err(Error::OutOfBounds))?)?;
+    s.remove(u8::try_from(0usize).map_err(|_| Error::OutOfBounds)?)?;
+    s.remove(u8::try_from(0usize).ok().ok_or(OutOfBounds)?)?;
+    assert_eq!(s, "ef");
+    let tried: [fn(&mut ArrayString<8>) -> Result<(), Error>; 8] = [
+        |s| s.try_push_str("ghijklmn").map_err(Into::into),
+        |s| s.try_push_str("ghijklmn").map_err(Error::from),
+        |s| s.try_push_str("ghijklmn").map_err(|error| error.into()),
+        |s| s.try_write(format_args!("ghijklmn")).map_err(Into::into),
+        |s| write!(s, "ghijklmn").map_err(Error::from),
+        |s| Ok(s.try_push_str("ghijklmn")?),
+        |s| Err(s.try_push_str("ghijklmn").expect_err("too large").into()),
+        |s| Err(s.try_push_str("ghijklmn").expect_err("too large"))?,
+    ];
+    assert!(tried.into_iter().all(|call| call(&mut s) == Err(Error::OutOfBounds)));
+    let made: [Error; 4] = [Utf8.into(), Utf16.into(), OutOfBounds.into(), fmt::Error.into()];
+    assert_eq!(made, [Error::Utf8, Error::Utf16, Error::OutOfBounds, Error::OutOfBounds]);
+    assert_eq!((lone().map_err(Utf16::from), lone().map_err(Error::from)), (Err(Utf16), Err(Error::Utf16)));
+    let boxed: [Box<dyn std::error::Error>; 2] = [OutOfBounds.into(), Error::Utf8.into()];
+    assert_eq!(boxed.map(|error| error.to_string()), ["OutOfBounds", "Utf8"]);
+    Ok(())
+}
+
+/// Errors of numbers in functions that return errors of std, or one of their own.
+#[test]
+fn an_error_of_a_number_is_inferred() {
+    #[derive(Debug, PartialEq)]
+    enum Own {
+        Text,
+        Number,
+    }
+    impl From<Error> for Own {
+        fn from(_: Error) -> Self {
+            Own::Text
+        }
+    }
+    impl From<TryFromIntError> for Own {
+        fn from(_: TryFromIntError) -> Self {
+            Own::Number
+        }
+    }
+    impl From<ParseIntError> for Own {
+        fn from(_: ParseIntError) -> Self {
+            Own::Number
+        }
+    }
+    fn number(given: usize) -> Result<u8, TryFromIntError> {
+        let at = u8::try_from(given)?;
+        let other: u8 = given.try_into()?;
+        u8::try_from(given).map_err(Into::into).and(Ok(at.max(other)))
+    }
+    fn boxed(given: usize) -> Result<u8, Box<dyn std::error::Error>> {
+        let at = u8::try_from(given)?;
+        Ok(at.max(u8::try_from(given).map_err(Box::new)?).max("7".parse::<u8>()?))
+    }
+    fn own(given: usize) -> Result<u8, Own> {
+        let mut s = ArrayString::<8>::from("ab");
+        s.try_insert(u8::try_from(given)?, 'c')?;
+        s.try_push('d').map_err(Error::from)?;
+        s.remove(given.try_into()?)?;
+        Ok("7".parse::<u8>()?.max(u8::try_from(given).map_err(Own::from)?))
+    }
+    fn parsed(given: &str) -> Result<u8, ParseIntError> {
+        [given].iter().try_for_each(|text| {
+            text.parse::<u8>()?;
+            Ok(())
+        })?;
+        given.parse::<u8>().map_err(Into::into)
+    }
+    fn never(given: u8) -> Result<usize, Infallible> {
+        Ok(usize::try_from(given)?)
+    }
+    assert_eq!((number(1), number(256).is_err(), boxed(256).is_err(), boxed(1).ok()), (Ok(1), true, true, Some(7)));
+    assert_eq!((own(1), own(256), own(9)), (Ok(7), Err(Own::Number), Err(Own::Text)));
+    assert_eq!((parsed("8"), parsed("").is_err(), never(8)), (Ok(8), true, Ok(8)));
+}
+
+/// Items of each kind of text, and what is summed of them.
+#[test]
+fn what_is_collected_is_inferred() {
+    type Name = ArrayString<8>;
+    let names = [Name::from("a"), Name::from("é")];
+    let keys = [CacheString::from("b"), CacheString::from("c")];
+    let mixed = || names.iter().map(|name| name.as_str()).chain(keys.iter().map(|key| key.as_str())).chain(["d"]);
+    let made: [Name; 9] = [
+        mixed().collect(),
+        mixed().flat_map(|text| text.chars()).collect(),
+        mixed().flat_map(str::chars).collect(),
+        mixed().map(|text| text).collect::<Vec<_>>().iter().copied().collect(),
+        Name::from_iter(mixed()),
+        FromIterator::from_iter(mixed()),
+        Name::from_iterator(mixed()),
+        mixed().fold(Name::new(), |joined, text| joined + text),
+        mixed().map(Some).collect::<Option<_>>().expect("each is there"),
+    ];
+    assert!(made.iter().all(|made| made == "aébcd"), "{made:?}");
+    let mut name = Name::new();
+    name.extend(names.iter().map(|name| name.as_str()));
+    name.extend(names.iter().map(|name| &**name));
+    name.extend(['b', 'c']);
+    assert_eq!(name, "aéaébc");
+    let mut key = CacheString::new();
+    key.extend(mixed());
+    key.extend(&['e', 'f']);
+    key.extend(keys.iter().flat_map(|key| key.chars()));
+    assert_eq!(key, "aébcdefbc");
+    let sizes: [usize; 4] = [
+        names.iter().map(|name| usize::from(name.len())).sum(),
+        mixed().map(str::len).sum::<usize>() - 3,
+        mixed().map(|text| text.len()).take(2).sum(),
+        names.iter().map(|name| name.chars().count() + 1).sum::<usize>() - 1,
+    ];
+    assert_eq!(sizes, [3; 4]);
+    assert_eq!(names.iter().map(|name| name.len()).sum::<u8>(), 3);
+    assert_eq!(names.iter().map(|name| name.len()).collect::<Vec<_>>().iter().sum::<u8>(), 3);
+    let owned = [String::from("a"), String::from("b")];
+    let (mut joined, lent) = (owned.concat(), owned.iter().map(|text| text.as_str()).collect::<String>());
+    joined.extend(owned.iter().map(|text| &**text));
+    joined.extend(owned.clone());
+    joined.extend(['c'].iter());
+    assert_eq!((&*joined, &*lent, &*owned.iter().cloned().collect::<String>()), ("abababc", "ab", "ab"));
+}
+
+/// Paths and names of the operating system, made of std's texts.
+#[test]
+fn paths_are_made_of_texts() {
+    /// A path and a name made of each text.
+    macro_rules! named {
+        (($t:ident, $s:ident, $b:ident, $c:ident) [$($text:expr),*]) => {$({
+            let ($t, $s) = ("b", String::from("b"));
+            let ($b, $c): (Box<str>, Cow<'static, str>) = ("b".into(), "b".into());
+            assert_eq!((PathBuf::from($text), OsString::from($text)), ("b".into(), "b".into()));
+        })*};
+    }
+    named!((t, s, b, c) [t, &t, s.clone(), &s, &*b, &*c, s.as_str(), String::from(&*s), &String::from(t)]);
+    let (path, name): (PathBuf, OsString) = ("b".into(), "b".into());
+    assert_eq!(
+        (PathBuf::from(&path), PathBuf::from(&name), OsString::from(&path)),
+        (path.clone(), path.clone(), name.clone())
+    );
+    assert_eq!((PathBuf::from(name.clone()), OsString::from(path.clone())), (path.clone(), name.clone()));
+    let made: [PathBuf; 5] = [
+        "b".into(),
+        String::from("b").into(),
+        Path::new("b").into(),
+        name.clone().into(),
+        Cow::from(Path::new("b")).into(),
+    ];
+    assert!(made.iter().all(|made| *made == path));
+    let made: [OsString; 4] = ["b".into(), String::from("b").into(), OsStr::new("b").into(), path.clone().into()];
+    assert!(made.iter().all(|made| *made == name));
+    assert_eq!((["b"].iter().collect::<PathBuf>(), ["b"].iter().map(OsStr::new).collect::<OsString>()), (path, name));
 }

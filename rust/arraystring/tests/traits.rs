@@ -7,6 +7,7 @@ use std::collections::{BTreeMap, BTreeSet, HashMap};
 use std::error::Error as StdError;
 use std::fmt::Write;
 use std::iter;
+use std::num::TryFromIntError;
 use std::rc::Rc;
 
 use arraystring::error::{OutOfBounds, Utf8, Utf16};
@@ -119,6 +120,26 @@ fn a_key_is_found_by_its_text() {
     assert_eq!((sorted.get("\u{10000}"), sorted.values().copied().collect::<Vec<_>>()), (Some(&2), vec![3, 1, 2]));
     let cached = HashMap::from([(CacheString::from_str_truncate("aé"), 1)]);
     assert_eq!(cached.get("aé"), Some(&1));
+}
+
+/// Each index that is no `u8` is past each text.
+#[test]
+fn an_index_that_is_no_u8_is_out_of_bounds() {
+    fn removed<T>(at: T) -> Result<char, Error>
+    where
+        u8: TryFrom<T, Error = TryFromIntError>,
+    {
+        let mut full = ArrayString::<255>::from("m".repeat(255).as_str());
+        full.remove(u8::try_from(at)?)
+    }
+    for at in 0..=1100usize {
+        let wanted = if at < 255 { Ok('m') } else { Err(Error::OutOfBounds) };
+        assert_eq!((removed(at), removed(at as u16), removed(at as i64)), (wanted, wanted, wanted), "{at}");
+    }
+    for at in [-1, -255, -256, i32::MIN] {
+        assert_eq!((removed(at), removed(at as usize)), (Err(Error::OutOfBounds), Err(Error::OutOfBounds)));
+    }
+    assert_eq!(Error::from(u8::try_from(256).expect_err("no u8")), Error::OutOfBounds);
 }
 
 #[test]
@@ -264,6 +285,8 @@ enum Kind {
     Char,
     CharRef,
     Text,
+    Whole,
+    WholeRef,
     #[cfg(feature = "alloc")]
     Owned,
     #[cfg(feature = "alloc")]
@@ -276,6 +299,8 @@ const KINDS: &[Kind] = &[
     Kind::Char,
     Kind::CharRef,
     Kind::Text,
+    Kind::Whole,
+    Kind::WholeRef,
     #[cfg(feature = "alloc")]
     Kind::Owned,
     #[cfg(feature = "alloc")]
@@ -298,13 +323,15 @@ const MOST: usize = 256;
 struct Items<'a> {
     text: &'a str,
     first: char,
+    whole: MaxString,
     count: Option<usize>,
     taken: Cell<usize>,
 }
 
 impl<'a> Items<'a> {
     fn new(text: &'a str, count: Option<usize>) -> Self {
-        Items { text, first: text.chars().next().expect("a character"), count, taken: Cell::new(0) }
+        let first = text.chars().next().expect("a character");
+        Items { text, first, whole: MaxString::from(text), count, taken: Cell::new(0) }
     }
 
     fn texts(&self) -> impl Iterator<Item = &str> {
@@ -340,6 +367,8 @@ macro_rules! collected {
             Kind::Char => items.chars().collect::<$string>(),
             Kind::CharRef => items.chars().map(|_| &items.first).collect(),
             Kind::Text => items.texts().collect(),
+            Kind::Whole => items.texts().map(|_| items.whole).collect(),
+            Kind::WholeRef => items.texts().map(|_| &items.whole).collect(),
             #[cfg(feature = "alloc")]
             Kind::Owned => items.texts().map(String::from).collect(),
             #[cfg(feature = "alloc")]
@@ -359,6 +388,8 @@ macro_rules! extended {
             Kind::Char => Extend::extend(&mut string, items.chars()),
             Kind::CharRef => Extend::extend(&mut string, items.chars().map(|_| &items.first)),
             Kind::Text => Extend::extend(&mut string, items.texts()),
+            Kind::Whole => Extend::extend(&mut string, items.texts().map(|_| items.whole)),
+            Kind::WholeRef => Extend::extend(&mut string, items.texts().map(|_| &items.whole)),
             #[cfg(feature = "alloc")]
             Kind::Owned => Extend::extend(&mut string, items.texts().map(String::from)),
             #[cfg(feature = "alloc")]
@@ -370,12 +401,13 @@ macro_rules! extended {
     }};
 }
 
-/// What the items of a kind are: characters of each width, and with them texts of several, and one that fits into no string.
+/// What the items of a kind are: characters of each width, and with them texts of several, and one that fits into no string, or into the
+/// longest alone where the items are strings.
 fn texts(kind: Kind) -> Vec<String> {
     let mut texts: Vec<String> = ["\0", "a", "é", "€", "🤔"].map(String::from).into();
     if ![Kind::Char, Kind::CharRef].contains(&kind) {
         texts.extend(["ab", "aé", "🤔b", "aé€🤔"].map(String::from));
-        texts.push("é".repeat(128));
+        texts.push("é".repeat(if [Kind::Whole, Kind::WholeRef].contains(&kind) { 127 } else { 128 }));
     }
     texts
 }

@@ -62,9 +62,6 @@ fn what_compiles_in_both_leaves_another_text() {
     assert_eq!((Added::<String>::IS_THERE, Added::<Name>::IS_THERE), (true, false));
     table.row("s += \"cde\"").says(ARRAYVEC, "none");
     s = Name::from("ab").expect("it fits");
-    leaves!(table, ARRAYVEC, format!("{s:_>4}"), |printed| printed);
-    leaves!(table, ARRAYVEC, format!("{s:.1}"), |printed| printed);
-    leaves!(table, ARRAYVEC, format!("{s:?}"), |printed| printed);
     leaves!(table, ARRAYVEC, format!("{:?}", s.remove(0)), |printed| printed);
     leaves!(table, ARRAYVEC, t.len() + t.len(), |sum| sum);
     let mut long = ArrayString::<1024>::new();

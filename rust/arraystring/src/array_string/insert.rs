@@ -7,7 +7,7 @@ use crate::utf8::truncate_str;
 
 /// Insertions.
 impl<const N: usize> ArrayString<N> {
-    /// Inserts `ch` at the byte index `index`.
+    /// Inserts `ch` at the byte index `index`. (For `insert` rustc proposes `insert_str`, which cuts.)
     ///
     /// # Errors
     ///

@@ -24,7 +24,7 @@ impl<const N: usize> ArrayString<N> {
     #[must_use]
     #[inline]
     pub fn as_mut_str(&mut self) -> &mut str {
-        if cfg!(feature = "checked") {
+        if cfg!(feature = "checked_utf8") {
             let _ = self.as_str(); // tests that it is UTF-8
         }
         let (start, end) = (self.start as usize, self.end());

@@ -8,7 +8,7 @@ use crate::utf8::{encode, truncate_str};
 
 /// Appends.
 impl<const N: usize> ArrayString<N> {
-    /// Appends `ch`.
+    /// Appends `ch`. (For `push` rustc proposes `push_str`, which cuts.)
     ///
     /// # Errors
     ///

@@ -39,7 +39,7 @@ impl<'a, const N: usize> Add<&'a str> for ArrayString<N> {
     }
 }
 
-/// `ArrayString { array: "abc", size: 3 }` for the text `abc`; the size counts bytes of UTF-8.
+/// Prints the text as a `str` is printed: in quotes, and with escapes. (In Rattle, and in arraystring 0.3.0, it is a struct of two fields.)
 ///
 /// # Examples
 ///
@@ -47,12 +47,12 @@ impl<'a, const N: usize> Add<&'a str> for ArrayString<N> {
 /// use arraystring::ArrayString;
 ///
 /// let string = ArrayString::<8>::from("é\n");
-/// assert_eq!(format!("{string:?}"), r#"ArrayString { array: "é\n", size: 3 }"#);
+/// assert_eq!(format!("{string:?} {:?}", Some(string)), r#""é\n" Some("é\n")"#);
 /// ```
 impl<const N: usize> fmt::Debug for ArrayString<N> {
     #[inline]
     fn fmt(&self, f: &mut fmt::Formatter<'_>) -> fmt::Result {
-        f.debug_struct("ArrayString").field("array", &self.as_str()).field("size", &self.size).finish()
+        fmt::Debug::fmt(self.as_str(), f)
     }
 }
 
@@ -82,16 +82,17 @@ impl<const N: usize> Default for ArrayString<N> {
     }
 }
 
-/// Writes the text. A width and a precision in the format are ignored: nothing is padded, and
-/// nothing is cut.
+/// Writes the text as a `str` is written: a width pads it, and a precision cuts it. Both count characters.
+///
+/// The source ignores a width and a precision. So here the contract holds of a format without them.
 ///
 /// # Examples
 ///
 /// ```
 /// use arraystring::ArrayString;
 ///
-/// let string = ArrayString::<8>::from("abc");
-/// assert_eq!(format!("[{string}] [{string:8.1}]"), "[abc] [abc]");
+/// let string = ArrayString::<8>::from("aéb");
+/// assert_eq!(format!("[{string}] [{string:5}] [{string:>5.2}]"), "[aéb] [aéb  ] [   aé]");
 /// ```
 ///
 /// <details><summary>Contract</summary>
@@ -107,7 +108,10 @@ impl<const N: usize> Default for ArrayString<N> {
 impl<const N: usize> fmt::Display for ArrayString<N> {
     #[inline]
     fn fmt(&self, f: &mut fmt::Formatter<'_>) -> fmt::Result {
-        f.write_str(self.as_str())
+        match (f.width(), f.precision()) {
+            (None, None) => f.write_str(self.as_str()),
+            _ => f.pad(self.as_str()),
+        }
     }
 }
 

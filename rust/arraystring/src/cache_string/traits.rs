@@ -65,16 +65,17 @@ impl Default for CacheString {
     }
 }
 
-/// Writes the text. A width and a precision in the format are ignored: nothing is padded, and
-/// nothing is cut.
+/// Writes the text as a `str` is written: a width pads it, and a precision cuts it. Both count characters.
+///
+/// The source ignores a width and a precision. So here the contract holds of a format without them.
 ///
 /// # Examples
 ///
 /// ```
 /// use arraystring::CacheString;
 ///
-/// let key = CacheString::from_str_truncate("abc");
-/// assert_eq!(format!("[{key}] [{key:8.1}]"), "[abc] [abc]");
+/// let key = CacheString::from_str_truncate("aéb");
+/// assert_eq!(format!("[{key}] [{key:5}] [{key:>5.2}]"), "[aéb] [aéb  ] [   aé]");
 /// ```
 ///
 /// <details><summary>Contract</summary>
@@ -90,7 +91,7 @@ impl Default for CacheString {
 impl fmt::Display for CacheString {
     #[inline]
     fn fmt(&self, f: &mut fmt::Formatter<'_>) -> fmt::Result {
-        f.write_str(self.0.as_str())
+        fmt::Display::fmt(&self.0, f)
     }
 }
 

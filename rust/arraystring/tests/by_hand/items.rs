@@ -17,6 +17,8 @@ enum Items<'a> {
     Chars(&'a [char]),
     CharRefs(&'a [char]),
     Texts(&'a [&'a str]),
+    Strings(&'a [&'a str]),
+    StringRefs(&'a [&'a str]),
     #[cfg(feature = "alloc")]
     Owned(&'a [&'a str]),
     #[cfg(feature = "alloc")]
@@ -32,6 +34,8 @@ fn kinds<'a>(chars: &'a [char], pieces: &'a [&'a str]) -> Vec<Items<'a>> {
         Items::Chars(chars),
         Items::CharRefs(chars),
         Items::Texts(pieces),
+        Items::Strings(pieces),
+        Items::StringRefs(pieces),
         #[cfg(feature = "alloc")]
         Items::Owned(pieces),
         #[cfg(feature = "alloc")]
@@ -53,6 +57,12 @@ macro_rules! with_items {
             Items::Chars(chars) => $call(Told { items: &mut chars.iter().copied() as Any<char>, hint, taken }),
             Items::CharRefs(chars) => $call(Told { items: &mut chars.iter() as Any<&char>, hint, taken }),
             Items::Texts(pieces) => $call(Told { items: &mut pieces.iter().copied() as Any<&str>, hint, taken }),
+            Items::Strings(pieces) => {
+                $call(Told { items: &mut strings(pieces).into_iter() as Any<ArrayString<20>>, hint, taken })
+            }
+            Items::StringRefs(pieces) => {
+                $call(Told { items: &mut strings(pieces).iter() as Any<&ArrayString<20>>, hint, taken })
+            }
             #[cfg(feature = "alloc")]
             Items::Owned(pieces) => {
                 $call(Told { items: &mut pieces.iter().map(|piece| piece.to_string()) as Any<String>, hint, taken })
@@ -66,6 +76,11 @@ macro_rules! with_items {
         };
         (returned, count)
     }};
+}
+
+/// Each piece as a string. The text of every other one begins behind offset 0.
+fn strings(pieces: &[&str]) -> Vec<ArrayString<20>> {
+    pieces.iter().enumerate().map(|(at, piece)| behind(at % 2 * 7, piece)).collect()
 }
 
 /// Each piece, one lent and the next one owned.
@@ -88,7 +103,9 @@ fn pieces_of(text: &str, most: usize) -> Vec<&str> {
 fn texts<'a>(items: Items<'a>) -> Vec<Cow<'a, str>> {
     match items {
         Items::Chars(chars) | Items::CharRefs(chars) => chars.iter().map(|ch| ch.to_string().into()).collect(),
-        Items::Texts(pieces) => pieces.iter().map(|piece| Cow::from(*piece)).collect(),
+        Items::Texts(pieces) | Items::Strings(pieces) | Items::StringRefs(pieces) => {
+            pieces.iter().map(|piece| Cow::from(*piece)).collect()
+        }
         #[cfg(feature = "alloc")]
         Items::Owned(pieces) | Items::Boxed(pieces) | Items::Cows(pieces) => {
             pieces.iter().map(|piece| Cow::from(*piece)).collect()

@@ -4,7 +4,10 @@ use std::borrow::Cow;
 use std::rc::Rc;
 use std::sync::Arc;
 #[cfg(feature = "std")]
-use std::{ffi::OsStr, path::Path};
+use std::{
+    ffi::{OsStr, OsString},
+    path::{Path, PathBuf},
+};
 
 use arraystring::{ArrayString, CacheString};
 
@@ -28,6 +31,11 @@ macro_rules! is_copied {
         assert!(matches!(lent, Cow::Borrowed(lent) if lent == text && lent.as_ptr() == string.as_str().as_ptr()));
         #[cfg(feature = "std")]
         assert_eq!((AsRef::<OsStr>::as_ref(&string), AsRef::<Path>::as_ref(&string)), (text.as_ref(), text.as_ref()));
+        #[cfg(feature = "std")]
+        {
+            let (path, name): (PathBuf, OsString) = (string.into(), string.into());
+            assert_eq!([path.as_os_str(), &name], [OsStr::new(text); 2]);
+        }
         // (another one in front, so that their order shows)
         let (mut less, mut shorter) = (string, text.to_string());
         assert_eq!(less.pop(), shorter.pop());

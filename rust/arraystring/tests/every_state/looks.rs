@@ -23,7 +23,7 @@ fn shows<const N: usize>(string: &ArrayString<N>, text: &str) {
     assert_eq!((usize::from(string.remaining_capacity()), string.is_full()), (N - text.len(), text.len() == N));
     assert_eq!((AsRef::<str>::as_ref(string), AsRef::<[u8]>::as_ref(string)), (text, text.as_bytes()));
     assert_eq!((Borrow::<str>::borrow(string), string.to_string().as_str()), (text, text));
-    assert_eq!(format!("{string:?}"), format!("ArrayString {{ array: {text:?}, size: {} }}", text.len()));
+    assert_eq!(format!("{string:?} {string:>3.1}"), format!("{text:?} {text:>3.1}"));
     assert_eq!(hash_of(string), hash_of(text));
     assert_eq!((*string, { *string }.as_str()), (*string, text));
 }
