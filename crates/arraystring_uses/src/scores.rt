@@ -1,5 +1,5 @@
 //! Points under names, in the order of the names.
-ghost use Rattle.std.specs.Prelude.{◌≡◌, ◌≢◌, ℕ, List, Some, IfOk, OnOk, OnErr};
+ghost use Rattle.std.specs.Prelude.{◌≡◌, ◌≢◌, ◌⊎◌, ℕ, List, Some, IfOk, OnOk, OnErr};
 ghost use Rattle.std.specs.List.{AllPairs};
 ghost use Rattle.arraystring.specs.Text.{IsBefore};
 ghost use Rattle.arraystring_uses.specs.Scores.{names, points};
@@ -7,6 +7,7 @@ ghost use Rattle.arraystring_uses.specs.Scores.{names, points};
 use arraystring::ArrayString;
 use arraystring::laws::keys_ascend;
 use std::alloc::AllocError;
+use std::cmp::Ordering;
 use std::collections::BTreeMap;
 
 /// The name of a player.
@@ -38,4 +39,17 @@ pub fn look_up(scores: &BTreeMap<Name, u32>, name: &Name) -> Option<u32>
     ensures { result ≡ points scores.now name.now.text }
 {
     scores.get(name).copied()
+}
+
+/// Returns the one of two names that comes first.
+#[tactic(auto, using(arraystring::proofs::Rules::orders))]
+pub fn first_of(a: Name, b: Name) -> Name
+    ensures one { (result.text ≡ a.text) ⊎ (result.text ≡ b.text) }
+    ensures not_a { ¬ (IsBefore a.text result.text) }
+    ensures not_b { ¬ (IsBefore b.text result.text) }
+{
+    match a.cmp(&b) {
+        Ordering::Greater => b,
+        _ => a,
+    }
 }

@@ -1,0 +1,8 @@
+-- Single letters of a text.
+use Rattle.std.specs.Prelude.{ℕ, List, [], ◌∷◌}
+use Rattle.std.specs.Char.{to_ascii_uppercase}
+
+-- the text with its first letter in upper case, if it is one of ASCII
+abbrev pub capitalized : List ℕ → List ℕ
+capitalized [] = []
+capitalized (first ∷ rest) = to_ascii_uppercase first ∷ rest
