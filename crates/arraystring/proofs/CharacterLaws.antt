@@ -1,5 +1,5 @@
 -- Laws of single characters, of texts of ASCII, as most literals are, and of one character many times.
-use Rattle.std.proofs.Common.{◌≡◌, ℕ, ◌+◌, ◌<◌, ◌≤◌, List, [], ◌∷◌, ◌++◌, length, drop, get_or, arith, true, refl, sym, ap, ◌∙◌, inl, replicate, length-append, length-drop, Option, Some, None, MatchOption, IsUtf8, IsCharBoundary}
+use Rattle.std.proofs.Common.{◌≡◌, ℕ, ◌+◌, ◌<◌, ◌≤◌, List, [], ◌∷◌, ◌++◌, length, take, drop, get_or, arith, true, refl, sym, ap, ◌∙◌, inl, replicate, length-append, length-drop, Option, Some, None, MatchOption, IsUtf8, IsCharBoundary}
 use Rattle.std.specs.Char.{is_ascii}
 use Rattle.std.specs.List.{list_all, slice_get}
 use Rattle.std.specs.Str.{chars}
@@ -39,15 +39,12 @@ size-repeated n c lt = rw (size-replicate n c, width-one c lt) (omega arith)
 
 -- behind a first character of ASCII is a boundary, which parts it from the others
 pub first-boundary : (t : List ℕ) (c : ℕ) → slice_get t 0 ≡ Some c → c < 128
-    → (boundary t 1 ≡ true) × (front t 1 ≡ c ∷ []) × (t ≡ c ∷ back t 1)
+    → (boundary t 1 ≡ true) × (front t 1 ≡ take 1 t) × (back t 1 ≡ drop 1 t)
 first-boundary [] c is low = absurd (grind (arith, is))
 first-boundary (d ∷ t) c is low =
     let same : d ≡ c = grind (arith, is) in
-    let long : size (d ∷ []) ≡ 1 = grind (arith, same, low, width-one) in (
-      boundary-is (d ∷ []) t 1 long,
-      front-is (d ∷ []) t 1 long ∙ ap (λ d. d ∷ []) same,
-      ap (λ d. d ∷ t) same ∙ ap (λ l. c ∷ l) (sym (back-is (d ∷ []) t 1 long)),
-    )
+    let long : size (d ∷ []) ≡ 1 = grind (arith, same, low, width-one) in
+    (boundary-is (d ∷ []) t 1 long, front-is (d ∷ []) t 1 long, back-is (d ∷ []) t 1 long)
 
 -- a character begins with no byte that continues one
 begins : (c : ℕ) (rest : List ℕ) → 128 ≤ get_or (utf8 c ++ rest) 0 0 → 192 ≤ get_or (utf8 c ++ rest) 0 0

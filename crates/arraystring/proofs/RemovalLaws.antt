@@ -3,7 +3,7 @@
 -- when it is which `Err` (`-past`, `-inside`). A law takes what its row takes after the text, and then facts.
 -- After an `Ok` no test of the row holds, and an `Err` is that of the first that does. `grind` reads each test as the comparison
 -- that it makes, one after the other; where a test asks for a boundary, the law that says whether it holds stands beside.
-use Rattle.std.proofs.Common.{◌≡◌, ℕ, ◌<◌, ◌≤◌, ◌⊎◌, List, [], ◌∷◌, ◌++◌, ap, sym, ◌∙◌, arith, true, false, refl, Option, Some, None, MatchOption, Result, Ok, Err, take, drop, length, length-append}
+use Rattle.std.proofs.Common.{◌≡◌, ℕ, ◌-◌, ◌<◌, ◌≤◌, ◌⊎◌, List, [], ◌∷◌, ◌++◌, ap, sym, ◌∙◌, arith, true, false, refl, Option, Some, None, MatchOption, Result, Ok, Err, take, drop, length, length-append}
 use Rattle.std.proofs.lemmas.Bool.{lt-leb, leb-false}
 use Rattle.std.proofs.lemmas.List.{take-append-le}
 use Rattle.std.proofs.lemmas.Bool.Decides.{nat_tests}
@@ -45,18 +45,24 @@ module _ {t new : List ℕ} where
   popping-made {found = None} m = popping-none m
   popping-made {found = Some c} m = popping-some m
 
--- a pop leaves the first `n` characters, if there are more, and the text gets shorter
-pub popped-take : (t new : List ℕ) (found : Option ℕ) (n : ℕ) → Makes (popping t) t (Ok found) new → n < length t
-    → (take n new ≡ take n t) × (length new < length t)
-popped-take t new found n m below = go found (popping-made m)
-  where
-    go : (found : Option ℕ) → MatchOption found ((t ≡ []) × (new ≡ [])) (λ c. t ≡ new ++ c ∷ [])
-        → (take n new ≡ take n t) × (length new < length t)
-    go None none = absurd (omega (arith, ap length none.0, below))
-    go (Some c) is =
-        let long = length-append new (c ∷ []) in
-        let fits : n ≤ length new = omega (arith, ap length is, long, below) in
-        (sym (ap (take n) is ∙ take-append-le n new (c ∷ []) fits), omega (arith, ap length is, long))
+-- a pop leaves one character less, and the first `n` if there are more
+module _ (t new : List ℕ) (found : Option ℕ) (m : Makes (popping t) t (Ok found) new) where
+  popped : MatchOption found ((t ≡ []) × (new ≡ [])) (λ c. t ≡ new ++ c ∷ [])
+  popped = popping-made m
+
+  pub popped-length : length new ≡ length t - 1
+  popped-length = go found popped
+    where
+      go : (found : Option ℕ) → MatchOption found ((t ≡ []) × (new ≡ [])) (λ c. t ≡ new ++ c ∷ []) → length new ≡ length t - 1
+      go None none = omega (arith, ap length none.0, ap length none.1)
+      go (Some c) is = omega (arith, ap length is, length-append new (c ∷ []))
+
+  pub popped-take : (n : ℕ) → n < length t → take n new ≡ take n t
+  popped-take n below = go found popped
+    where
+      go : (found : Option ℕ) → MatchOption found ((t ≡ []) × (new ≡ [])) (λ c. t ≡ new ++ c ∷ []) → take n new ≡ take n t
+      go None none = absurd (omega (arith, ap length none.0, below))
+      go (Some c) is = sym (ap (take n) is ∙ take-append-le n new (c ∷ []) (omega (arith, popped-length, below)))
 
 -- the part before `i` is kept
 module _ {t : List ℕ} (i : ℕ) {new : List ℕ} where

@@ -12,9 +12,8 @@ use Rattle.arraystring.proofs.AdditionLaws.{addition-made, addition-refused, add
 use Rattle.arraystring.proofs.BoundaryLaws.{front-fits, boundary-start, boundary-at_end, boundary-behind_given, boundary-behind_char, boundary-before_char, part-start, part_in-front}
 use Rattle.arraystring.proofs.CharacterLaws.{width-one, chars-ascii, size-repeated, first-boundary}
 use Rattle.arraystring.proofs.LoopLaws.{taken-item, taken-with, taken-chars, pieces-push}
-use Rattle.arraystring.proofs.OrderLaws.{before-itself, before-one, before-trans}
 use Rattle.arraystring.proofs.SplitLaws.{joined-found}
-use Rattle.arraystring.proofs.RemovalLaws.{popping-made, popped-take, removal-made}
+use Rattle.arraystring.proofs.RemovalLaws.{popping-made, popped-take, popped-length, removal-made}
 use Rattle.arraystring.proofs.TracedLaws.{memory-push, traced-push, traced-chars, traced-item}
 
 -- appends, each whole or refused, one after the other
@@ -33,7 +32,7 @@ pub ruleset cursors = (boundary-behind_given, boundary-behind_char, boundary-bef
 pub ruleset removals = (boundary-at_end, popping-made, removal-made)
 
 -- a loop of `pop`, which keeps the first characters
-pub ruleset pops = (popped-take, take_all)
+pub ruleset pops = (popped-take, popped-length, take_all)
 
 -- splits, truncations, drains and replacements, at boundaries
 pub ruleset splits = (boundary-at_end)
@@ -42,10 +41,7 @@ pub ruleset splits = (boundary-at_end)
 pub ruleset at_start = (front-start, back-start, empty-size)
 
 -- the place behind a first character of ASCII
-pub ruleset firsts = (first-boundary)
-
--- which of two texts comes before the other
-pub ruleset orders = (before-one, before-itself, before-trans)
+pub ruleset firsts = (first-boundary, front-start, back-start)
 
 -- sizes of texts and of characters
 pub ruleset sizes = (size-append, size-is, size-borrowed, empty-size, width-bounds)

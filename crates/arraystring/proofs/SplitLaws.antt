@@ -63,10 +63,10 @@ module _ (p : ℕ → Bool) where
       let long : length t ≡ length a + 1 + length b = omega (arith, length-append a (ch ∷ b)) in
       let behind : (k : ℕ) → length a + 1 ≤ k → k < length t → not (p (get_or t k 0)) ≡ true =
       λ k from below.
-        let m = k - (length a + 1) in
-        let place : k ≡ length a + suc m = omega (arith, from) in
-        let read : get_or t k 0 ≡ get_or b m 0 = ap (λ k. get_or t k 0) place ∙ get_or-append-add a (ch ∷ b) (suc m) 0 in
-        ap not (ap p read ∙ none-at b m none (omega (arith, from, below, long))) in
+      let m = k - (length a + 1) in
+      let place : k ≡ length a + suc m = omega (arith, from) in
+      let read : get_or t k 0 ≡ get_or b m 0 = ap (λ k. get_or t k 0) place ∙ get_or-append-add a (ch ∷ b) (suc m) 0 in
+      ap not (ap p read ∙ none-at b m none (omega (arith, from, below, long))) in
       let before : length a + 1 - 1 ≡ length a + 0 = omega arith in
       let here : not (p (get_or t (length a + 1 - 1) 0)) ≡ false =
       ap not (ap p (ap (λ k. get_or t k 0) before ∙ get_or-append-add a (ch ∷ b) 0 0) ∙ passes) in

@@ -42,14 +42,14 @@ pub fn look_up(scores: &BTreeMap<Name, u32>, name: &Name) -> Option<u32>
 }
 
 /// Returns the one of two names that comes first.
-#[tactic(auto, using(arraystring::proofs::Rules::orders))]
 pub fn first_of(a: Name, b: Name) -> Name
     ensures one { (result.text ≡ a.text) ⊎ (result.text ≡ b.text) }
-    ensures not_a { ¬ (IsBefore a.text result.text) }
-    ensures not_b { ¬ (IsBefore b.text result.text) }
+    ensures least_a { (result.text ≡ a.text) ⊎ IsBefore result.text a.text }
+    ensures least_b { (result.text ≡ b.text) ⊎ IsBefore result.text b.text }
 {
     match a.cmp(&b) {
+        Ordering::Less => a,
+        Ordering::Equal => a,
         Ordering::Greater => b,
-        _ => a,
     }
 }
