@@ -1,5 +1,6 @@
 //! Each use once, on values worked out by hand.
-use crate::records::{NotEntered, enter_record, role_in};
+use crate::entry::{NotEntered, enter_record};
+use crate::records::role_in;
 use crate::registry::{NotRenamed, dump, enter, rename, strike_off};
 use arraystring::ArrayString;
 use bounded_records::{Directory, RecordFault, User};
