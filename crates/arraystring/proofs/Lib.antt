@@ -1,7 +1,6 @@
 pub use Rattle.arraystring_base.proofs.TextLaws
 pub use Rattle.arraystring_base.proofs.CutLaws
 pub use Rattle.arraystring_base.proofs.FindLaws
-pub use Rattle.arraystring_base.proofs.OrderLaws
 pub use Rattle.arraystring_core.proofs.RangeEndLaws
 pub use Rattle.arraystring_core.proofs.TakenLaws
 pub mod BoundaryLaws
@@ -10,10 +9,15 @@ pub mod EditLaws
 pub mod AdditionLaws
 pub mod RemovalLaws
 pub mod RangeEditLaws
+pub mod OrderLaws
 pub mod MapLaws
 pub mod LoopLaws
+pub mod TracedLaws
+pub mod KeptLaws
 pub mod SplitLaws
 pub mod CharacterLaws
+pub mod FindLastLaws
+pub mod NumberLaws
 pub mod WellFormedLaws
 pub mod Rules
 mod examples

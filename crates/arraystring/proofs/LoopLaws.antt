@@ -1,5 +1,5 @@
 -- Laws of a loop that makes a text: it appends a piece for each item of an iterator or of a slice, or one character many times.
-use Rattle.std.proofs.Common.{◌≡◌, ℕ, ◌+◌, ◌*◌, ◌<◌, ◌≤◌, List, [], ◌∷◌, ◌++◌, ap, subst, sym, refl, ◌∙◌, arith, map, flat_map, length, take, get_or, replicate, zero, suc, Option, Some, None, IsUtf8, MatchOption, append_assoc, chars}
+use Rattle.std.proofs.Common.{◌≡◌, ℕ, ◌+◌, ◌*◌, ◌<◌, ◌≤◌, List, [], ◌∷◌, ◌++◌, ap, subst, sym, refl, ◌∙◌, arith, map, flat_map, length, take, get_or, replicate, zero, suc, add-one, Option, Some, None, IsUtf8, MatchOption, append_assoc, chars}
 use Rattle.std.proofs.lemmas.Iterator.{YieldsList}
 use Rattle.std.proofs.lemmas.Grind.{flat_map-append}
 use Rattle.std.proofs.lemmas.List.{append-nil}
@@ -71,6 +71,26 @@ pub taken-item : {A : Type 0} (piece : A → List ℕ) (xs : List A) (i : ℕ) �
     × ((past : A) → size (flat_map piece (take i xs)) + size (piece (get_or xs i past)) ≤ size (flat_map piece xs))
     × ((next : A) × (size (flat_map piece (take i xs)) + size (piece next) ≤ size (flat_map piece xs)))
 taken-item piece xs i below = (refl, taken-more piece xs i below, taken-next piece xs i below)
+
+-- the pieces up to and with the next item have the size of those so far and of its own
+taken-suc : {A : Type 0} (piece : A → List ℕ) (xs : List A) (i : ℕ) → i < length xs → (past : A)
+    → size (flat_map piece (take (suc i) xs)) ≡ size (flat_map piece (take i xs)) + size (piece (get_or xs i past))
+taken-suc piece [] i below past = absurd (omega arith)
+taken-suc piece (x ∷ xs) zero below past = omega (arith, size-append (piece x) [])
+taken-suc piece (x ∷ xs) (suc i) below past =
+    omega (
+      arith,
+      size-append (piece x) (flat_map piece (take (suc i) xs)),
+      size-append (piece x) (flat_map piece (take i xs)),
+      taken-suc piece xs i (omega arith) past,
+    )
+
+-- in the form that `grind` finds, for a loop that keeps as many as fit
+pub taken-with : {A : Type 0} (piece : A → List ℕ) (xs : List A) (i : ℕ) → i < length xs
+    → (flat_map piece (take i xs) ≡ flat_map piece (take i xs))
+    × ((past : A)
+    → size (flat_map piece (take (i + 1) xs)) ≡ size (flat_map piece (take i xs)) + size (piece (get_or xs i past)))
+taken-with piece xs i below = (refl, λ past. rw (add-one i) (taken-suc piece xs i below past))
 
 -- the characters of a text `s`, of which a loop has taken `xs`, and `t` is left: they are `xs` and those of `t`
 pub chars-left : (s t : Chars) (xs : List ℕ) → IsUtf8 s.rest.now → Yields spells s xs t → chars s.rest.now ≡ xs ++ chars t.rest.now

@@ -3,8 +3,9 @@
 -- when it is which `Err` (`-past`, `-inside`). A law takes what its row takes after the text, and then facts.
 -- After an `Ok` no test of the row holds, and an `Err` is that of the first that does. `grind` reads each test as the comparison
 -- that it makes, one after the other; where a test asks for a boundary, the law that says whether it holds stands beside.
-use Rattle.std.proofs.Common.{◌≡◌, ℕ, ◌<◌, ◌≤◌, ◌⊎◌, List, [], ◌∷◌, ◌++◌, ap, sym, ◌∙◌, arith, true, false, refl, Option, Some, None, MatchOption, Result, Ok, Err, drop}
+use Rattle.std.proofs.Common.{◌≡◌, ℕ, ◌-◌, ◌<◌, ◌≤◌, ◌⊎◌, List, [], ◌∷◌, ◌++◌, ap, sym, ◌∙◌, arith, true, false, refl, Option, Some, None, MatchOption, Result, Ok, Err, take, drop, length, length-append}
 use Rattle.std.proofs.lemmas.Bool.{lt-leb, leb-false}
+use Rattle.std.proofs.lemmas.List.{take-append-le}
 use Rattle.std.proofs.lemmas.Bool.Decides.{nat_tests}
 use Rattle.std.specs.Prelude.{slice_index}
 use Rattle.arraystring_base.specs.Text.{size, front, back, boundary}
@@ -43,6 +44,25 @@ module _ {t new : List ℕ} where
       → MatchOption found ((t ≡ []) × (new ≡ [])) (λ c. t ≡ new ++ c ∷ [])
   popping-made {found = None} m = popping-none m
   popping-made {found = Some c} m = popping-some m
+
+-- a pop leaves one character less, and the first `n` if there are more
+module _ (t new : List ℕ) (found : Option ℕ) (m : Makes (popping t) t (Ok found) new) where
+  popped : MatchOption found ((t ≡ []) × (new ≡ [])) (λ c. t ≡ new ++ c ∷ [])
+  popped = popping-made m
+
+  pub popped-length : length new ≡ length t - 1
+  popped-length = go found popped
+    where
+      go : (found : Option ℕ) → MatchOption found ((t ≡ []) × (new ≡ [])) (λ c. t ≡ new ++ c ∷ []) → length new ≡ length t - 1
+      go None none = omega (arith, ap length none.0, ap length none.1)
+      go (Some c) is = omega (arith, ap length is, length-append new (c ∷ []))
+
+  pub popped-take : (n : ℕ) → n < length t → take n new ≡ take n t
+  popped-take n below = go found popped
+    where
+      go : (found : Option ℕ) → MatchOption found ((t ≡ []) × (new ≡ [])) (λ c. t ≡ new ++ c ∷ []) → take n new ≡ take n t
+      go None none = absurd (omega (arith, ap length none.0, below))
+      go (Some c) is = sym (ap (take n) is ∙ take-append-le n new (c ∷ []) (omega (arith, popped-length, below)))
 
 -- the part before `i` is kept
 module _ {t : List ℕ} (i : ℕ) {new : List ℕ} where

@@ -3,15 +3,18 @@
 -- A row of an edit opens by itself: what a goal lacks is what its tests ask. So each set is small, as `grind` has limits.
 use Rattle.std.proofs.Common.{append_assoc}
 use Rattle.std.proofs.lemmas.Bool.Decides.{nat_tests}
+use Rattle.std.proofs.lemmas.Fmt.{decimal_digit, decimal_step}
+use Rattle.std.proofs.lemmas.List.{take_all}
 use Rattle.arraystring_base.proofs.TextLaws.{size-append, size-is, size-borrowed, empty-size, width-bounds, width-is}
 use Rattle.arraystring_base.proofs.CutLaws.{cut-all, cut-fits, cut-past, cut-past_part}
 use Rattle.arraystring_base.proofs.BoundaryLaws.{front-start, back-start}
 use Rattle.arraystring.proofs.AdditionLaws.{addition-made, addition-refused, addition_of_cut-makes, addition_of_cut-cuts, addition-char_cuts}
 use Rattle.arraystring.proofs.BoundaryLaws.{front-fits, boundary-start, boundary-at_end, boundary-behind_given, boundary-behind_char, boundary-before_char, part-start, part_in-front}
-use Rattle.arraystring.proofs.CharacterLaws.{width-one, chars-ascii, size-repeated}
-use Rattle.arraystring.proofs.LoopLaws.{taken-item, taken-chars, pieces-push}
+use Rattle.arraystring.proofs.CharacterLaws.{width-one, chars-ascii, size-repeated, first-boundary}
+use Rattle.arraystring.proofs.LoopLaws.{taken-item, taken-with, taken-chars, pieces-push}
 use Rattle.arraystring.proofs.SplitLaws.{joined-found}
-use Rattle.arraystring.proofs.RemovalLaws.{popping-made, removal-made}
+use Rattle.arraystring.proofs.RemovalLaws.{popping-made, popped-take, popped-length, removal-made}
+use Rattle.arraystring.proofs.TracedLaws.{memory-push, traced-push, traced-chars, traced-item}
 
 -- appends, each whole or refused, one after the other
 pub ruleset additions = (addition-made, addition-refused, size-append, append_assoc)
@@ -28,11 +31,17 @@ pub ruleset cursors = (boundary-behind_given, boundary-behind_char, boundary-bef
 -- removals: of the last character, of the one at an index
 pub ruleset removals = (boundary-at_end, popping-made, removal-made)
 
+-- a loop of `pop`, which keeps the first characters
+pub ruleset pops = (popped-take, popped-length, take_all)
+
 -- splits, truncations, drains and replacements, at boundaries
 pub ruleset splits = (boundary-at_end)
 
 -- insertions and removals at index 0
 pub ruleset at_start = (front-start, back-start, empty-size)
+
+-- the place behind a first character of ASCII
+pub ruleset firsts = (first-boundary, front-start, back-start)
 
 -- sizes of texts and of characters
 pub ruleset sizes = (size-append, size-is, size-borrowed, empty-size, width-bounds)
@@ -40,8 +49,17 @@ pub ruleset sizes = (size-append, size-is, size-borrowed, empty-size, width-boun
 -- literals of ASCII, and one such character many times
 pub ruleset literals = (chars-ascii, width-one, size-repeated)
 
+-- the digits of a number, from the first to the last
+pub ruleset numbers = (decimal_digit, decimal_step)
+
 -- a loop over a slice, which appends a piece for each item
 pub ruleset slices = (taken-item)
+
+-- a loop over a slice, which keeps as many pieces as fit
+pub ruleset takes = (taken-with)
+
+-- a loop over the characters of a text, or over a slice, which appends a piece for each and remembers something of those so far
+pub ruleset traces = (memory-push, traced-push, traced-chars, traced-item)
 
 -- a loop over the characters of a text, which appends a piece for each
 pub ruleset characters = (taken-chars, pieces-push)

@@ -15,3 +15,4 @@ pub use Rattle.arraystring_core.specs.FromUtf16
 pub use Rattle.arraystring_core.specs.Json
 pub mod Cached
 pub mod Refusals
+pub mod Loops

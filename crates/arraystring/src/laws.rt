@@ -1,12 +1,14 @@
 //! Laws, which callers may rely on. Each carries its fact in its contract and changes nothing.
 //! `text_fits`, `text_spelled`, `left_fits` and `keys_ascend` call `len` or `as_str`, the others do
 //! nothing when called.
-ghost use Rattle.std.specs.Prelude.{◌≡◌, ◌⊎◌, ◌++◌, ◌∷◌, [], MatchOption, chars, map};
+ghost use Rattle.std.specs.Prelude.{◌≡◌, ◌<◌, ◌==◌, ◌⊎◌, ◌++◌, ◌∷◌, [], None, IsTrue, MatchOption, chars, length, map};
 ghost use Rattle.std.specs.BTreeMap.{keys};
-ghost use Rattle.std.specs.List.{AllPairs};
+ghost use Rattle.std.specs.List.{AllPairs, after_last, before_last, position_or_len};
+ghost use Rattle.std.specs.Str.{NonePass};
+ghost use Rattle.std.specs.Str.Pattern.{MatchBeginsAt, RFindsChar, SplitsAroundMatch};
 ghost use Rattle.std.specs.declared.str.Chars.{Chars};
 ghost use Rattle.std.specs.Str.Iter.{chars_rest, chars_steps_back};
-ghost use Rattle.arraystring_core.specs.Text.{IsBefore, IsWellFormed};
+ghost use Rattle.arraystring_core.specs.Text.{IsBefore, IsWellFormed, back, boundary, front, size};
 ghost use Rattle.arraystring_core.specs.Parts.{all_but_last};
 
 pub use arraystring_base::laws::{
@@ -31,6 +33,44 @@ pub fn last_given(text: &str, last: Option<char>)
         × (chars_rest from ≡ text.now) × chars_steps_back from last left }
     ensures { MatchOption last (chars text.now ≡ [])
         (λ c. chars text.now ≡ all_but_last (chars text.now) ++ c ∷ []) }
+{}
+
+/// `str::rfind` returns the boundary at which a character last stands. If it returns `None`, the character
+/// is not in the text.
+///
+/// # Precondition
+///
+/// `place` must be what `text.rfind(c)` returned.
+pub fn found_last(text: &str, c: char, place: Option<usize>)
+    requires { MatchOption place (RFindsChar c text.now None)
+        (MatchBeginsAt (RFindsChar c) text.now) }
+    ensures { MatchOption place
+        ((position_or_len (λ d. d == c) (chars text.now) ≡ length (chars text.now))
+        × (before_last (λ d. d == c) (chars text.now) ≡ [])
+        × (after_last (λ d. d == c) (chars text.now) ≡ chars text.now))
+        (λ i. (i < size (chars text.now))
+        × IsTrue (boundary (chars text.now) i)
+        × (front (chars text.now) i ≡ before_last (λ d. d == c) (chars text.now))
+        × (back (chars text.now) i ≡ c ∷ after_last (λ d. d == c) (chars text.now))) }
+{}
+
+/// `str::rsplit_once` splits a text where the character last stands. If it returns `None`, the character is
+/// not in the text.
+///
+/// # Precondition
+///
+/// `parts` must be what `text.rsplit_once(c)` returned.
+pub fn split_last(text: &str, c: char, parts: Option<(&str, &str)>)
+    requires { MatchOption parts (RFindsChar c text.now None)
+        (λ found. SplitsAroundMatch (RFindsChar c) text.now found.0.now found.1.now) }
+    ensures { MatchOption parts.entry
+        ((position_or_len (λ d. d == c) (chars text.now) ≡ length (chars text.now))
+        × (before_last (λ d. d == c) (chars text.now) ≡ [])
+        × (after_last (λ d. d == c) (chars text.now) ≡ chars text.now))
+        (λ found. (chars found.0.now ≡ before_last (λ d. d == c) (chars text.now))
+        × (chars found.1.now ≡ after_last (λ d. d == c) (chars text.now))
+        × (chars text.now ≡ chars found.0.now ++ c ∷ chars found.1.now)
+        × NonePass (λ d. d == c) (chars found.1.now)) }
 {}
 
 /// Bytes are well-formed UTF-8, or they are not. A constructor from bytes returns `Utf8` if they are not,

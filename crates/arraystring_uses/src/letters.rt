@@ -1,8 +1,9 @@
 //! Single characters that go in and out.
-ghost use Rattle.std.specs.Prelude.{◌≡◌, ◌+◌, ◌<◌, ◌≤◌, ◌↔◌, ◌++◌, ◌∷◌, [], true, false, IsTrue, MatchOption, chars, drop};
+ghost use Rattle.std.specs.Prelude.{◌≡◌, ◌+◌, ◌<◌, ◌≤◌, ◌↔◌, ◌++◌, ◌∷◌, [], true, false, IsTrue, MatchOption, chars, drop, take};
 ghost use Rattle.std.specs.List.{slice_get};
 ghost use Rattle.arraystring.specs.Edits.{all_but_last};
 ghost use Rattle.arraystring.specs.Text.{size};
+ghost use Rattle.arraystring_uses.specs.Letters.{capitalized};
 
 use arraystring::ArrayString;
 use arraystring::laws::last_given;
@@ -68,4 +69,26 @@ pub fn push_is_cut(text: &mut ArrayString<16>, given: &str) -> bool
     let before = text.len();
     text.push_str(given);
     ((text.len() - before) as usize) < given.len()
+}
+
+/// Puts the first letter into upper case, if it is one of ASCII.
+#[tactic(auto, using(arraystring::proofs::Rules::firsts))]
+pub fn capitalize(text: &mut ArrayString<16>)
+    ensures { text.new.text ≡ capitalized text.old.text }
+{
+    if let Some(first) = text.as_str().chars().next()
+        && first.is_ascii()
+    {
+        text.make_ascii_uppercase_in(0..1);
+    }
+}
+
+/// Keeps the first `count` characters, and removes the others.
+#[tactic(auto, using(arraystring::proofs::Rules::pops, std::proofs::lemmas::Str::chars_from_encodes))]
+pub fn keep_first(text: &mut ArrayString<16>, count: usize)
+    ensures { text.new.text ≡ take count text.old.text }
+{
+    while text.as_str().chars().count() > count {
+        text.pop();
+    }
 }

@@ -9,13 +9,16 @@ pub mod greeting;
 pub mod json;
 pub mod letters;
 pub mod log_line;
+pub mod numbers;
 pub mod packet;
 pub mod pair;
 pub mod parts;
+pub mod paths;
 pub mod quotes;
 pub mod row;
 pub mod runs;
 pub mod scores;
 #[cfg(test)]
 mod tests;
+pub mod titles;
 pub mod words;

@@ -1,5 +1,5 @@
 //! Points under names, in the order of the names.
-ghost use Rattle.std.specs.Prelude.{◌≡◌, ◌≢◌, ℕ, List, Some, IfOk, OnOk, OnErr};
+ghost use Rattle.std.specs.Prelude.{◌≡◌, ◌≢◌, ◌⊎◌, ℕ, List, Some, IfOk, OnOk, OnErr};
 ghost use Rattle.std.specs.List.{AllPairs};
 ghost use Rattle.arraystring.specs.Text.{IsBefore};
 ghost use Rattle.arraystring_uses.specs.Scores.{names, points};
@@ -7,6 +7,7 @@ ghost use Rattle.arraystring_uses.specs.Scores.{names, points};
 use arraystring::ArrayString;
 use arraystring::laws::keys_ascend;
 use std::alloc::AllocError;
+use std::cmp::Ordering;
 use std::collections::BTreeMap;
 
 /// The name of a player.
@@ -39,4 +40,17 @@ pub fn look_up(scores: &BTreeMap<Name, u32>, name: &Name) -> Option<u32>
     ensures { result ≡ points scores.now name.now.text }
 {
     scores.get(name).copied()
+}
+
+/// Returns the one of two names that comes first.
+pub fn first_of(a: Name, b: Name) -> Name
+    ensures one { (result.text ≡ a.text) ⊎ (result.text ≡ b.text) }
+    ensures least_a { (result.text ≡ a.text) ⊎ IsBefore result.text a.text }
+    ensures least_b { (result.text ≡ b.text) ⊎ IsBefore result.text b.text }
+{
+    match a.cmp(&b) {
+        Ordering::Less => a,
+        Ordering::Equal => a,
+        Ordering::Greater => b,
+    }
 }

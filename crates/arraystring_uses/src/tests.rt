@@ -6,17 +6,21 @@ use crate::entry::add_entry;
 use crate::greeting::greet;
 use crate::json::sent_and_read;
 use crate::letters::{
-    first_letter, last_letter, push_if_any_fits, push_is_cut, take_first, take_last,
+    capitalize, first_letter, keep_first, last_letter, push_if_any_fits, push_is_cut, take_first,
+    take_last,
 };
 use crate::log_line::{Level, log_line};
+use crate::numbers::{push_number, write_number};
 use crate::packet::name_in;
 use crate::pair::{line_of, pair, pair_of, split_value, there_and_back};
 use crate::parts::{drop_part, first_left, part, prefix};
+use crate::paths::{go_up, last_segment};
 use crate::quotes::{quoted, replaced};
 use crate::row::add_row;
 use crate::runs::{fits_small, push_and_pop};
-use crate::scores::{look_up, record};
-use crate::words::{add_both, lines, path};
+use crate::scores::{first_of, look_up, record};
+use crate::titles::{squeeze, titled};
+use crate::words::{add_both, filled, lines, path};
 use arraystring::{ArrayString, Error};
 use arraystring_run::Command;
 use std::alloc::Global;
@@ -567,6 +571,8 @@ fn names_are_found(rt: HostRuntime) {
     agree(&rt, look_up(&scores, &jose), Some(4));
     agree(&rt, look_up(&scores, &anne), Some(5));
     agree(&rt, look_up(&scores, &ArrayString::new()), None);
+    agree(&rt, first_of(jose, anne), anne);
+    agree(&rt, first_of(anne, jose), anne);
     let mut names = scores.keys();
     agree(&rt, names.next(), Some(&anne));
     agree(&rt, names.next(), Some(&jose));
@@ -578,4 +584,87 @@ fn a_name_is_read_back(rt: HostRuntime) {
     let name = ArrayString::try_from_str("josé \"🤔\"").expect(&rt, "it fits");
     let read = sent_and_read(&name, rt.alloc());
     agree(&rt, read.expect(&rt, "it is read"), name);
+}
+
+#[test]
+fn loops_remember(rt: HostRuntime) {
+    for (text, wanted) in [
+        ("", Some("")),
+        ("war and écu", Some("War And écu")),
+        ("  a 1b", Some("  A 1b")),
+        ("0123456789 b", Some("0123456789 B")),
+        ("0123456789 bc", None),
+    ] {
+        check_made::<12>(&rt, titled(text), wanted);
+    }
+    let mut text = ArrayString::<16>::from_str_truncate("aabééé a🤔🤔a");
+    squeeze(&mut text);
+    agree(&rt, text.as_str(), "abé a🤔");
+    squeeze(&mut text);
+    agree(&rt, text.as_str(), "abé a🤔");
+}
+
+#[test]
+fn as_many_words_as_fit(rt: HostRuntime) {
+    for (words, wanted, count) in [
+        (["", "", ""], "   ", 3),
+        (["ab", "cdé", "f"], "ab cdé f ", 3),
+        // The space of the last word is a byte too much, and so is the word; none is cut.
+        (["ab", "cdé", "fg"], "ab cdé ", 2),
+        (["ab", "0123456", ""], "ab ", 1),
+        (["0123456789", "", ""], "", 0),
+    ] {
+        let (line, filled_with) = filled::<10>(&words);
+        agree(&rt, (line.as_str(), filled_with), (wanted, count));
+    }
+}
+
+#[test]
+fn first_letters_are_kept_or_capitalized(rt: HostRuntime) {
+    for (before, after) in [("", ""), ("z", "Z"), ("école", "école"), ("bé", "Bé"), ("1b", "1b")] {
+        let mut text = ArrayString::from_str_truncate(before);
+        capitalize(&mut text);
+        agree(&rt, text.as_str(), after);
+    }
+    for (count, after) in [(5, "aé€🤔"), (4, "aé€🤔"), (3, "aé€"), (1, "a"), (0, "")] {
+        let mut text = ArrayString::from_str_truncate("aé€🤔");
+        keep_first(&mut text, count);
+        agree(&rt, text.as_str(), after);
+    }
+}
+
+#[test]
+fn paths_lose_their_last_segment(rt: HostRuntime) {
+    for (whole, parent, segment) in [
+        ("", "", ""),
+        ("a", "", "a"),
+        ("/a", "", "a"),
+        ("é/b/", "é/b", ""),
+        ("a//€", "a/", "€"),
+    ] {
+        let mut path = ArrayString::<16>::from_str_truncate(whole);
+        go_up(&mut path);
+        agree(&rt, path.as_str(), parent);
+        check_made::<3>(&rt, last_segment(whole), Some(segment));
+    }
+    check_made::<3>(&rt, last_segment("a/€b"), None);
+}
+
+#[test]
+fn numbers_are_appended(rt: HostRuntime) {
+    for (number, digits, is_pushed) in [
+        (0, "0", true),
+        (9, "9", true),
+        (10, "10", true),
+        (12_305, "12305", true),
+        (u32::MAX, "4294967295", false),
+    ] {
+        let mut line = ArrayString::<24>::from_str_truncate("é ");
+        agree(&rt, write_number(&mut line, number), Ok(()));
+        agree(&rt, line.as_str().strip_prefix("é "), Some(digits));
+        let mut short = ArrayString::<8>::from_str_truncate("é ");
+        agree(&rt, push_number(&mut short, number).is_ok(), is_pushed);
+        let after = if is_pushed { digits } else { "" };
+        agree(&rt, short.as_str().strip_prefix("é "), Some(after));
+    }
 }

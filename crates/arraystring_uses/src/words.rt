@@ -1,9 +1,10 @@
 //! Words that are put together.
-ghost use Rattle.std.specs.Prelude.{◌++◌, chars};
+ghost use Rattle.std.specs.Prelude.{◌≡◌, ◌+◌, ◌<◌, ◌≤◌, ◌++◌, ◌∷◌, [], chars, length, take};
+ghost use Rattle.std.specs.List.{flat_map};
 ghost use Rattle.arraystring.specs.Construct.{IsWholeOrRefused};
 ghost use Rattle.arraystring.specs.Edits.{Makes, addition};
-ghost use Rattle.arraystring.specs.Text.{cap};
-ghost use Rattle.arraystring_uses.specs.Words.{lines, path};
+ghost use Rattle.arraystring.specs.Text.{cap, size};
+ghost use Rattle.arraystring_uses.specs.Words.{lines, path, spaced};
 
 use arraystring::laws::text_fits;
 use arraystring::{ArrayString, Error};
@@ -45,6 +46,36 @@ pub fn path<const N: usize>(words: &[&str]) -> Result<ArrayString<N>, Error>
     }
     text_fits(&all);
     Ok(all)
+}
+
+/// Puts as many of `words` on a line as fit, each with a space after it, and returns how many.
+#[tactic(auto, using(arraystring::proofs::Rules::additions, arraystring::proofs::Rules::takes))]
+pub fn filled<const N: usize>(words: &[&str]) -> (ArrayString<N>, usize)
+    ensures text { result.0.text ≡ flat_map spaced (take result.1 words.now) }
+    ensures count { result.1 ≤ length words.now }
+    ensures full { result.1 < length words.now
+        → cap N < size (flat_map spaced (take (result.1 + 1) words.now)) }
+{
+    let mut line = ArrayString::new();
+    for (index, word) in words.iter().enumerate() {
+        if push_spaced(&mut line, word).is_err() {
+            return (line, index);
+        }
+    }
+    (line, words.len())
+}
+
+/// Appends a word and a space.
+#[tactic(auto, using(arraystring::proofs::Rules::additions))]
+fn push_spaced<const N: usize>(line: &mut ArrayString<N>, word: &str) -> Result<(), Error>
+    ensures { Makes (addition line.old.text (chars word.now ++ 0x20 ∷ []) (cap N))
+        line.old.text result line.new.text }
+{
+    let mut longer = *line;
+    longer.try_push_str(word)?;
+    longer.try_push(' ')?;
+    *line = longer;
+    Ok(())
 }
 
 /// Appends `first` and `last`.

@@ -2,6 +2,7 @@
 //! tests are in `tests.rt`.
 #![tactic(auto)]
 
+pub mod entry;
 pub mod records;
 pub mod registry;
 #[cfg(test)]

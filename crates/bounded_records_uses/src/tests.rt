@@ -1,4 +1,5 @@
 //! Each use once, on values worked out by hand.
+use crate::entry::{NotEntered, enter_record};
 use crate::records::role_in;
 use crate::registry::{NotRenamed, dump, enter, rename, strike_off};
 use arraystring::ArrayString;
@@ -26,6 +27,8 @@ fn check_users(rt: &(impl Abort + AllocGlobal), users: &Directory, wanted: &[Use
 fn each_refusal_is_equal_to_itself_alone(rt: HostRuntime) {
     let refusals = [NotRenamed::Missing, NotRenamed::Taken, NotRenamed::Memory];
     agree(&rt, first_mistaken(&refusals), None);
+    let refusals = [NotEntered::Record, NotEntered::Memory];
+    agree(&rt, first_mistaken(&refusals), None);
 }
 
 #[test]
@@ -38,6 +41,20 @@ fn a_role_is_found_in_a_record(rt: HostRuntime) {
     agree(&rt, role_in(&[0xFF; 27]), Err(RecordFault::Count));
     agree(&rt, role_in(&[5; 27]), Err(RecordFault::Padding));
     agree(&rt, role_in(&[0; 27]), Ok(ArrayString::new()));
+}
+
+#[test]
+fn the_user_of_a_record_is_entered(rt: HostRuntime) {
+    let record = b"\x03ann\0\0\0\0\0\0\0\0\0\0\0\0\0\0\0\0\0\x05admin";
+    let mut users = Directory::new(rt.alloc());
+    agree(
+        &rt,
+        enter_record(&mut users, &record[1..]),
+        Err(NotEntered::Record),
+    );
+    check_users(&rt, &users, &[]);
+    agree(&rt, enter_record(&mut users, record), Ok(()));
+    check_users(&rt, &users, &[user(&rt, "ann", "admin")]);
 }
 
 /// A user of these texts.

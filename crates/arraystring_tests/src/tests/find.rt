@@ -1,9 +1,11 @@
-//! Where a character first stands in a text, by std's `find` and `split_once`: each character of one
-//! to four bytes, at each boundary, before each text, and not at all. The laws of it are called, and
-//! change nothing.
+//! Where a character first or last stands in a text, by std's `find`, `split_once`, `rfind` and
+//! `rsplit_once`: each character of one to four bytes, at each boundary, before and behind each text, and
+//! not at all. The laws of it are called, and change nothing.
 use super::table::agree;
 use arraystring::ArrayString;
-use arraystring::laws::{found_first, left_given, split_first, text_spelled};
+use arraystring::laws::{
+    found_first, found_last, left_given, split_first, split_last, text_spelled,
+};
 use arraystring::utils::is_char_boundary;
 use std::process::Abort;
 
@@ -29,6 +31,20 @@ fn check_found(rt: &impl Abort, c: char, before: &str, after: &str) {
     split_first(whole, c, parts);
     agree(rt, whole, parts, Some((before, after)));
     check_parts(rt, text, at, before, after);
+}
+
+/// Asserts that `c` is found last behind `before`, and that it is not in `after`.
+fn check_last(rt: &impl Abort, c: char, before: &str, after: &str) {
+    let mut text = ArrayString::<64>::from(before);
+    agree(rt, before, text.try_push(c), Ok(()));
+    agree(rt, before, text.try_push_str(after), Ok(()));
+    let whole = text.as_str();
+    let place = whole.rfind(c);
+    found_last(whole, c, place);
+    agree(rt, whole, place, Some(before.len()));
+    let parts = whole.rsplit_once(c);
+    split_last(whole, c, parts);
+    agree(rt, whole, parts, Some((before, after)));
 }
 
 /// Asserts that `text` is parted at `at` into `before`, a character, and `after`.
@@ -59,10 +75,16 @@ fn check_not_found(rt: &impl Abort, c: char, text: &str) {
     let parts = text.split_once(c);
     split_first(text, c, parts);
     agree(rt, text, parts, None);
+    let last = text.rfind(c);
+    found_last(text, c, last);
+    agree(rt, text, last, None);
+    let last_parts = text.rsplit_once(c);
+    split_last(text, c, last_parts);
+    agree(rt, text, last_parts, None);
 }
 
 /// Looks for `c` behind each text before it, and with each text after it: none, one in which it is
-/// again, and so on. Returns how often.
+/// again, and so on. Looks for the last `c` with these texts swapped. Returns how often.
 fn check_places(rt: &impl Abort, c: char) -> u32 {
     let mut count = 0u32;
     for at in 0..=OTHERS.len() {
@@ -75,6 +97,7 @@ fn check_places(rt: &impl Abort, c: char) -> u32 {
                 continue;
             };
             check_found(rt, c, before, after);
+            check_last(rt, c, after, before);
             count = count.wrapping_add(1);
         }
         for start in 0..=FOUND.len() {
@@ -82,6 +105,7 @@ fn check_places(rt: &impl Abort, c: char) -> u32 {
                 continue;
             };
             check_found(rt, c, before, after);
+            check_last(rt, c, after, before);
             count = count.wrapping_add(1);
         }
     }

@@ -125,6 +125,8 @@ fn the_laws_are_at_hand(rt: HostRuntime) {
     laws::borrowed_text("a");
     laws::found_first("a", 'a', "a".find('a'));
     laws::split_first("a", 'a', "a".split_once('a'));
+    laws::found_last("a", 'a', "a".rfind('a'));
+    laws::split_last("a", 'a', "a".rsplit_once('a'));
     laws::longest_cut();
     laws::one_stop();
     laws::one_text();

@@ -1,0 +1,29 @@
+-- Texts that a loop makes which remembers something of the characters so far.
+use Rattle.std.specs.Prelude.{ℕ, List, [], ◌∷◌, ◌++◌, Bool, true, not, Option, Some, None, if◌then◌else◌, ◌==◌}
+use Rattle.std.specs.Char.{to_ascii_uppercase}
+use Rattle.arraystring.specs.Loops.{traced, kept}
+
+-- whether a word begins after this character
+abbrev pub ends_word : Bool → ℕ → Bool
+ends_word at_start c = c == 0x20
+
+-- a character of a title: in upper case, if a word begins with it
+abbrev pub in_title : Bool → ℕ → List ℕ
+in_title at_start c = (if at_start then to_ascii_uppercase c else c) ∷ []
+
+-- the text with the first letter of each word in upper case
+abbrev pub title : List ℕ → List ℕ
+title t = traced ends_word in_title true t
+
+-- the last character is remembered
+abbrev pub last_seen : Option ℕ → ℕ → Option ℕ
+last_seen last c = Some c
+
+-- whether a character is another than the last one, or the first
+abbrev pub is_new : Option ℕ → ℕ → Bool
+is_new None c = true
+is_new (Some last) c = not (last == c)
+
+-- the text with one character in place of each run of the same
+abbrev pub squeezed : List ℕ → List ℕ
+squeezed t = kept last_seen is_new None t
