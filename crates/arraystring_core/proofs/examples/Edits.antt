@@ -311,7 +311,7 @@ replacement-past_before_inside : Makes (replacement (codes "aé") 2 4 (codes "x"
 unfolding width
 replacement-past_before_inside = record { returns = refl; ok = tt; err = refl }
 
-replacement-past_before_room : first_cause (replacement (codes "aé") 1 4 (codes "xyz") 3).tests ≡ Some Past
+replacement-past_before_room : first_cause (replacement (codes "aé") 1 4 (codes "wxyz") 3).tests ≡ Some Past
 unfolding width
 replacement-past_before_room = refl
 
