@@ -157,6 +157,11 @@ addition_of_cut-takes_no_later_character : Makes (addition_of_cut (codes "a") (c
 unfolding width
 addition_of_cut-takes_no_later_character = record { returns = refl; ok = refl; err = tt }
 
+-- what is there is not cut
+addition_of_cut-without_room : Makes (addition_of_cut (codes "abc") (codes "d") 2) (codes "abc") (Ok tt) (codes "abc")
+unfolding width
+addition_of_cut-without_room = record { returns = refl; ok = refl; err = tt }
+
 popping-the_last : Makes (popping (codes "ab")) (codes "ab") (Ok (Some 0x62)) (codes "a")
 popping-the_last = record { returns = refl; ok = refl; err = tt }
 
@@ -311,7 +316,7 @@ replacement-past_before_inside : Makes (replacement (codes "aé") 2 4 (codes "x"
 unfolding width
 replacement-past_before_inside = record { returns = refl; ok = tt; err = refl }
 
-replacement-past_before_room : first_cause (replacement (codes "aé") 1 4 (codes "xyz") 3).tests ≡ Some Past
+replacement-past_before_room : first_cause (replacement (codes "aé") 1 4 (codes "wxyz") 3).tests ≡ Some Past
 unfolding width
 replacement-past_before_room = refl
 
