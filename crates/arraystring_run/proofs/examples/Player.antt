@@ -107,7 +107,8 @@ IsOutcome-played_and_nothing_written : IsOutcome 5 (Some (codes "len")) (Some []
 IsOutcome-played_and_nothing_written o = IsPlayed-nothing_was_written o.whole
 
 IsOutcome-another_bad_line : IsOutcome 5 (Some (0x0A ∷ [])) (Some []) (Some []) (Unit {0}) (Err (BadLine 0)) → ⊥
-IsOutcome-another_bad_line o = let bad : IsBadAt ([] ∷ []) 0 = o.bad_line in let number : 0 ≡ length bad.front + 1 = bad.number in omega arith
+IsOutcome-another_bad_line o =
+    let bad : IsBadAt ([] ∷ []) 0 = o.bad_line in let number : 0 ≡ length bad.front + 1 = bad.number in omega arith
 
 IsOutcome-written_where_a_read_failed : IsOutcome 5 (Some []) (Some []) (Some []) ⊥ (Err Read) → ⊥
 IsOutcome-written_where_a_read_failed o = o.unwritten (λ e. cc)

@@ -20,7 +20,8 @@ capacity_named-three_words : map (λ w. capacity_named (Some (str w))) (codes "s
     ≡ Some 23 ∷ Some 63 ∷ Some 255 ∷ []
 capacity_named-three_words = refl
 
-capacity_named-other_words : map (λ w. capacity_named (Some (str w))) (codes "big" ∷ codes "Small" ∷ codes "smal" ∷ codes "small " ∷ [] ∷ [])
+capacity_named-other_words : map (λ w. capacity_named (Some (str w)))
+    (codes "big" ∷ codes "Small" ∷ codes "smal" ∷ codes "small " ∷ [] ∷ [])
     ≡ None ∷ None ∷ None ∷ None ∷ None ∷ []
 capacity_named-other_words = refl
 
@@ -171,7 +172,10 @@ IsServed-write_failed = record {
   bad_line = λ e. absurd (omega arith);
   no_memory = λ e. absurd (omega arith);
   failed = λ e.
-      inr (([], tt, record { done = codes "fin"; later = codes "al " ++ 0x0A ∷ []; whole = refl; appended = refl }), all_of (fault_line Write));
+      inr (
+        ([], tt, record { done = codes "fin"; later = codes "al " ++ 0x0A ∷ []; whole = refl; appended = refl }),
+        all_of (fault_line Write),
+      );
   quiet = λ e. absurd (omega arith);
   unwritten = λ some failed. absurd (failed refl);
   known = omega arith;
