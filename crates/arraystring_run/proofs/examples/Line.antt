@@ -14,8 +14,8 @@ str bs = record { ref_ptr = (0, 0); now = bs }
 -- a command of each kind
 abbrev each : List Command
 each =
-    command.TryPush 0xE9 ∷ command.TryPushStr (str (codes "ab")) ∷ command.PushStr (str []) ∷ command.Pop ∷ command.Truncate 7 ∷ command.Trim
-    ∷ command.Remove 0 ∷ command.RetainNot 0x61 ∷ command.TryInsert 1 0x62 ∷ command.TryInsertStr 2 (str (codes "c d"))
+    command.TryPush 0xE9 ∷ command.TryPushStr (str (codes "ab")) ∷ command.PushStr (str []) ∷ command.Pop ∷ command.Truncate 7
+    ∷ command.Trim ∷ command.Remove 0 ∷ command.RetainNot 0x61 ∷ command.TryInsert 1 0x62 ∷ command.TryInsertStr 2 (str (codes "c d"))
     ∷ command.InsertStr 0 (str (codes " x")) ∷ command.SplitOff 255 ∷ command.Clear ∷ command.Drain 4 10 ∷ command.DrainThrough 5 11
     ∷ command.DrainBack 6 12 ∷ command.ReplaceRange 1 3 (str (codes "ef")) ∷ command.Upper ∷ command.Lower ∷ command.Get 0 9 ∷ command.Len
     ∷ command.Capacity ∷ command.AsStr ∷ []

@@ -1,4 +1,4 @@
--- Examples of scripts that were played, to their end or not. `codes "len"` is the list of the bytes of `"len"`, and 0x0A is the line
+-- Examples of scripts that were played, to their end or not. `codes "capacity"` is the list of the bytes of `"len"`, and 0x0A is the line
 -- feed.
 use Rattle.std.proofs.Common.{◌≡◌, ℕ, ◌+◌, List, [], ◌∷◌, ◌++◌, length, Some, None, Ok, Err, refl, arith, codes}
 use Rattle.std.specs.Fmt.{digits}
@@ -20,13 +20,13 @@ IfBadLine-another_number e = omega arith
 IfBadLine-no_claim_on_others : IfBadLine Memory (λ k. ⊥) × IfBadLine Read (λ k. ⊥) × IfBadLine Write (λ k. ⊥)
 IfBadLine-no_claim_on_others = (tt, tt, tt)
 
--- what the script `len` prints
+-- what the script `capacity` prints at the capacity 5
 abbrev output : List ℕ
-output = codes "number 0" ++ 0x0A ∷ codes "final " ++ 0x0A ∷ []
+output = codes "number 5" ++ 0x0A ∷ codes "final " ++ 0x0A ∷ []
 
-IsPlayed-appended : IsPlayed (codes "len") 5 (Some (codes "x")) (Some (0x78 ∷ output))
+IsPlayed-appended : IsPlayed (codes "capacity") 5 (Some (codes "x")) (Some (0x78 ∷ output))
 unfolding digits
-IsPlayed-appended = (command.Len ∷ [], (([], refl, refl), tt), refl)
+IsPlayed-appended = (command.Capacity ∷ [], (([], refl, refl), tt), refl)
 
 IsPlayed-to_unknown_bytes : IsPlayed [] 5 None None
 IsPlayed-to_unknown_bytes = ([], tt, tt)
@@ -49,17 +49,17 @@ some_printed (r ∷ rs) ys b e = some_first (printed r) (replies_printed rs) e
     some_first [] zs e = cc
     some_first (x ∷ xs) zs e = cc
 
-IsPlayed-nothing_was_written : IsPlayed (codes "len") 5 (Some []) (Some []) → ⊥
+IsPlayed-nothing_was_written : IsPlayed (codes "capacity") 5 (Some []) (Some []) → ⊥
 IsPlayed-nothing_was_written (cs, are, e) = some_printed (after cs [] 5).replies _ _ e
 
-IsPartPlayed-a_part : IsPartPlayed (codes "len") 5 (Some (codes "x")) (Some (codes "xnum"))
+IsPartPlayed-a_part : IsPartPlayed (codes "capacity") 5 (Some (codes "x")) (Some (codes "xnumber 5"))
 unfolding digits
 IsPartPlayed-a_part = (
-  command.Len ∷ [],
+  command.Capacity ∷ [],
   (([], refl, refl), tt),
   record {
-    done = codes "num";
-    later = codes "ber 0" ++ 0x0A ∷ codes "final " ++ 0x0A ∷ [];
+    done = codes "number 5";
+    later = 0x0A ∷ codes "final " ++ 0x0A ∷ [];
     whole = refl;
     appended = refl;
   },
@@ -69,15 +69,15 @@ IsPartPlayed-bad_line : IsPartPlayed (0x0A ∷ []) 5 None None → ⊥
 IsPartPlayed-bad_line ([], are, appended) = are
 IsPartPlayed-bad_line (c ∷ cs, are, appended) = no_command c are.0
 
-IsPartPlayed-what_was_there_is_lost : IsPartPlayed (codes "len") 5 (Some (codes "x")) (Some []) → ⊥
+IsPartPlayed-what_was_there_is_lost : IsPartPlayed (codes "capacity") 5 (Some (codes "x")) (Some []) → ⊥
 IsPartPlayed-what_was_there_is_lost (cs, are, appends) = cc
 
 -- Outcomes. `Unit` as `SameOutput` says that the output is as before, `⊥` that it is not.
 
-IsOutcome-played : IsOutcome 5 (Some (codes "len")) (Some []) (Some output) ⊥ (Ok tt)
+IsOutcome-played : IsOutcome 5 (Some (codes "capacity")) (Some []) (Some output) ⊥ (Ok tt)
 unfolding digits
 IsOutcome-played = record {
-  whole = (command.Len ∷ [], (([], refl, refl), tt), refl);
+  whole = (command.Capacity ∷ [], (([], refl, refl), tt), refl);
   bad_line = tt;
   unwritten = tt;
   part = tt;
@@ -103,14 +103,15 @@ IsOutcome-write_failed = record {
   part = λ e. ([], tt, record { done = codes "fin"; later = codes "al " ++ 0x0A ∷ []; whole = refl; appended = refl });
 }
 
-IsOutcome-played_and_nothing_written : IsOutcome 5 (Some (codes "len")) (Some []) (Some []) (Unit {0}) (Ok tt) → ⊥
+IsOutcome-played_and_nothing_written : IsOutcome 5 (Some (codes "capacity")) (Some []) (Some []) (Unit {0}) (Ok tt) → ⊥
 IsOutcome-played_and_nothing_written o = IsPlayed-nothing_was_written o.whole
 
 IsOutcome-another_bad_line : IsOutcome 5 (Some (0x0A ∷ [])) (Some []) (Some []) (Unit {0}) (Err (BadLine 0)) → ⊥
-IsOutcome-another_bad_line o = let bad : IsBadAt ([] ∷ []) 0 = o.bad_line in let number : 0 ≡ length bad.front + 1 = bad.number in omega arith
+IsOutcome-another_bad_line o =
+    let bad : IsBadAt ([] ∷ []) 0 = o.bad_line in let number : 0 ≡ length bad.front + 1 = bad.number in omega arith
 
 IsOutcome-written_where_a_read_failed : IsOutcome 5 (Some []) (Some []) (Some []) ⊥ (Err Read) → ⊥
 IsOutcome-written_where_a_read_failed o = o.unwritten (λ e. cc)
 
-IsOutcome-lost_where_a_write_failed : IsOutcome 5 (Some (codes "len")) (Some (codes "x")) (Some []) ⊥ (Err Write) → ⊥
+IsOutcome-lost_where_a_write_failed : IsOutcome 5 (Some (codes "capacity")) (Some (codes "x")) (Some []) ⊥ (Err Write) → ⊥
 IsOutcome-lost_where_a_write_failed o = IsPartPlayed-what_was_there_is_lost (o.part refl)

@@ -20,7 +20,8 @@ capacity_named-three_words : map (λ w. capacity_named (Some (str w))) (codes "s
     ≡ Some 23 ∷ Some 63 ∷ Some 255 ∷ []
 capacity_named-three_words = refl
 
-capacity_named-other_words : map (λ w. capacity_named (Some (str w))) (codes "big" ∷ codes "Small" ∷ codes "smal" ∷ codes "small " ∷ [] ∷ [])
+capacity_named-other_words : map (λ w. capacity_named (Some (str w)))
+    (codes "big" ∷ codes "Small" ∷ codes "smal" ∷ codes "small " ∷ [] ∷ [])
     ≡ None ∷ None ∷ None ∷ None ∷ None ∷ []
 capacity_named-other_words = refl
 
@@ -60,18 +61,24 @@ report_at-no_capacity = refl
 report_at-a_capacity : report_at (Some (Err Memory)) ≡ codes "out of memory" ++ 0x0A ∷ []
 report_at-a_capacity = refl
 
--- what came of the empty script at the capacity 23
-abbrev final_line : List ℕ
-final_line = codes "final " ++ 0x0A ∷ []
+-- what the script `capacity` prints at the capacity 23
+abbrev output : List ℕ
+output = codes "number 23" ++ 0x0A ∷ codes "final " ++ 0x0A ∷ []
 
-outcome-of_nothing : IsOutcome 23 (Some []) (Some []) (Some final_line) ⊥ (Ok tt)
-outcome-of_nothing = record { whole = ([], tt, refl); bad_line = tt; unwritten = tt; part = tt }
+outcome-of_a_script : IsOutcome 23 (Some (codes "capacity")) (Some []) (Some output) ⊥ (Ok tt)
+unfolding digits
+outcome-of_a_script = record {
+  whole = (command.Capacity ∷ [], (([], refl, refl), tt), refl);
+  bad_line = tt;
+  unwritten = tt;
+  part = tt;
+}
 
 IsOutcomeAt-no_capacity : IsOutcomeAt None (Some []) (Some []) (Some []) (Unit {0}) (Unit {0}) None
 IsOutcomeAt-no_capacity = record { none_named = λ e. (refl, tt, tt); outcome = tt }
 
-IsOutcomeAt-a_capacity : IsOutcomeAt (Some 23) (Some []) (Some []) (Some final_line) ⊥ ⊥ (Some (Ok tt))
-IsOutcomeAt-a_capacity = record { none_named = λ e. absurd (cc); outcome = outcome-of_nothing }
+IsOutcomeAt-a_capacity : IsOutcomeAt (Some 23) (Some (codes "capacity")) (Some []) (Some output) ⊥ ⊥ (Some (Ok tt))
+IsOutcomeAt-a_capacity = record { none_named = λ e. absurd (cc); outcome = outcome-of_a_script }
 
 IsOutcomeAt-played_at_no_capacity : IsOutcomeAt None (Some []) (Some []) (Some []) (Unit {0}) (Unit {0}) (Some (Ok tt)) → ⊥
 IsOutcomeAt-played_at_no_capacity o = let none : Some (Ok tt) ≡ None = (o.none_named refl).0 in cc
@@ -96,10 +103,12 @@ bad_line_1 = record { front = []; commands = []; line = []; rest = []; whole = r
 all_of : (bs : List ℕ) → AppendsPrefix (Some []) (Some bs) bs
 all_of bs = record { done = bs; later = []; whole = sym (append-nil bs); appended = refl }
 
-IsServed-played : IsServed (Some (str (codes "small"))) (Some []) (Some []) (Some final_line) (Some []) (Some []) ⊥ ⊥ (Unit {0}) 0
+IsServed-played : IsServed (Some (str (codes "small"))) (Some (codes "capacity")) (Some []) (Some output) (Some []) (Some [])
+    ⊥ ⊥ (Unit {0}) 0
+unfolding digits
 IsServed-played = record {
   other_word = λ e. absurd (cc);
-  played = λ e. ([], tt, refl);
+  played = λ e. (command.Capacity ∷ [], (([], refl, refl), tt), refl);
   bad_line = λ e. absurd (omega arith);
   no_memory = λ e. absurd (omega arith);
   failed = λ e. absurd (omega arith);
@@ -163,15 +172,18 @@ IsServed-read_failed = record {
   known = omega arith;
 }
 
-IsServed-write_failed : IsServed (Some (str (codes "small"))) (Some []) (Some []) (Some (codes "fin")) (Some [])
+IsServed-write_failed : IsServed (Some (str (codes "small"))) (Some (codes "capacity")) (Some []) (Some (codes "number 23")) (Some [])
     (Some (codes "write failed" ++ 0x0A ∷ [])) ⊥ ⊥ ⊥ 4
+unfolding digits
 IsServed-write_failed = record {
   other_word = λ e. absurd (cc);
   played = λ e. absurd (omega arith);
   bad_line = λ e. absurd (omega arith);
   no_memory = λ e. absurd (omega arith);
   failed = λ e.
-      inr (([], tt, record { done = codes "fin"; later = codes "al " ++ 0x0A ∷ []; whole = refl; appended = refl }), all_of (fault_line Write));
+      let part : AppendsPrefix (Some []) (Some (codes "number 23")) output =
+      record { done = codes "number 23"; later = 0x0A ∷ codes "final " ++ 0x0A ∷ []; whole = refl; appended = refl } in
+      inr ((command.Capacity ∷ [], (([], refl, refl), tt), part), all_of (fault_line Write));
   quiet = λ e. absurd (omega arith);
   unwritten = λ some failed. absurd (failed refl);
   known = omega arith;
@@ -226,7 +238,7 @@ IsServed-wrote_and_says_that_a_read_failed is = go (is.failed refl)
     go (inl (same, said)) = same
     go (inr (part, said)) = grind arith
 
-IsServed-errors_were_written_though_all_was_played : IsServed (Some (str (codes "small"))) (Some []) (Some []) (Some final_line)
+IsServed-errors_were_written_though_all_was_played : IsServed (Some (str (codes "small"))) (Some (codes "capacity")) (Some []) (Some output)
     (Some []) (Some []) ⊥ ⊥ ⊥ 0 → ⊥
 IsServed-errors_were_written_though_all_was_played is = is.quiet refl
 

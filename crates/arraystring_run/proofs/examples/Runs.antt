@@ -458,7 +458,8 @@ is_tight-try_insert_str_inside_where_it_lacks_room : map (is_tight (command.TryI
 unfolding width chars encode_utf8
 is_tight-try_insert_str_inside_where_it_lacks_room = refl
 
-is_tight-try_insert_str_past_is_not : map (is_tight (command.TryInsertStr 4 (str (codes "xy"))) (codes "aé")) (5 ∷ 4 ∷ []) ≡ false ∷ false ∷ []
+is_tight-try_insert_str_past_is_not : map (is_tight (command.TryInsertStr 4 (str (codes "xy"))) (codes "aé")) (5 ∷ 4 ∷ [])
+    ≡ false ∷ false ∷ []
 unfolding width chars encode_utf8
 is_tight-try_insert_str_past_is_not = refl
 
@@ -488,7 +489,8 @@ is_tight-replace_range_reversed_is_not : map (is_tight (command.ReplaceRange 1 0
 unfolding width chars encode_utf8
 is_tight-replace_range_reversed_is_not = refl
 
-is_tight-replace_range_past_is_not : map (is_tight (command.ReplaceRange 4 4 (str (codes "xy"))) (codes "aé")) (5 ∷ 4 ∷ []) ≡ false ∷ false ∷ []
+is_tight-replace_range_past_is_not : map (is_tight (command.ReplaceRange 4 4 (str (codes "xy"))) (codes "aé")) (5 ∷ 4 ∷ [])
+    ≡ false ∷ false ∷ []
 unfolding width chars encode_utf8
 is_tight-replace_range_past_is_not = refl
 

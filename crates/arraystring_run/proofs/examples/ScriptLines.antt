@@ -137,7 +137,8 @@ IsBadAt-line_0 is = let number : 0 ≡ length is.front + 1 = is.number in omega 
 IsBadAt-not_the_first : IsBadAt two_empty 2 → ⊥
 IsBadAt-not_the_first is = go is.front is.commands is.whole is.number is.before
   where
-    go : (front : List (List ℕ)) (cs : List Command) → two_empty ≡ front ++ is.line ∷ is.rest → 2 ≡ length front + 1 → AreLinesOf front cs → ⊥
+    go : (front : List (List ℕ)) (cs : List Command) → two_empty ≡ front ++ is.line ∷ is.rest → 2 ≡ length front + 1
+        → AreLinesOf front cs → ⊥
     go [] cs e number are = omega arith
     go ([] ∷ front) [] e number are = are
     go ([] ∷ front) (c ∷ cs) e number are = no_command c are.0

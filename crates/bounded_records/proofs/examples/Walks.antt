@@ -22,22 +22,29 @@ user_texts-of_a_reference : user_texts (record {
 }) ≡ (codes "ann", codes "admin")
 user_texts-of_a_reference = refl
 
+-- a run of calls of `next`, and one of `next_back`, over usernames
+abbrev FrontRun : Type 0
+FrontRun = Run (YieldsFirstBy name_text (λ left. left))
+
+abbrev BackRun : Type 0
+BackRun = Run (YieldsLastBy name_text (λ left. left))
+
 abbrev two : List (List ℕ)
 two = codes "ann" ∷ codes "bob" ∷ []
 
-GivesInOrder-all_of_two : GivesInOrder name_text → (run : Run (YieldsFirstBy name_text (λ left. left))) → run.from ≡ two → run.whole ≡ true
+GivesInOrder-all_of_two : GivesInOrder name_text → (run : FrontRun) → run.from ≡ two → run.whole ≡ true
     → map name_text run.items ≡ codes "ann" ∷ codes "bob" ∷ []
 GivesInOrder-all_of_two gives run from whole = (gives run run.seen).4 whole ∙ from
 
-GivesInOrder-the_first_of_two : GivesInOrder name_text → (run : Run (YieldsFirstBy name_text (λ left. left))) → run.from ≡ two → 0 < run.len
+GivesInOrder-the_first_of_two : GivesInOrder name_text → (run : FrontRun) → run.from ≡ two → 0 < run.len
     → option_map name_text (run.at 0) ≡ Some (codes "ann")
 GivesInOrder-the_first_of_two gives run from some = rw from at ((gives run run.seen).2 0 [] some)
 
-GivesInReverse-all_of_two : GivesInReverse name_text → (run : Run (YieldsLastBy name_text (λ left. left))) → run.from ≡ two → run.whole ≡ true
+GivesInReverse-all_of_two : GivesInReverse name_text → (run : BackRun) → run.from ≡ two → run.whole ≡ true
     → map name_text run.items ≡ codes "bob" ∷ codes "ann" ∷ []
 GivesInReverse-all_of_two gives run from whole = rw from at ((gives run run.seen).4 whole)
 
-GivesInReverse-the_first_of_two : GivesInReverse name_text → (run : Run (YieldsLastBy name_text (λ left. left))) → run.from ≡ two → 0 < run.len
+GivesInReverse-the_first_of_two : GivesInReverse name_text → (run : BackRun) → run.from ≡ two → 0 < run.len
     → option_map name_text (run.at 0) ≡ Some (codes "bob")
 GivesInReverse-the_first_of_two gives run from some =
     subst (λ left. 1 < length left → length left - 1 - 1 < run.len
