@@ -28,7 +28,10 @@ pub type Ordered<Key> = BTreeMap<Key, Vec<usize>>;
 
 #[inline(never)]
 pub fn read_measured<S: Side>(lines: &str) -> Vec<RowOf<S>> {
-    lines.lines().map(|line| row_of::<S>(line).expect("a line has three fields")).collect()
+    // (What growing takes depends on what the allocator was asked for before.)
+    let mut rows = Vec::with_capacity(rows::ROWS);
+    rows.extend(lines.lines().map(|line| row_of::<S>(line).expect("a line has three fields")));
+    rows
 }
 
 fn row_of<S: Side>(line: &str) -> Option<RowOf<S>> {
