@@ -2,8 +2,12 @@
 
 use std::collections::{BTreeMap, BTreeSet};
 
+use bench::whole_programs::handed_on::{
+    PREFIX, Refused, channel_measured, constant_prefix_measured, digits_measured, headers_measured, new_lines_measured,
+    options_measured, results_measured,
+};
 use bench::whole_programs::programs::{
-    PREFIX, RowOf, btree_map_measured, build_measured, clone_measured, count_measured, cut_measured, equal_measured,
+    RowOf, btree_map_measured, build_measured, clone_measured, count_measured, cut_measured, equal_measured,
     hash_map_measured, keys_measured, prefix_measured, print_measured, queue_measured, read_measured, scan_measured,
     sort_measured,
 };
@@ -113,16 +117,18 @@ fn assert_as_std<S: Side>(side: &str) {
     let counts = count_measured::<S::Long>(&lines).into_iter().map(|(city, count)| (city.to_string(), count));
     assert!(counts.eq(expected(&lines).ordered.into_iter().map(|(city, rows)| (city, rows.len()))), "{side} counts");
     let messages = words(LINE - PREFIX.len() - 4, LINE + 1);
-    for prefix in ["", PREFIX] {
+    for (prefix, program) in [("", "cut"), (PREFIX, "prefix"), (PREFIX, "constant"), (PREFIX, "new")] {
         let mut wanted = messages.iter().map(|message| {
             let whole = format!("{prefix}{message}");
             let fits = whole.char_indices().filter(|(at, ch)| at + ch.len_utf8() <= LINE);
             fits.map(|(_, ch)| ch).collect::<String>()
         });
         let see = |line: &str| assert_eq!(Some(line), wanted.next().as_deref(), "{side} cuts otherwise");
-        match prefix {
-            "" => cut_measured::<S::Line>(&messages, see),
-            _ => prefix_measured::<S::Line>(prefix, &messages, see),
+        match program {
+            "cut" => cut_measured::<S::Line>(&messages, see),
+            "prefix" => prefix_measured::<S::Line>(prefix, &messages, see),
+            "constant" => constant_prefix_measured::<S::Line>(&messages, see),
+            _ => new_lines_measured::<S::Line>(&messages, see),
         }
         assert_eq!(wanted.next(), None, "{side} gives fewer lines");
     }
@@ -141,6 +147,65 @@ fn each_program_over_words_gives_the_same_over_each_string() {
     assert_as_std::<OfCrate>("the crate");
     assert_as_std::<OfString>("String");
     assert_as_std::<OfArrayvec>("arrayvec");
+}
+
+/// Words of each length up to one more than fits, and one for each reason to refuse one.
+fn words_and_refused(most: usize) -> Vec<String> {
+    let refused = ["", "#", "# a remark", "-", "-x"].map(str::to_string);
+    words(1, most + 1).into_iter().chain(refused).collect()
+}
+
+fn wanted(word: &str, most: usize) -> Result<&str, Refused> {
+    match word.chars().next() {
+        _ if word.len() > most => Err(Refused::TooLong),
+        None => Err(Refused::Empty),
+        Some('#') => Err(Refused::Remark),
+        Some('-') => Err(Refused::Option),
+        Some(_) => Ok(word),
+    }
+}
+
+/// What is handed on at a capacity.
+fn assert_hands_on<T: Text>(side: &str, most: usize) {
+    let words = words_and_refused(most);
+    let mut given: Vec<Result<String, Refused>> = Vec::new();
+    results_measured::<T>(&words, most, |text| given.push(text.map(str::to_string)));
+    assert!(
+        given
+            .iter()
+            .map(|text| text.as_deref().map_err(|refused| *refused))
+            .eq(words.iter().map(|word| wanted(word, most))),
+        "{side}"
+    );
+    let mut given: Vec<String> = Vec::new();
+    options_measured::<T>(&words, most, |text| given.push(text.to_string()));
+    assert!(given.iter().map(String::as_str).eq(words.iter().filter_map(|word| wanted(word, most).ok())), "{side}");
+    given.clear();
+    let fitting: Vec<String> = words.into_iter().filter(|word| word.len() <= most).collect();
+    channel_measured::<T>(&fitting, |text| given.push(text.to_string()));
+    assert_eq!(given, fitting, "{side} sends others");
+}
+
+fn assert_hands_on_all<S: Side>(side: &str) {
+    assert_hands_on::<S::Short>(side, SHORT);
+    assert_hands_on::<S::Long>(side, LONG);
+    assert_hands_on::<S::Line>(side, LINE);
+    let (names, values) = (words(1, SHORT), words(1, LINE));
+    let mut given = Vec::new();
+    headers_measured::<S::Line>(&names, &values, |line| given.push(line.to_string()));
+    let whole = names.iter().zip(&values).map(|(name, value)| format!("{name}: {value}\r\n"));
+    assert!(given.into_iter().eq(whole.filter(|line| line.len() <= LINE)), "{side} makes other headers");
+    let mut given = Vec::new();
+    digits_measured::<S::Long>(&names, |digits| given.push(digits.to_string()));
+    let digits = |name: &String| name.bytes().map(|byte| format!("{byte:02x}")).collect::<String>();
+    assert!(given.into_iter().eq(names.iter().map(digits)), "{side} writes other digits");
+}
+
+#[test]
+fn what_is_handed_on_is_the_same_over_each_string() {
+    assert_hands_on_all::<OfCrate>("the crate");
+    assert_hands_on_all::<OfString>("String");
+    assert_hands_on_all::<OfArrayvec>("arrayvec");
 }
 
 #[test]

@@ -5,6 +5,10 @@ use std::fmt::Write;
 use std::hash::{BuildHasherDefault, DefaultHasher};
 use std::hint::black_box;
 
+use super::handed_on::{
+    PREFIX, Refused, channel_measured, constant_prefix_measured, digits_measured, headers_measured, new_lines_measured,
+    options_measured, results_measured,
+};
 use super::rows::{self, LINE, LONG, SHORT};
 use super::side::{OfArrayvec, OfCrate, OfString, Side, Text};
 
@@ -24,7 +28,10 @@ pub type Ordered<Key> = BTreeMap<Key, Vec<usize>>;
 
 #[inline(never)]
 pub fn read_measured<S: Side>(lines: &str) -> Vec<RowOf<S>> {
-    lines.lines().map(|line| row_of::<S>(line).expect("a line has three fields")).collect()
+    // (What growing takes depends on what the allocator was asked for before.)
+    let mut rows = Vec::with_capacity(rows::ROWS);
+    rows.extend(lines.lines().map(|line| row_of::<S>(line).expect("a line has three fields")));
+    rows
 }
 
 fn row_of<S: Side>(line: &str) -> Option<RowOf<S>> {
@@ -159,11 +166,9 @@ pub struct Given {
     pub characters: String,
     pub short: Vec<String>,
     pub long: Vec<String>,
+    pub line: Vec<String>,
     pub messages: Vec<String>,
 }
-
-/// 26 bytes.
-pub const PREFIX: &str = "2026-11-29T12:00:00Z INFO ";
 
 impl Given {
     pub fn new() -> Self {
@@ -173,6 +178,7 @@ impl Given {
             lines,
             short: rows::words(1, SHORT),
             long: rows::words(1, LONG),
+            line: rows::words(1, LINE),
             messages: rows::words(LINE + 1, 2 * LINE),
         }
     }
@@ -194,7 +200,7 @@ pub fn run_all(side: crate::Side, given: &Given, runner: &mut impl Runner) {
 }
 
 fn run_over<S: Side>(given: &Given, runner: &mut impl Runner) {
-    let Given { lines, characters, short, long, messages } = black_box(given);
+    let Given { lines, characters, short, long, line, messages } = black_box(given);
     let rows = runner.run("rows: read from lines", || read_measured::<S>(lines));
     let mut sorted = runner.run("rows: cloned", || clone_measured::<S>(black_box(&rows)));
     runner.run("rows: sorted", || sort_measured::<S>(black_box(&mut sorted)));
@@ -209,9 +215,32 @@ fn run_over<S: Side>(given: &Given, runner: &mut impl Runner) {
     let keys = runner.run("keys of 63: collected into a `Vec`", || keys_measured::<S::Long>(long));
     runner.run("keys of 63: a scan by `==`", || scan_measured(black_box(&keys), &keys[rows::ROWS / 2]));
     runner.run("keys of 63: read from lines, and counted in a `BTreeMap`", || count_measured::<S::Long>(lines));
+    runner.run("keys of 255: collected into a `Vec`", || keys_measured::<S::Line>(line));
     runner.run("log lines: cut to 255", || cut_measured::<S::Line>(messages, see));
     runner.run("log lines: cut to 255 behind a prefix of 26", || prefix_measured::<S::Line>(PREFIX, messages, see));
     runner.run("a full queue of 63: refused, the first out, pushed", || queue_measured::<S::Long>(characters));
+    run_handed_on::<S>(given, runner);
+}
+
+fn run_handed_on<S: Side>(given: &Given, runner: &mut impl Runner) {
+    let Given { short, long, line, .. } = black_box(given);
+    runner.run("log lines: behind a prefix that is a constant, most fit", || {
+        constant_prefix_measured::<S::Line>(line, see)
+    });
+    runner.run("log lines: the same, each a new one, by a function", || new_lines_measured::<S::Line>(line, see));
+    runner.run("an `Option` of 23: by four functions", || options_measured::<S::Short>(short, SHORT, see));
+    runner.run("an `Option` of 63: by four functions", || options_measured::<S::Long>(long, LONG, see));
+    runner.run("an `Option` of 255: by four functions", || options_measured::<S::Line>(line, LINE, see));
+    runner.run("a `Result` of 23: by four functions", || results_measured::<S::Short>(short, SHORT, see_result));
+    runner.run("a `Result` of 63: by four functions", || results_measured::<S::Long>(long, LONG, see_result));
+    runner.run("a `Result` of 255: by four functions", || results_measured::<S::Line>(line, LINE, see_result));
+    runner.run("header lines of 255: each by a function", || headers_measured::<S::Line>(short, line, see));
+    runner.run("digits of 63: two for each byte of up to 23", || digits_measured::<S::Long>(short, see));
+    runner.run("strings of 63: through a channel", || channel_measured::<S::Long>(long, see));
+}
+
+fn see_result(text: Result<&str, Refused>) {
+    let _ = black_box(text);
 }
 
 fn see(text: &str) {

@@ -17,6 +17,10 @@ pub trait Text: Clone + Ord + Hash + Debug + Display + Write + Borrow<str> + Der
     fn make_empty(&mut self);
 
     // (only `String` has to be told how many bytes it may have)
+    /// A text, if it fits.
+    fn try_of(text: &str, most: usize) -> Option<Self>;
+    /// Appends a text, and returns whether it fits.
+    fn offer_text(&mut self, text: &str, most: usize) -> bool;
     /// Appends a character, and returns whether it fits.
     fn offer_char(&mut self, ch: char, most: usize) -> bool;
     /// Appends the whole characters that fit.
@@ -81,6 +85,16 @@ impl<const N: usize> Text for arraystring::ArrayString<N> {
     }
 
     #[inline]
+    fn try_of(text: &str, _: usize) -> Option<Self> {
+        Self::try_from_str(text).ok()
+    }
+
+    #[inline]
+    fn offer_text(&mut self, text: &str, _: usize) -> bool {
+        self.try_push_str(text).is_ok()
+    }
+
+    #[inline]
     fn offer_char(&mut self, ch: char, _: usize) -> bool {
         self.try_push(ch).is_ok()
     }
@@ -136,6 +150,20 @@ impl Text for String {
     #[inline]
     fn make_empty(&mut self) {
         self.clear();
+    }
+
+    #[inline]
+    fn try_of(text: &str, most: usize) -> Option<Self> {
+        (text.len() <= most).then(|| Self::from(text))
+    }
+
+    #[inline]
+    fn offer_text(&mut self, text: &str, most: usize) -> bool {
+        let fits = self.len() + text.len() <= most;
+        if fits {
+            self.push_str(text);
+        }
+        fits
     }
 
     #[inline]
@@ -198,6 +226,16 @@ impl<const N: usize> Text for arrayvec::ArrayString<N> {
     #[inline]
     fn make_empty(&mut self) {
         self.clear();
+    }
+
+    #[inline]
+    fn try_of(text: &str, _: usize) -> Option<Self> {
+        Self::from(text).ok()
+    }
+
+    #[inline]
+    fn offer_text(&mut self, text: &str, _: usize) -> bool {
+        self.try_push_str(text).is_ok()
     }
 
     #[inline]
