@@ -232,7 +232,7 @@ IsLineOf-no_space_before_a_character (command.TryPush c) (rest, e, (first, other
     let r : [] ≡ rest = ap (drop 8) e in cc
 IsLineOf-no_space_before_a_character c (rest, e, spelled) = other_word (word c) (codes "try_push") refl rest e
 
--- the UTF-8 of a character, if it is none and if it is two letters
+-- no character has no byte of UTF-8, and none has two letters
 no_utf8 : (c : ℕ) → [] ≡ utf8 c → ⊥
 unfolding utf8
 no_utf8 c e = grind arith
@@ -268,7 +268,7 @@ IsLineOf-two_spaces (command.Get start end) (rest, e, spelled) =
     apart m n (b ∷ c ∷ first, others, e, number, next) = let is : c ≡ 0x20 = grind arith in omega arith
 IsLineOf-two_spaces c (rest, e, spelled) = other_word (word c) (codes "get 1  2") refl rest e
 
--- a space and a tab are two bytes
+-- a tab is no space
 IsLineOf-tab : (c : Command) → IsLineOf (codes "truncate" ++ 0x09 ∷ codes "7") c → ⊥
 IsLineOf-tab (command.Truncate i) (rest, e, (first, others, whole, spelled, next)) =
     let r : 0x09 ∷ codes "7" ≡ rest = ap (drop 8) e in grind arith
@@ -294,7 +294,7 @@ spellings-each_after_a_space : spellings (Number 1 ∷ Number 20 ∷ Text (codes
 unfolding digits
 spellings-each_after_a_space = refl
 
--- the list has `é` in its first command, and lines of bytes
+-- the `é` of the first command is printed as its two bytes
 line_of-each : map line_of each
     ≡ (codes "try_push " ++ 0xC3 ∷ 0xA9 ∷ []) ∷ codes "try_push_str ab" ∷ codes "push_str " ∷ codes "pop" ∷ codes "truncate 7"
     ∷ codes "trim" ∷ codes "remove 0" ∷ codes "retain_not a" ∷ codes "try_insert 1 b" ∷ codes "try_insert_str 2 c d"

@@ -1,4 +1,4 @@
--- Examples of scripts that were played, to their end or not. `codes "capacity"` is the list of the bytes of `"len"`, and 0x0A is the line
+-- Examples of scripts that were played, to their end or not. `codes "len"` is the list of the bytes of `"len"`, and 0x0A is the line
 -- feed.
 use Rattle.std.proofs.Common.{◌≡◌, ℕ, ◌+◌, List, [], ◌∷◌, ◌++◌, length, Some, None, Ok, Err, refl, arith, codes}
 use Rattle.std.specs.Fmt.{digits}

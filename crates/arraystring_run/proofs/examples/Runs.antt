@@ -427,7 +427,7 @@ is_tight-try_push : (is_tight (command.TryPush 0xE9) (codes "aé") 5 ≡ false) 
 unfolding width
 is_tight-try_push = (refl, refl)
 
--- the same at two capacities: one has room, and one lacks a byte
+-- the first capacity has room, and the second lacks a byte
 is_tight-try_push_str : map (is_tight (command.TryPushStr (str (codes "xy"))) (codes "aé")) (5 ∷ 4 ∷ []) ≡ false ∷ true ∷ []
 unfolding width chars encode_utf8
 is_tight-try_push_str = refl
@@ -515,7 +515,7 @@ after-two_commands : after (command.Len ∷ command.Pop ∷ []) (codes "a") 5 �
 unfolding width
 after-two_commands = refl
 
--- a text is pushed of which all fits, and then a character that needs nine bytes in all
+-- a text of eight bytes is pushed, and then a character is inserted that needs a ninth
 abbrev pushes : List Command
 pushes = command.PushStr (str (codes "ABCD🤔")) ∷ command.TryInsert 1 0x41 ∷ []
 
@@ -575,7 +575,7 @@ NoneTight-of_no_command : NoneTight [] [] 0
 NoneTight-of_no_command [] c later e = absurd (cc)
 NoneTight-of_no_command (b ∷ before) c later e = absurd (cc)
 
--- `x` does not fit, and is no more tried after it was taken out of the list
+-- `x` fits into the text that `pop` leaves, and not into the first text
 NoneTight-on_the_text_before : NoneTight (command.Pop ∷ command.TryPush 0x78 ∷ []) (codes "a") 1
 unfolding width
 NoneTight-on_the_text_before [] c later e = grind arith
