@@ -1,5 +1,5 @@
 -- Texts that a loop makes which remembers something of the characters so far.
-use Rattle.std.specs.Prelude.{ℕ, List, [], ◌∷◌, ◌++◌, Bool, true, not, Option, Some, None, if◌then◌else◌, ◌==◌}
+use Rattle.std.specs.Prelude.{ℕ, List, [], ◌∷◌, Bool, true, not, Option, Some, None, if◌then◌else◌, ◌==◌}
 use Rattle.std.specs.Char.{to_ascii_uppercase}
 use Rattle.arraystring.specs.Loops.{traced, kept}
 
