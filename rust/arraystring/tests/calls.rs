@@ -66,5 +66,5 @@ fn the_page_names_no_call_that_is_gone() {
     let named: BTreeSet<_> = names.collect();
     assert!(named.contains("push_str"), "{named:?}");
     let others: Vec<_> = named.difference(&public_functions(&sources)).copied().collect();
-    assert_eq!(others, ["try_from"], "which is a call of std");
+    assert_eq!(others, ["checked_utf8", "map_err", "try_from", "try_into"], "which are a feature, and calls of std");
 }
