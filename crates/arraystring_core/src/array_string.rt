@@ -5,7 +5,7 @@
 //!
 //! - `boundary` has the test for a boundary, and `checks` the tests of the table of edits (docs/definitions.md);
 //! - `splice` replaces a part of the text by another;
-//! - `append` appends the items of an iterator, and to a text that begins past offset 0;
+//! - `full_end` appends to a text that may end where its array ends, and `appended_items` what an iterator gives;
 //! - `remove` also takes out a part, a front or an end.
 //!
 //! # How a string lies in its array
@@ -46,13 +46,14 @@ ghost use Rattle.arraystring_core.specs.Layout.{start_of};
 use std::marker::Model;
 use std::str;
 
-mod append;
+mod appended_items;
 mod ascii;
 mod borrowed_range;
 mod boundary;
 mod checks;
 mod construct;
 mod drained_range;
+mod full_end;
 mod insert;
 mod push;
 mod remove;

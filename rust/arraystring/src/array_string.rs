@@ -6,7 +6,7 @@
 //!
 //! - `boundary` has the test for a boundary, and `checks` the tests of the table of edits (docs/definitions.md);
 //! - `splice` replaces a part of the text by another;
-//! - `append` appends the items of an iterator, and to a text that begins past offset 0;
+//! - `full_end` appends to a text that may end where its array ends, and `appended_items` what an iterator gives;
 //! - `remove` also takes out a part, a front or an end.
 //!
 //! # How a string lies in its array
@@ -44,7 +44,7 @@
 // In the order in which the reference shows their calls.
 mod construct;
 mod constant;
-mod constructors;
+mod constructors_by_hand;
 mod utf16;
 mod views;
 mod loan;
@@ -61,7 +61,8 @@ mod trim;
 mod ascii;
 mod traits;
 mod checks;
-mod append;
+mod appended_items;
+mod full_end;
 mod splice;
 mod unchecked;
 

@@ -15,7 +15,7 @@ mod array_string;
 mod cache_string;
 pub mod contracts;
 #[cfg(feature = "alloc")]
-mod copies;
+mod heap;
 #[cfg(feature = "serde")]
 pub mod cut;
 pub mod drain;

@@ -229,7 +229,7 @@ fn both_types_are_made_of_each_character() {
 fn each_call_that_makes_a_string_has_a_row() {
     let files = [
         "array_string/construct",
-        "array_string/constructors",
+        "array_string/constructors_by_hand",
         "array_string/utf16",
         "array_string/unchecked",
         "cache_string",

@@ -1,4 +1,4 @@
-//! The column of arrayvec in the tables of moves of `rust/arraystring/MOVING.md`. The other columns are run by tests/moves.rs there.
+//! The column of arrayvec in the tables of moves of `rust/arraystring/MOVING.md`. The other columns are run by tests/moving.rs there.
 
 use std::marker::PhantomData;
 use std::ops::AddAssign;

@@ -1,8 +1,7 @@
-// Proved sources: crates/arraystring_core/src/array_string/append.rt
-//! The private calls that append: what an iterator gives, and what needs the text to move to the start of the array.
+// Proved sources: crates/arraystring_core/src/array_string/full_end.rt
+//! Appends to a text that may end where its array ends: the test of the room, and what first moves the text to the start.
 
 use crate::ArrayString;
-use crate::error::OutOfBounds;
 use crate::moves::{shift_by_call, write_by_call};
 use crate::utf8::{encode, truncate_str};
 
@@ -73,36 +72,5 @@ impl<const N: usize> ArrayString<N> {
         // SAFETY: `self.len() + truncate_str(string, room).len() <= Self::capacity()`: `truncate_str` returns no more
         // bytes than it is told, which is the room.
         unsafe { self.push_str_unchecked(truncate_str(string, room)) };
-    }
-
-    /// Appends the characters before the first that does not fit. Returns `Err` if there is such a one: what fitted stays.
-    #[inline]
-    pub(super) fn add_chars<I: IntoIterator<Item = char>>(&mut self, characters: I) -> Result<(), OutOfBounds> {
-        let _ = &self.array; // in the source this gives the prover that the text fits
-        for ch in characters {
-            match self.try_push(ch) {
-                Ok(()) => {}
-                Err(_) => return Err(OutOfBounds),
-            }
-        }
-        Ok(())
-    }
-
-    /// Appends the pieces before the first that does not fit, and of that one what fits. Returns `Err`
-    /// if there is such a one: what fitted stays.
-    #[inline]
-    pub(super) fn add_strs<U: AsRef<str>, I: IntoIterator<Item = U>>(&mut self, pieces: I) -> Result<(), OutOfBounds> {
-        let _ = &self.array; // in the source this gives the prover that the text fits
-        for piece in pieces {
-            let piece = piece.as_ref();
-            match self.try_push_str(piece) {
-                Ok(()) => {}
-                Err(_) => {
-                    self.push_str(piece);
-                    return Err(OutOfBounds);
-                }
-            }
-        }
-        Ok(())
     }
 }
