@@ -213,7 +213,7 @@ fn what_a_feature_adds_names_it() {
             }
         }
     }
-    assert_eq!(named, 28, "the impls of `copies`, `owned`, `paths` and `serde_traits`");
+    assert_eq!(named, 28, "the impls of `heap`, `owned`, `paths` and `serde_traits`");
 }
 
 /// The items of the file of a type in the order of rustdoc: those of its modules, one after the other, and then its own.
