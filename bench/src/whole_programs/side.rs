@@ -37,73 +37,92 @@ pub trait Side {
     type Long: Text;
 }
 
-pub struct OfCrate;
+/// A side of strings in an array. Of its calls these are told: what makes a string, what removes the first character, and what appends
+/// what fits.
+macro_rules! in_an_array {
+    (
+        $side:ident, $package:ident,
+        $make:ident,
+        |$removed:ident| $remove_first:expr,
+        |$pushed:ident, $text:ident| $push_what_fits:expr
+    ) => {
+        pub struct $side;
 
-impl Side for OfCrate {
-    type Name = arraystring::ArrayString<30>;
-    type City = arraystring::ArrayString<62>;
-    type Code = arraystring::ArrayString<14>;
-    type Line = arraystring::ArrayString<255>;
-    type Short = arraystring::ArrayString<23>;
-    type Long = arraystring::ArrayString<63>;
+        impl Side for $side {
+            type Name = $package::ArrayString<30>;
+            type City = $package::ArrayString<62>;
+            type Code = $package::ArrayString<14>;
+            type Line = $package::ArrayString<255>;
+            type Short = $package::ArrayString<23>;
+            type Long = $package::ArrayString<63>;
+        }
+
+        impl<const N: usize> Text for $package::ArrayString<N> {
+            #[inline]
+            fn empty() -> Self {
+                Self::new()
+            }
+
+            #[inline]
+            fn of(text: &str) -> Self {
+                Self::$make(text).expect("it fits")
+            }
+
+            #[inline]
+            fn push_text(&mut self, text: &str) {
+                self.try_push_str(text).expect("it fits");
+            }
+
+            #[inline]
+            fn push_char(&mut self, ch: char) {
+                self.try_push(ch).expect("it fits");
+            }
+
+            #[inline]
+            fn pop_char(&mut self) -> Option<char> {
+                self.pop()
+            }
+
+            #[inline]
+            fn remove_first(&mut self) -> char {
+                let $removed = self;
+                $remove_first
+            }
+
+            #[inline]
+            fn make_empty(&mut self) {
+                self.clear();
+            }
+
+            #[inline]
+            fn try_of(text: &str, _: usize) -> Option<Self> {
+                Self::$make(text).ok()
+            }
+
+            #[inline]
+            fn offer_text(&mut self, text: &str, _: usize) -> bool {
+                self.try_push_str(text).is_ok()
+            }
+
+            #[inline]
+            fn offer_char(&mut self, ch: char, _: usize) -> bool {
+                self.try_push(ch).is_ok()
+            }
+
+            #[inline]
+            fn push_what_fits(&mut self, text: &str, _: usize) {
+                let ($pushed, $text) = (self, text);
+                $push_what_fits
+            }
+        }
+    };
 }
 
-impl<const N: usize> Text for arraystring::ArrayString<N> {
-    #[inline]
-    fn empty() -> Self {
-        Self::new()
-    }
+in_an_array!(OfCrate, arraystring, try_from_str, |it| it.remove(0).expect("it is not empty"), |it, text| it
+    .push_str(text));
 
-    #[inline]
-    fn of(text: &str) -> Self {
-        Self::try_from_str(text).expect("it fits")
-    }
-
-    #[inline]
-    fn push_text(&mut self, text: &str) {
-        self.try_push_str(text).expect("it fits");
-    }
-
-    #[inline]
-    fn push_char(&mut self, ch: char) {
-        self.try_push(ch).expect("it fits");
-    }
-
-    #[inline]
-    fn pop_char(&mut self) -> Option<char> {
-        self.pop()
-    }
-
-    #[inline]
-    fn remove_first(&mut self) -> char {
-        self.remove(0).expect("it is not empty")
-    }
-
-    #[inline]
-    fn make_empty(&mut self) {
-        self.clear();
-    }
-
-    #[inline]
-    fn try_of(text: &str, _: usize) -> Option<Self> {
-        Self::try_from_str(text).ok()
-    }
-
-    #[inline]
-    fn offer_text(&mut self, text: &str, _: usize) -> bool {
-        self.try_push_str(text).is_ok()
-    }
-
-    #[inline]
-    fn offer_char(&mut self, ch: char, _: usize) -> bool {
-        self.try_push(ch).is_ok()
-    }
-
-    #[inline]
-    fn push_what_fits(&mut self, text: &str, _: usize) {
-        self.push_str(text);
-    }
-}
+in_an_array!(OfArrayvec, arrayvec, from, |it| it.remove(0), |it, text| it
+    .push_str(&text[..text.floor_char_boundary(it.remaining_capacity())]));
 
 pub struct OfString;
 
@@ -178,73 +197,5 @@ impl Text for String {
     #[inline]
     fn push_what_fits(&mut self, text: &str, most: usize) {
         self.push_str(&text[..text.floor_char_boundary(most - self.len())]);
-    }
-}
-
-pub struct OfArrayvec;
-
-impl Side for OfArrayvec {
-    type Name = arrayvec::ArrayString<30>;
-    type City = arrayvec::ArrayString<62>;
-    type Code = arrayvec::ArrayString<14>;
-    type Line = arrayvec::ArrayString<255>;
-    type Short = arrayvec::ArrayString<23>;
-    type Long = arrayvec::ArrayString<63>;
-}
-
-impl<const N: usize> Text for arrayvec::ArrayString<N> {
-    #[inline]
-    fn empty() -> Self {
-        Self::new()
-    }
-
-    #[inline]
-    fn of(text: &str) -> Self {
-        Self::from(text).expect("it fits")
-    }
-
-    #[inline]
-    fn push_text(&mut self, text: &str) {
-        self.try_push_str(text).expect("it fits");
-    }
-
-    #[inline]
-    fn push_char(&mut self, ch: char) {
-        self.try_push(ch).expect("it fits");
-    }
-
-    #[inline]
-    fn pop_char(&mut self) -> Option<char> {
-        self.pop()
-    }
-
-    #[inline]
-    fn remove_first(&mut self) -> char {
-        self.remove(0)
-    }
-
-    #[inline]
-    fn make_empty(&mut self) {
-        self.clear();
-    }
-
-    #[inline]
-    fn try_of(text: &str, _: usize) -> Option<Self> {
-        Self::from(text).ok()
-    }
-
-    #[inline]
-    fn offer_text(&mut self, text: &str, _: usize) -> bool {
-        self.try_push_str(text).is_ok()
-    }
-
-    #[inline]
-    fn offer_char(&mut self, ch: char, _: usize) -> bool {
-        self.try_push(ch).is_ok()
-    }
-
-    #[inline]
-    fn push_what_fits(&mut self, text: &str, _: usize) {
-        self.push_str(&text[..text.floor_char_boundary(self.remaining_capacity())]);
     }
 }
