@@ -1,5 +1,5 @@
 -- Laws of single characters, of texts of ASCII, as most literals are, and of one character many times.
-use Rattle.std.proofs.Common.{◌≡◌, ℕ, ◌+◌, ◌<◌, ◌≤◌, List, [], ◌∷◌, ◌++◌, length, take, drop, get_or, arith, true, refl, sym, ap, ◌∙◌, inl, replicate, length-append, length-drop, Option, Some, None, MatchOption, IsUtf8, IsCharBoundary}
+use Rattle.std.proofs.Common.{◌≡◌, ℕ, ◌<◌, ◌≤◌, List, [], ◌∷◌, ◌++◌, length, take, drop, get_or, arith, true, refl, sym, ap, ◌∙◌, inl, replicate, length-append, length-drop, Option, Some, None, MatchOption, IsUtf8, IsCharBoundary}
 use Rattle.std.specs.Char.{is_ascii}
 use Rattle.std.specs.List.{list_all, slice_get}
 use Rattle.std.specs.Str.{chars}

@@ -1,5 +1,5 @@
 -- Laws of std's `rfind` and `rsplit_once` at a character: where it last stands in a text.
-use Rattle.std.proofs.Common.{◌≡◌, ℕ, ◌<◌, List, [], ◌∷◌, ◌++◌, length, take, drop, refl, sym, ap, ◌∙◌, arith, IsUtf8, chars, true, subst, Option, Some, None, MatchOption, length-append, eq-eqb}
+use Rattle.std.proofs.Common.{◌≡◌, ℕ, ◌<◌, List, [], ◌∷◌, ◌++◌, length, take, drop, refl, sym, ap, ◌∙◌, arith, IsUtf8, chars, true, subst, Option, Some, None, MatchOption, eq-eqb}
 use Rattle.std.specs.Prelude.{◌==◌}
 use Rattle.std.specs.Str.{NonePass, NoCharPasses}
 use Rattle.std.specs.List.{position_or_len, before_last, after_last}
@@ -8,7 +8,7 @@ use Rattle.std.specs.Borrow.{Bor}
 use Rattle.std.proofs.lemmas.Str.{encodes-chars, encodes_same}
 use Rattle.arraystring_base.specs.Text.{IsText, size, bytes, front, back, boundary}
 use Rattle.arraystring_base.proofs.TextLaws.{bytes-is, bytes_same, bytes-chars, bytes-utf8, chars-bytes, size-append, text-chars, utf8-is, width-bounds}
-use Rattle.arraystring_base.proofs.BoundaryLaws.{back-text, bytes-front, front-back, front-size, front-text, trailing-text}
+use Rattle.arraystring_base.proofs.BoundaryLaws.{back-text, bytes-front, front-back, front-size, front-text}
 use Rattle.arraystring.proofs.CharacterLaws.{spelled-at}
 use Rattle.arraystring.proofs.SplitLaws.{joined-last, none-last}
 

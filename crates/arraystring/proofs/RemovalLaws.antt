@@ -47,18 +47,15 @@ module _ {t new : List ℕ} where
 
 -- a pop leaves one character less, and the first `n` if there are more
 module _ (t new : List ℕ) (found : Option ℕ) (m : Makes (popping t) t (Ok found) new) where
-  popped : MatchOption found ((t ≡ []) × (new ≡ [])) (λ c. t ≡ new ++ c ∷ [])
-  popped = popping-made m
-
   pub popped-length : length new ≡ length t - 1
-  popped-length = go found popped
+  popped-length = go found (popping-made m)
     where
       go : (found : Option ℕ) → MatchOption found ((t ≡ []) × (new ≡ [])) (λ c. t ≡ new ++ c ∷ []) → length new ≡ length t - 1
       go None none = omega (arith, ap length none.0, ap length none.1)
       go (Some c) is = omega (arith, ap length is, length-append new (c ∷ []))
 
   pub popped-take : (n : ℕ) → n < length t → take n new ≡ take n t
-  popped-take n below = go found popped
+  popped-take n below = go found (popping-made m)
     where
       go : (found : Option ℕ) → MatchOption found ((t ≡ []) × (new ≡ [])) (λ c. t ≡ new ++ c ∷ []) → take n new ≡ take n t
       go None none = absurd (omega (arith, ap length none.0, below))

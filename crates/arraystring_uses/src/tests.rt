@@ -621,7 +621,13 @@ fn as_many_words_as_fit(rt: HostRuntime) {
 
 #[test]
 fn first_letters_are_kept_or_capitalized(rt: HostRuntime) {
-    for (before, after) in [("", ""), ("z", "Z"), ("école", "école"), ("bé", "Bé"), ("1b", "1b")] {
+    for (before, after) in [
+        ("", ""),
+        ("z", "Z"),
+        ("école", "école"),
+        ("bé", "Bé"),
+        ("1b", "1b"),
+    ] {
         let mut text = ArrayString::from_str_truncate(before);
         capitalize(&mut text);
         agree(&rt, text.as_str(), after);
