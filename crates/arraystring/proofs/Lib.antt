@@ -1,6 +1,7 @@
 pub use Rattle.arraystring_base.proofs.TextLaws
 pub use Rattle.arraystring_base.proofs.CutLaws
 pub use Rattle.arraystring_base.proofs.FindLaws
+pub use Rattle.arraystring_base.proofs.OrderLaws
 pub use Rattle.arraystring_core.proofs.RangeEndLaws
 pub use Rattle.arraystring_core.proofs.TakenLaws
 pub mod BoundaryLaws
@@ -9,7 +10,6 @@ pub mod EditLaws
 pub mod AdditionLaws
 pub mod RemovalLaws
 pub mod RangeEditLaws
-pub mod OrderLaws
 pub mod MapLaws
 pub mod LoopLaws
 pub mod TracedLaws

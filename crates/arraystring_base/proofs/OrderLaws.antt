@@ -79,6 +79,10 @@ before-trans a b c x y = less-gives_before a c (nat_list_cmp_total.trans a b c (
 pub before-itself : (a : List ℕ) → IsBefore a a → ⊥
 before-itself a is = absurd (cc (before-gives_less a a is, same-gives_equal a a refl))
 
+-- of two texts no more than one comes before the other
+pub before-one : (a b : List ℕ) → IsBefore a b → IsBefore b a → ⊥
+before-one a b first second = before-itself a (before-trans a b a first second)
+
 -- what the bytes say of the characters
 pub bytes-less : (a b : List ℕ) → (slice_cmp nat_cmp (bytes a) (bytes b) ≡ Less) ↔ IsBefore a b
 bytes-less a b = rw order-bytes (less-gives_before a b, before-gives_less a b)
