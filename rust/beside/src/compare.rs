@@ -19,14 +19,18 @@ pub const RUST: &str = "rust/arraystring/src/";
 const HEAD: &str = "// Proved sources: ";
 const BY_HAND: &str = "// By hand: no proof stands behind this file.";
 
-/// What was found.
+/// What was found: faults, and how many functions of the Rust crate are of each kind.
 #[derive(Default)]
 pub struct Report {
     pub faults: Vec<Fault>,
     pub same: usize,
     pub by_entry: usize,
-    pub only_in_the_source: usize,
-    pub only_in_rust: usize,
+    pub without_source: usize,
+}
+
+/// How many functions an item has: itself, or those that a macro makes.
+fn functions(item: &Item) -> usize {
+    item.tokens.windows(2).filter(|pair| pair[0].is("fn") && pair[1].kind == Kind::Word).count()
 }
 
 /// An item as it is read, and as the rules leave it.
@@ -188,6 +192,7 @@ impl Comparison<'_> {
 
     /// No item by hand has the path of a source, so that none is called in its place. A macro may make a function.
     fn by_hand(&mut self, rust: &Item) {
+        self.report.without_source += functions(rust);
         let made = rust.tokens.windows(2).filter(|pair| pair[0].is("fn") && !rust.path.contains("::"));
         let paths: Vec<&str> = made.map(|pair| &*pair[1].text).chain([&*rust.path]).collect();
         let is_taken = |source: &Ruled| paths.contains(&&*source.item.path);
@@ -207,7 +212,9 @@ impl Comparison<'_> {
                 self.tokens(rust, body);
                 self.promises(rust, &like);
             }
-            None if self.take_entry(path, |says| *says == Says::OnlyInRust).is_some() => self.report.only_in_rust += 1,
+            None if self.take_entry(path, |says| *says == Says::OnlyInRust).is_some() => {
+                self.report.without_source += functions(&rust.item);
+            }
             None => self.fault(&rust.item, format!("`{path}` is only in Rust")),
         }
     }
@@ -248,8 +255,8 @@ impl Comparison<'_> {
             _ => Ok(source.tokens.clone()),
         };
         match made {
-            Ok(made) if made == rust.tokens && block.is_some() => self.report.by_entry += 1,
-            Ok(made) if made == rust.tokens => self.report.same += 1,
+            Ok(made) if made == rust.tokens && block.is_some() => self.report.by_entry += functions(&rust.item),
+            Ok(made) if made == rust.tokens => self.report.same += functions(&rust.item),
             Ok(made) => self.report.faults.push(difference(&source.item, &made, rust)),
             Err(what) => {
                 let line = block.map_or(0, |at| self.blocks[at].line);
@@ -264,9 +271,7 @@ impl Comparison<'_> {
         for at in left {
             let (file, path) = (self.sources[at].item.file.clone(), self.sources[at].item.path.clone());
             let is_alone = |says: &Says| *says == Says::OnlyInTheSource;
-            if self.take_entry(&path, is_alone).is_some() || self.take_entry(&file, is_alone).is_some() {
-                self.report.only_in_the_source += 1;
-            } else {
+            if self.take_entry(&path, is_alone).is_none() && self.take_entry(&file, is_alone).is_none() {
                 let item = self.sources[at].item.clone();
                 self.fault(&item, format!("`{path}` is only in the source"));
             }

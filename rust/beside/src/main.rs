@@ -45,18 +45,17 @@ fn run(mut arguments: impl Iterator<Item = String>) -> Result<bool, String> {
     }
 }
 
-/// Prints what was found, and how many items are the same.
+/// Prints what was found, and how many functions have the body of their source.
 fn tell(tree: &Tree) -> bool {
     let report = compare(tree);
     for fault in &report.faults {
         println!("{fault}");
     }
     println!(
-        "{} items are the same, {} differ by an entry; {} are only in the source, {} only in Rust; {} faults",
+        "functions: {} have the body of their source, {} differ from it by an entry, {} have no source; {} faults",
         report.same,
         report.by_entry,
-        report.only_in_the_source,
-        report.only_in_rust,
+        report.without_source,
         report.faults.len()
     );
     report.faults.is_empty()
