@@ -42,7 +42,7 @@ module _ {t : List ℕ} (given : List ℕ) (n : ℕ) {new : List ℕ} {result : 
   pub addition_of_cut-cuts : size t ≤ n → Makes (addition_of_cut t given n) t result new → new ≡ cut (t ++ given) n
   addition_of_cut-cuts fits m = rw (cut-past_part t given n fits) (edit-makes refl m).1
 
--- a character that is added whole or refused is cut: the text after is the cut of both, if the text before fits
+-- for one character a refusal is a cut: if the text before fits, the text after is the cut of the text and the character
 pub addition-char_cuts : (t : List ℕ) (ch n : ℕ) → size t ≤ n → cut (t ++ ch ∷ []) n ≡ text_of (addition t (ch ∷ []) n) t
 addition-char_cuts t ch n fits = grind (arith, nat_tests, append-nil t, cut-past_part t (ch ∷ []) n fits)
 

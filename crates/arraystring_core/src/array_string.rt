@@ -5,7 +5,7 @@
 //!
 //! - `boundary` has the test for a boundary, and `checks` the tests of the table of edits (docs/definitions.md);
 //! - `splice` replaces a part of the text by another;
-//! - `full_end` appends to a text that may end where its array ends, and `appended_items` what an iterator gives;
+//! - `append_at_array_end` appends to a text that may end where its array ends, and `appended_items` what an iterator gives;
 //! - `remove` also takes out a part, a front or an end.
 //!
 //! # How a string lies in its array
@@ -46,6 +46,7 @@ ghost use Rattle.arraystring_core.specs.Layout.{start_of};
 use std::marker::Model;
 use std::str;
 
+mod append_at_array_end;
 mod appended_items;
 mod ascii;
 mod borrowed_range;
@@ -53,7 +54,6 @@ mod boundary;
 mod checks;
 mod construct;
 mod drained_range;
-mod full_end;
 mod insert;
 mod push;
 mod remove;

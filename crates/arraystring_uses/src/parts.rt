@@ -45,7 +45,7 @@ pub fn drop_part<const N: usize>(text: &mut ArrayString<N>, start: u8, end: u8) 
 
 /// Returns the longest prefix of whole characters of what is left of `drained` that fits into 8
 /// bytes.
-pub fn first_left(drained: Drain<64>) -> ArrayString<8>
+pub fn start_of_rest(drained: Drain<64>) -> ArrayString<8>
     ensures { result.text ≡ cut drained.left 8 }
 {
     left_given(&drained);

@@ -13,7 +13,7 @@ use crate::log_line::{Level, log_line};
 use crate::numbers::{push_number, write_number};
 use crate::packet::name_in;
 use crate::pair::{line_of, pair, pair_of, split_value, there_and_back};
-use crate::parts::{drop_part, first_left, part, prefix};
+use crate::parts::{drop_part, part, prefix, start_of_rest};
 use crate::paths::{go_up, last_segment};
 use crate::quotes::{quoted, replaced};
 use crate::row::add_row;
@@ -536,7 +536,7 @@ fn check_left(rt: &impl Abort, left: &str, kept: &str) {
     let mut drained = line.drain(..).unwrap_or_default();
     agree(rt, drained.next(), Some('€'));
     agree(rt, drained.next_back(), Some('🤔'));
-    agree(rt, first_left(drained).as_str(), kept);
+    agree(rt, start_of_rest(drained).as_str(), kept);
 }
 
 #[test]

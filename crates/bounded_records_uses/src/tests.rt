@@ -57,7 +57,7 @@ fn the_user_of_a_record_is_entered(rt: HostRuntime) {
     check_users(&rt, &users, &[user(&rt, "ann", "admin")]);
 }
 
-/// A user of these texts.
+/// A user with this name and this role.
 fn user(rt: &impl Abort, username: &str, role: &str) -> User {
     User::new(username, role).expect(rt, "both texts fit")
 }

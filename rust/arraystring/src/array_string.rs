@@ -6,7 +6,7 @@
 //!
 //! - `boundary` has the test for a boundary, and `checks` the tests of the table of edits (docs/definitions.md);
 //! - `splice` replaces a part of the text by another;
-//! - `full_end` appends to a text that may end where its array ends, and `appended_items` what an iterator gives;
+//! - `append_at_array_end` appends to a text that may end where its array ends, and `appended_items` what an iterator gives;
 //! - `remove` also takes out a part, a front or an end.
 //!
 //! # How a string lies in its array
@@ -61,8 +61,8 @@ mod trim;
 mod ascii;
 mod traits;
 mod checks;
+mod append_at_array_end;
 mod appended_items;
-mod full_end;
 mod splice;
 mod unchecked;
 

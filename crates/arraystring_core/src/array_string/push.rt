@@ -1,4 +1,4 @@
-//! Appends: of characters, of texts, and of the items of an iterator.
+//! Appends: of characters, of texts, and of the items of an iterator, whose loops are in `appended_items`.
 ghost use Rattle.std.specs.Prelude.{◌-◌, Ok, [], ◌∷◌, chars, ℕ, List};
 ghost use Rattle.arraystring_base.specs.Text.{size, cap};
 ghost use Rattle.arraystring_core.specs.Edits.{Makes, from_out_of_bounds, addition, addition_of_cut};

@@ -128,7 +128,7 @@ fn other_values_are_not_texts(rt: HostRuntime) {
     }
 }
 
-/// Asserts that a JSON text is read whole by a string of this capacity, and is then written as it, or is
+/// Asserts that a JSON text is read whole by a string of this capacity, and is then written as the same text, or is
 /// refused if it is larger.
 fn whole_or_refused<S: Json + PartialEq + Debug>(
     rt: &(impl Abort + AllocGlobal),

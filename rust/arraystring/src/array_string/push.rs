@@ -1,5 +1,5 @@
 // Proved sources: crates/arraystring_core/src/array_string/push.rt
-//! Appends: of characters, of texts, and of the items of an iterator.
+//! Appends: of characters, of texts, and of the items of an iterator, whose loops are in `appended_items`.
 
 use crate::ArrayString;
 use crate::error::OutOfBounds;

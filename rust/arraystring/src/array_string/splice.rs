@@ -1,7 +1,7 @@
 // Proved sources: crates/arraystring_core/src/array_string/splice.rt
 //! How a part between two boundaries becomes another text. What follows it moves. If there is no room behind the text,
 //! what precedes it moves to the start of the array, too. Appends, and removals at the front and at the end, move nothing
-//! or all of the text: `full_end` and `remove` have them.
+//! or all of the text: `append_at_array_end` and `remove` have them.
 
 use crate::ArrayString;
 use crate::access::str;

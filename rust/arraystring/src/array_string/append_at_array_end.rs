@@ -1,4 +1,4 @@
-// Proved sources: crates/arraystring_core/src/array_string/full_end.rt
+// Proved sources: crates/arraystring_core/src/array_string/append_at_array_end.rt
 //! Appends to a text that may end where its array ends: the test of the room, and what first moves the text to the start.
 
 use crate::ArrayString;
