@@ -1,5 +1,5 @@
 //! The program `arraystring_cli` as a plain Rust program, over std alone. docs/scripts.md says what it does. It writes a reply that
-//! has a value by `write_all`, part by part, which is the faster form.
+//! has a value by `write_all`, part by part, which is faster than `write!`.
 
 use std::borrow::Cow;
 use std::io::{self, BufWriter, Read, Write};

@@ -43,11 +43,11 @@
 
 // In the order in which the reference shows their calls.
 mod construct;
-mod constant;
+mod macros;
 mod constructors_by_hand;
 mod utf16;
 mod views;
-mod loan;
+mod mutable_loan;
 mod room;
 mod push;
 mod whole;

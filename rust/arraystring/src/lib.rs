@@ -15,14 +15,14 @@ mod array_string;
 mod cache_string;
 pub mod contracts;
 #[cfg(feature = "alloc")]
-mod heap;
+mod into_owned;
 #[cfg(feature = "serde")]
 pub mod cut;
 pub mod drain;
 pub mod error;
 mod moves;
 #[cfg(feature = "alloc")]
-mod owned;
+mod from_owned;
 #[cfg(feature = "std")]
 mod paths;
 mod range_ends;

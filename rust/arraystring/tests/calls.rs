@@ -6,7 +6,7 @@ use std::path::Path;
 
 /// What neither tests/every_state nor tests/tables makes, and where it is tried.
 const TRIED_ELSEWHERE: &[(&str, &str)] = &[
-    ("as_mut_str", "tests/by_hand/loans.rs writes into each text through it"),
+    ("as_mut_str", "tests/by_hand/mutable_loans.rs writes into each text through it"),
     ("const_try_from_str", "tests/constants.rs and tests/by_hand/made.rs"),
     ("of_constant", "`arraystring!` calls it: tests/constants.rs, and tests/panics.rs where the text is too long"),
     ("deserialize", "rust/with_serde of the repository"),

@@ -20,7 +20,7 @@ fn start(string: &ArrayString<8>) -> usize {
 }
 
 /// The array with a `.` for each byte that is no part of the text, the start offset and the size.
-fn drawn(string: &ArrayString<8>) -> String {
+fn drawn_row(string: &ArrayString<8>) -> String {
     let start = start(string);
     let spare = ".".repeat(8 - start - string.len() as usize);
     format!("{}{string}{spare}{start:8}{:7}", ".".repeat(start), string.len())
@@ -35,11 +35,11 @@ fn moved(before: &ArrayString<8>, after: &ArrayString<8>) -> usize {
 /// What some edits make of a text, one after the other.
 fn drawing(text: &str, edits: &[(&str, Edit)]) -> String {
     let mut string = ArrayString::from(text);
-    let mut lines = format!("{HEADING}{:26}{}\n", format!("from({text:?})"), drawn(&string));
+    let mut lines = format!("{HEADING}{:26}{}\n", format!("from({text:?})"), drawn_row(&string));
     for (name, edit) in edits {
         let before = string;
         edit(&mut string);
-        lines += &format!("{name:26}{}{:8}\n", drawn(&string), moved(&before, &string));
+        lines += &format!("{name:26}{}{:8}\n", drawn_row(&string), moved(&before, &string));
     }
     lines
 }

@@ -237,7 +237,7 @@ fn panics_and_errors() {
 /// What is as in 0.3.0, and is easily missed.
 #[test]
 #[allow(clippy::unnecessary_fallible_conversions, reason = "that it can't fail is what is shown")]
-fn what_is_easily_missed() {
+fn what_stays_as_in_the_older_crate() {
     type Two = ArrayString<2>;
     assert_eq!(Two::try_from("abc"), Ok(Two::from("ab")));
     assert_eq!(("abc".parse::<Two>(), Two::try_from_str("abc")), (Err(OutOfBounds), Err(OutOfBounds)));

@@ -313,7 +313,7 @@ const KINDS: &[Kind] = &[
 const SOURCES: &[&str] = &[
     include_str!("../src/rust_traits.rs"),
     #[cfg(feature = "alloc")]
-    include_str!("../src/owned.rs"),
+    include_str!("../src/from_owned.rs"),
 ];
 
 /// How many items are taken at most: what has no end is not taken without end.

@@ -167,7 +167,7 @@ impl Comparison<'_> {
         self.report.faults.push(Fault { file: item.file.clone(), line: item.line, what });
     }
 
-    /// The block that says one thing of a path, which is used by that.
+    /// The index of the block of differences.txt that says this of a path. It then counts as used for that path.
     fn take_entry(&mut self, path: &str, is_meant: fn(&Says) -> bool) -> Option<usize> {
         let at = self
             .blocks

@@ -50,8 +50,8 @@ impl<const N: usize> ArrayString<N> {
         self.drain_through(range, &mut Drain::default())
     }
 
-    /// Drains the part in the range. What is removed goes through `removed`, which is the caller's: the compiler copies a local
-    /// of this function once more.
+    /// Drains the part in the range. What is removed goes through `removed`, which is the caller's. If it were a local of this
+    /// function, the compiler would copy it once more.
     #[inline(always)]
     fn drain_through<R: RangeBounds<u8>>(&mut self, range: R, removed: &mut Drain<N>) -> Result<Drain<N>, Error> {
         let (from, to) = saturating_ends(range, self.len());

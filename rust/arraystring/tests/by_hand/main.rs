@@ -10,12 +10,12 @@ mod access;
 #[path = "../inputs/mod.rs"]
 mod inputs;
 
-mod asked;
+mod asked_once;
 mod beside_parts;
 mod drains;
 mod given;
 mod items;
-mod loans;
+mod mutable_loans;
 mod made;
 #[cfg(feature = "alloc")]
 mod owned_texts;

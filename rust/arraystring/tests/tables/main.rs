@@ -5,8 +5,8 @@
 
 mod calls;
 mod contract;
+mod decoding_and_order;
 mod made;
-mod read;
 mod rows;
 
 use std::collections::BTreeMap;
@@ -22,18 +22,18 @@ type Player = (&'static str, usize, fn(&Table) -> usize);
 
 const PLAYERS: &[Player] = &[
     ("check_blocks", 400, calls::blocks),
-    ("check_comparisons", 4, read::comparisons),
+    ("check_comparisons", 4, decoding_and_order::comparisons),
     ("check_constructors", 20, made::constructors),
-    ("check_cuts", 18, read::cuts),
-    ("check_drains", 10, read::drains),
+    ("check_cuts", 18, decoding_and_order::cuts),
+    ("check_drains", 10, decoding_and_order::drains),
     ("check_extension", 5, made::extension),
-    ("check_orders", 6, read::orders),
-    ("check_reading", 18, read::reading),
+    ("check_orders", 6, decoding_and_order::orders),
+    ("check_reading", 18, decoding_and_order::reading),
     ("check_rows", 100, calls::rows_at),
     ("check_texts_of_units", 20, made::texts_of_units),
-    ("check_trims", 23, read::trims),
-    ("check_units", 9, read::units),
-    ("check_walks", 7, read::walks),
+    ("check_trims", 23, decoding_and_order::trims),
+    ("check_units", 9, decoding_and_order::units),
+    ("check_walks", 7, decoding_and_order::walks),
     ("check_wherever_it_begins", 100, calls::wherever_it_begins),
 ];
 
