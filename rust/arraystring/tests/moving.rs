@@ -15,7 +15,7 @@ use std::str::FromStr;
 use arraystring::drain::Drain;
 use arraystring::error::{Error, OutOfBounds, Utf8, Utf16};
 use arraystring::utils::{is_char_boundary, is_inside_boundary};
-use arraystring::{ArrayString, CacheString, MaxString, SmallString};
+use arraystring::{ArrayString, CacheString, MaxString, SmallString, try_format};
 use page::{Table, made};
 
 #[path = "inputs/page.rs"]
@@ -457,6 +457,9 @@ fn what_does_not_compile_is_written_in_another_way() -> Result<(), Error> {
     let row = table.row("s.remaining_capacity() == at");
     assert!(!written!(row, WRITTEN, usize::from(s.remaining_capacity()) == at));
     assert!(!written!(table.row("s.len() == at"), WRITTEN, usize::from(s.len()) == at));
+    assert!(written!(table.row("\"abc\".contains(&s)"), WRITTEN, "abc".contains(s.as_str())));
+    let row = table.row("std::io::Error::other(s)");
+    assert_eq!(written!(row, WRITTEN, std::io::Error::other(s.as_str())).to_string(), "ab");
     let t = ArrayString::<8>::from("ab");
     assert!(written!(table.row("s == t"), WRITTEN, s.as_str() == t.as_str()));
     assert!(written!(table.row("*\"n\" < s"), WRITTEN, *"n" < *s) == ("n" < "ab"));
@@ -524,6 +527,12 @@ fn makes_are_written_in_another_way(table: &mut Table, at: usize) -> Result<(), 
     assert_eq!(written!(row, WRITTEN, Name::try_from_utf8(b"abcd")?), "abcd");
     let row = table.row("Name::try_from(format_args!(\"{at}\"))");
     assert_eq!(written!(row, WRITTEN, Name::try_from_format(format_args!("{at}"))?), "1");
+    let mut s: Name;
+    written!(table.row("s = format!(\"{at}\")"), WRITTEN, s = try_format!("{at}")?);
+    assert_eq!(s, "1");
+    s = Name::from("AB");
+    written!(table.row("s = s.to_lowercase()"), WRITTEN, s = Name::try_from_str(s.to_lowercase())?);
+    assert_eq!(s, "ab");
     assert_eq!(written!(table.row("Name::try_from(7)"), WRITTEN, Name::try_from_format(format_args!("{}", 7))?), "7");
     Ok(())
 }

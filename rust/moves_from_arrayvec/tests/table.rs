@@ -120,10 +120,14 @@ fn what_does_not_compile_beside_it_compiles_here() {
     table.row("Name::with_capacity(at)").says(0, "String");
     assert_eq!(is_of!(table, "arrayvec", Name::from_byte_string(b"abcd")).as_deref(), Ok("abcd"));
     assert_eq!(is_of!(table, "arrayvec", Name::try_from(format_args!("{at}"))).as_deref(), Ok("1"));
+    table.row("s = format!(\"{at}\")").says(0, "String");
+    table.row("s = s.to_lowercase()").says(0, "String");
     table.row("Name::try_from(7)").says(0, "heapless");
     assert_eq!(is_of!(table, "all three", s.capacity()), 4);
     assert!(!is_of!(table, "arrayvec", s.remaining_capacity() == at));
     assert!(!is_of!(table, "all three", s.len() == at));
+    table.row("\"abc\".contains(&s)").says(0, "String");
+    table.row("std::io::Error::other(s)").says(0, "String");
     table.row("s == t").says(0, "heapless");
     assert!(!is_of!(table, "arrayvec", *"n" < s));
     assert_eq!(is_of!(table, "all three", s.get(at..)), Some("b"));
