@@ -171,6 +171,10 @@ IsLongestFitting-too_short : IsLongestFitting [] (codes "aé") 2 → ⊥
 unfolding width
 IsLongestFitting-too_short is = grind (arith, is.longest (codes "a") (codes "é", refl) (omega arith))
 
+IsLongestFitting-fits_exactly : IsLongestFitting (codes "aé") (codes "aé") 3
+unfolding width
+IsLongestFitting-fits_exactly = record { prefix = ([], refl); fits = omega arith; longest = λ q is fits. is }
+
 IsBefore-the_shorter_text : IsBefore (codes "a") (codes "ab")
 IsBefore-the_shorter_text = inl (0x62, [], refl)
 
@@ -199,3 +203,6 @@ IsBefore-not_the_greater_character (inl (c, rest, e)) = grind arith
 IsBefore-not_the_greater_character (inr ([], c, d, x, y, a, b, lt)) = grind arith
 IsBefore-not_the_greater_character (inr (p ∷ [], c, d, x, y, a, b, lt)) = grind arith
 IsBefore-not_the_greater_character (inr (p ∷ q ∷ ps, c, d, x, y, a, b, lt)) = grind arith
+
+IsBefore-behind_a_common_prefix : IsBefore (codes "ab") (codes "ac")
+IsBefore-behind_a_common_prefix = inr (codes "a", 0x62, 0x63, [], [], refl, refl, omega arith)

@@ -67,6 +67,18 @@ NoPairApart-not_the_units_of_a_pair apart = apart [] [] 0xD834 0xDD1E refl (omeg
 NoPairApart-not_between_characters : NoPairApart (Char 0x61 ∷ Lone 0xD834 ∷ Lone 0xDD1E ∷ Char 0x62 ∷ []) → ⊥
 NoPairApart-not_between_characters apart = apart (Char 0x61 ∷ []) (Char 0x62 ∷ []) 0xD834 0xDD1E refl (omega arith) (omega arith)
 
+NoPairApart-two_high_ones : NoPairApart (Lone 0xD800 ∷ Lone 0xD834 ∷ [])
+NoPairApart-two_high_ones [] after high low e is_high is_low = grind arith
+NoPairApart-two_high_ones (x ∷ []) after high low e is_high is_low = cc
+NoPairApart-two_high_ones (x ∷ y ∷ []) after high low e is_high is_low = cc
+NoPairApart-two_high_ones (x ∷ y ∷ z ∷ before) after high low e is_high is_low = cc
+
+NoPairApart-two_low_ones : NoPairApart (Lone 0xDC00 ∷ Lone 0xDD1E ∷ [])
+NoPairApart-two_low_ones [] after high low e is_high is_low = grind arith
+NoPairApart-two_low_ones (x ∷ []) after high low e is_high is_low = cc
+NoPairApart-two_low_ones (x ∷ y ∷ []) after high low e is_high is_low = cc
+NoPairApart-two_low_ones (x ∷ y ∷ z ∷ before) after high low e is_high is_low = cc
+
 IsReading-lone_ones : IsReading (0xDC00 ∷ 0xD800 ∷ []) (Lone 0xDC00 ∷ Lone 0xD800 ∷ [])
 IsReading-lone_ones = record {
   each_unit = search (arith, All-cons, All-nil);
@@ -96,6 +108,19 @@ IsReading-not_of_other_units is = grind (arith, is.joined)
 
 IsReading-no_pair_apart : IsReading (0xD834 ∷ 0xDD1E ∷ []) (Lone 0xD834 ∷ Lone 0xDD1E ∷ []) → ⊥
 IsReading-no_pair_apart is = NoPairApart-not_the_units_of_a_pair is.apart
+
+IsReading-the_greatest_unit : IsReading (0xFFFF ∷ []) (Char 0xFFFF ∷ [])
+IsReading-the_greatest_unit = record {
+  each_unit = search (arith, All-cons, All-nil);
+  each_item = All-cons IsItem _ [] (inr (omega arith)) (All-nil IsItem);
+  joined = refl;
+  apart = apart;
+}
+  where
+    apart : NoPairApart (Char 0xFFFF ∷ [])
+    apart [] after high low e is_high is_low = cc
+    apart (x ∷ []) after high low e is_high is_low = cc
+    apart (x ∷ y ∷ before) after high low e is_high is_low = cc
 
 Stop-each_kind_is_another : (End [] ≡ Fault [] → ⊥) × (End [] ≡ Full [] → ⊥) × (Fault [] ≡ Full [] → ⊥)
 Stop-each_kind_is_another = (λ e. cc, λ e. cc, λ e. cc)
@@ -137,6 +162,10 @@ StopsAt-not_full_past_the_room is = omega (arith, is.3)
 StopsAt-not_full_before_what_fits : StopsAt (Char 0x61 ∷ Char 0xE9 ∷ []) 3 (Full (codes "a")) → ⊥
 unfolding width
 StopsAt-not_full_before_what_fits is = grind (arith, nat_tests)
+
+StopsAt-full_behind_what_fills_the_room : StopsAt (Char 0x61 ∷ Char 0x62 ∷ []) 1 (Full (codes "a"))
+unfolding width
+StopsAt-full_behind_what_fills_the_room = (0x62, [], refl, omega arith, omega arith)
 
 stop_behind-keeps_the_kind : (stop_behind 0x61 (End (codes "b")) ≡ End (codes "ab"))
     × (stop_behind 0x61 (Fault (codes "b")) ≡ Fault (codes "ab"))

@@ -16,8 +16,15 @@ drained-from_an_index_on : drained (string_of (codes "aé")) 1 ≡ rest
 unfolding width
 drained-from_an_index_on = refl
 
+drained-the_numbers_stay : drained (record { text = codes "a"; spare = codes "x" }) 0 ≡ record { left = codes "a"; yielded = []; spare = codes "x" }
+unfolding width
+drained-the_numbers_stay = refl
+
 removed_of-both_parts : removed_of rest ≡ string_of (codes "aé")
 removed_of-both_parts = refl
+
+removed_of-the_numbers_stay : removed_of (record { left = codes "a"; yielded = []; spare = codes "x" }) ≡ record { text = codes "a"; spare = codes "x" }
+removed_of-the_numbers_stay = refl
 
 with_left-of_each_result : (with_left (Ok rest) ≡ Ok (codes "é")) × (with_left (Err error.Utf8) ≡ Err error.Utf8)
 with_left-of_each_result = (refl, refl)

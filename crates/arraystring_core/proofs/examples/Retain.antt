@@ -24,6 +24,9 @@ IsCallableInTurn-not_a_third_time : IsCallableInTurn can steps 0 (codes "abc") �
 IsCallableInTurn-not_a_third_time is =
     omega (arith, is.at (codes "ab") 0x63 [] 2 refl (1, (true, refl), (2, (true, refl), refl)))
 
+IsCallableInTurn-not_the_first_time : IsCallableInTurn (λ calls c. 0 < calls) steps 0 (codes "ab") → ⊥
+IsCallableInTurn-not_the_first_time is = omega (arith, is.at [] 0x61 (codes "b") 0 refl refl)
+
 -- a closure that tells spaces, and one that returns anything
 abbrev tells : Unit {0} → ℕ → Bool → Type 0
 tells f c answer = answer ≡ is_space c

@@ -39,3 +39,7 @@ ReplacesPart-no_count_falls is = omega (arith, is.counted)
 
 ReplacesPart-no_look : ReplacesPart (codes "abcd") 1 2 (codes "xy") (codes "axycd") (moves 7) (record { looked = 5; moved = 8 }) → ⊥
 ReplacesPart-no_look is = omega (arith, is.looked)
+
+ReplacesPart-the_fewer_are_behind : ReplacesPart (codes "abcd") 2 3 (codes "xy") (codes "abxyd") (moves 7) (moves 8)
+unfolding width
+ReplacesPart-the_fewer_are_behind = record { text = refl; most = omega arith; least = λ other. omega arith; counted = omega arith; looked = refl }

@@ -42,6 +42,10 @@ IsFirstPast-no_item_behind_it (x ∷ [], last, e, fits, past) = grind (arith, na
 IsFirstPast-no_item_behind_it (x ∷ y ∷ [], last, e, fits, past) = grind arith
 IsFirstPast-no_item_behind_it (x ∷ y ∷ z ∷ before, last, e, fits, past) = grind arith
 
+IsFirstPast-behind_what_fills_the_room : IsFirstPast itself 1 (codes "aé")
+unfolding width
+IsFirstPast-behind_what_fills_the_room = (codes "a", 0xE9, refl, omega arith, omega arith)
+
 abbrev becomes : List ℕ → List ℕ → Type 0
 becomes given iter = given ≡ iter
 
