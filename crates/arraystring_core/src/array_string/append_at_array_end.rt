@@ -1,13 +1,9 @@
 //! Appends to a text that may end where its array ends: the test of the room, and what first moves the text to the start.
-ghost use Rattle.std.specs.Prelude.{◌≡◌, ◌+◌, ◌-◌, ◌<◌, ◌≤◌, ◌↔◌, [], ◌∷◌, ◌++◌, IsTrue, chars, ℕ, List, MatchResult, Ok};
-ghost use Rattle.arraystring_base.specs.Text.{size, width, cap, cut};
+ghost use Rattle.std.specs.Prelude.{◌≡◌, ◌+◌, ◌≤◌, ◌↔◌, [], ◌∷◌, ◌++◌, IsTrue, chars, Ok};
+ghost use Rattle.arraystring_base.specs.Text.{size, width, cap};
 ghost use Rattle.arraystring_core.specs.Edits.{Makes, addition_of_cut};
-ghost use Rattle.std.specs.Borrow.{Bor};
-ghost use Rattle.std.specs.Iterator.{IsFiniteIterable};
-ghost use Rattle.arraystring_core.specs.Taken.{Takes, joined_pieces};
 
 use crate::ArrayString;
-use arraystring_base::error::OutOfBounds;
 use arraystring_base::utils::{Steps, encode, shift, truncate_str, write_over};
 
 impl<const N: usize> ArrayString<N> {

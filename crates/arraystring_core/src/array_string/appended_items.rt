@@ -1,14 +1,12 @@
 //! The private calls that append the items of an iterator as far as they fit.
-ghost use Rattle.std.specs.Prelude.{◌≡◌, ◌+◌, ◌-◌, ◌<◌, ◌≤◌, ◌↔◌, [], ◌∷◌, ◌++◌, IsTrue, chars, ℕ, List, MatchResult, Ok};
-ghost use Rattle.arraystring_base.specs.Text.{size, width, cap, cut};
-ghost use Rattle.arraystring_core.specs.Edits.{Makes, addition_of_cut};
+ghost use Rattle.std.specs.Prelude.{◌≡◌, ◌-◌, ◌<◌, ◌≤◌, ◌++◌, ℕ, List, MatchResult};
+ghost use Rattle.arraystring_base.specs.Text.{size, cap, cut};
 ghost use Rattle.std.specs.Borrow.{Bor};
 ghost use Rattle.std.specs.Iterator.{IsFiniteIterable};
 ghost use Rattle.arraystring_core.specs.Taken.{Takes, joined_pieces};
 
 use crate::ArrayString;
 use arraystring_base::error::OutOfBounds;
-use arraystring_base::utils::{Steps, encode, shift, truncate_str, write_over};
 
 impl<const N: usize> ArrayString<N> {
     /// Appends the characters before the first that does not fit. Returns `Err` if there is such a one: what fitted stays.
