@@ -33,24 +33,26 @@ macro_rules! get_unchecked_mut {
 /// have to be within.
 macro_rules! chunk_unchecked {
     ($of:expr, $at:expr, $len:expr) => {{
-        let of: &[u8] = $of;
+        let of: &[_] = $of;
         let at: usize = $at;
         if crate::access::IS_TESTED {
             assert!(at <= of.len() && $len <= of.len() - at, "there are fewer bytes");
         }
-        &*of.as_ptr().wrapping_add(at).cast::<[u8; $len]>()
+        let chunk: *const [_; $len] = crate::access::chunk_at(of.as_ptr().wrapping_add(at));
+        &*chunk
     }};
 }
 
 /// The same, to write: `unsafe { chunk_unchecked_mut!(all, at, K) }`.
 macro_rules! chunk_unchecked_mut {
     ($of:expr, $at:expr, $len:expr) => {{
-        let of: &mut [u8] = $of;
+        let of: &mut [_] = $of;
         let at: usize = $at;
         if crate::access::IS_TESTED {
             assert!(at <= of.len() && $len <= of.len() - at, "there are fewer bytes");
         }
-        &mut *of.as_mut_ptr().wrapping_add(at).cast::<[u8; $len]>()
+        let chunk: *mut [_; $len] = crate::access::chunk_at_mut(of.as_mut_ptr().wrapping_add(at));
+        &mut *chunk
     }};
 }
 
@@ -60,7 +62,7 @@ macro_rules! split_at_unchecked {
     ($of:expr, $at:expr) => {
         if crate::access::IS_TESTED {
             // (each part of std's `split_at` is tested four times more in a debug build)
-            let of: &[u8] = &$of;
+            let of: &[_] = &$of;
             let at: usize = $at;
             assert!(at <= of.len(), "there are fewer bytes");
             let first = of.as_ptr();
@@ -77,17 +79,22 @@ macro_rules! split_at_unchecked {
 /// Writes bytes over a part: `unsafe { copy_from_slice_unchecked!(all, start..end, given) }` for
 /// `all[start..end].copy_from_slice(given)`. The part has to be within, and what is given as long, and lent apart.
 macro_rules! copy_from_slice_unchecked {
-    ($of:expr, $at:expr, $given:expr) => {{
-        let (at, given): (core::ops::Range<usize>, &[u8]) = ($at, $given);
-        if crate::access::IS_TESTED {
-            // (`copy_from_slice` of std tests in a debug build once more that they are apart)
-            let part = &mut $of[at];
-            assert!(part.len() == given.len(), "another number of bytes");
-            core::ptr::copy(given.as_ptr(), part.as_mut_ptr(), given.len())
-        } else {
-            core::ptr::copy_nonoverlapping(given.as_ptr(), $of.as_mut_ptr().add(at.start), given.len())
+    ($of:expr, $at:expr, $given:expr) => {
+        // (by a `match` what is given may be a value of this line)
+        match ($at, $given) {
+            (at, given) => {
+                let (at, given): (core::ops::Range<usize>, &[_]) = (at, given);
+                if crate::access::IS_TESTED {
+                    // (`copy_from_slice` of std tests in a debug build once more that they are apart)
+                    let part = &mut $of[at];
+                    assert!(part.len() == given.len(), "another number of bytes");
+                    core::ptr::copy(given.as_ptr(), part.as_mut_ptr(), given.len())
+                } else {
+                    core::ptr::copy_nonoverlapping(given.as_ptr(), $of.as_mut_ptr().add(at.start), given.len())
+                }
+            }
         }
-    }};
+    };
 }
 
 /// Moves bytes of a slice: `unsafe { copy_within_unchecked!(all, from..end, to) }` for `all.copy_within(from..end, to)`. Both parts
@@ -98,7 +105,7 @@ macro_rules! copy_within_unchecked {
         if crate::access::IS_TESTED {
             $of.copy_within(at, to)
         } else {
-            let bytes: *mut u8 = $of.as_mut_ptr();
+            let bytes = $of.as_mut_ptr();
             core::ptr::copy(bytes.add(at.start), bytes.add(to), at.end - at.start)
         }
     }};
@@ -168,6 +175,80 @@ pub(crate) mod char {
             }
         }
     }
+}
+
+/// The first `K` items behind a pointer. (A `cast` in the macros could make another type of them.)
+#[inline(always)]
+pub(crate) const fn chunk_at<T, const K: usize>(first: *const T) -> *const [T; K] {
+    first.cast()
+}
+
+/// The same, to write.
+#[inline(always)]
+pub(crate) const fn chunk_at_mut<T, const K: usize>(first: *mut T) -> *mut [T; K] {
+    first.cast()
+}
+
+/// A byte of the array of a string. It has no value before one is written.
+pub(crate) type Place = core::mem::MaybeUninit<u8>;
+
+/// A place of a new array. Where accesses are tested it has a value all the same: there a wrong index panics, perhaps when the size has
+/// risen and nothing is written yet.
+pub(crate) const UNWRITTEN: Place = if IS_TESTED { Place::new(0) } else { Place::uninit() };
+
+/// The byte of a place.
+///
+/// # Safety
+///
+/// It was written.
+#[inline(always)]
+pub(crate) const unsafe fn byte(place: Place) -> u8 {
+    // SAFETY: it was written, by this function's `# Safety`.
+    unsafe { place.assume_init() }
+}
+
+/// The bytes of places.
+///
+/// # Safety
+///
+/// Each of them was written.
+#[inline(always)]
+pub(crate) const unsafe fn bytes(places: &[Place]) -> &[u8] {
+    let places: *const [Place] = places;
+    // SAFETY: a place is laid out as its byte, and each was written, by this function's `# Safety`.
+    unsafe { &*(places as *const [u8]) }
+}
+
+/// The same, to write.
+///
+/// # Safety
+///
+/// Each of them was written.
+#[inline(always)]
+pub(crate) unsafe fn bytes_mut(places: &mut [Place]) -> &mut [u8] {
+    let places: *mut [Place] = places;
+    // SAFETY: a place is laid out as its byte, and each was written, by this function's `# Safety`.
+    unsafe { &mut *(places as *mut [u8]) }
+}
+
+/// Bytes as places, which are only read.
+#[inline(always)]
+pub(crate) const fn places(bytes: &[u8]) -> &[Place] {
+    let bytes: *const [u8] = bytes;
+    // SAFETY: a place is laid out as its byte, and may have any value.
+    unsafe { &*(bytes as *const [Place]) }
+}
+
+/// An array of bytes as places, to write.
+///
+/// # Safety
+///
+/// Only places that were written are copied there, and bytes.
+#[inline(always)]
+pub(crate) unsafe fn places_mut<const N: usize>(array: &mut [u8; N]) -> &mut [Place; N] {
+    let array: *mut [u8; N] = array;
+    // SAFETY: a place is laid out as its byte, and each keeps a value, by this function's `# Safety`.
+    unsafe { &mut *array.cast::<[Place; N]>() }
 }
 
 /// What it uses of `core::str`.

@@ -13,7 +13,7 @@
 //!
 //! The text is the `size` bytes of the array from the start offset on. An *offset* counts from the start of
 //! the array, an *index* from the start of the text. The drawings show an array of 8 bytes after each call. A
-//! `.` is a byte outside the text. Such a byte can have any value: strings with the same text are equal. The
+//! `.` is a byte outside the text. Such a byte can have any value or none: strings with the same text are equal. The
 //! last column says how many bytes the call moves.
 //!
 //! ```text
@@ -40,6 +40,8 @@
 //!
 //! A `Drain<N>` borrows nothing. It has a copy of the array from before the removal, the offset and the size of
 //! the removed text, and an index into it. `next` raises the index, and `next_back` lowers the size.
+
+use crate::access::Place;
 
 // In the order in which the reference shows their calls.
 mod construct;
@@ -128,8 +130,8 @@ mod unchecked;
 /// ```
 #[derive(Clone, Copy)]
 pub struct ArrayString<const N: usize> {
-    /// The `size` bytes from `start` on are the text. They are UTF-8, and the others have no meaning.
-    array: [u8; N],
+    /// The `size` bytes from `start` on are the text. They were written and are UTF-8. The others have no meaning, and perhaps no value.
+    array: [Place; N],
     /// The offset at which the text begins. `start + size` is at most the lesser of `N` and 255.
     start: u8,
     /// The size of the text.

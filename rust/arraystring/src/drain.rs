@@ -1,7 +1,7 @@
 // Proved sources: crates/arraystring_core/src/drain.rt
 //! `Drain`: the characters that were removed from a string, from both ends.
 
-use crate::access::str;
+use crate::access::{self, Place, str};
 
 mod traits;
 
@@ -51,9 +51,9 @@ pub struct Drain<const N: usize> {
     start: u8,
     /// The size of the removed text, without what was returned from the back.
     size: u8,
-    /// The array of the string, as it was before the removal. The `size` bytes from `start` on are
+    /// The array of the string, as it was before the removal. The `size` bytes from `start` on were written, and are
     /// UTF-8.
-    array: [u8; N],
+    array: [Place; N],
 }
 
 /// What is left.
@@ -62,11 +62,11 @@ impl<const N: usize> Drain<N> {
     ///
     /// # Safety
     ///
-    /// - the `size` bytes of `array` from `start` on are UTF-8 and end within the capacity
+    /// - the `size` bytes of `array` from `start` on were written, are UTF-8 and end within the capacity
     #[inline(always)]
-    pub(crate) unsafe fn new(array: [u8; N], start: u8, size: u8) -> Self {
-        // FIELDS: the `size` bytes of `array` from `start` on are UTF-8 by this function's `# Safety` and end within
-        // the capacity, and `front` is 0.
+    pub(crate) unsafe fn new(array: [Place; N], start: u8, size: u8) -> Self {
+        // FIELDS: the `size` bytes of `array` from `start` on were written, are UTF-8 and end within the capacity by this
+        // function's `# Safety`, and `front` is 0.
         Drain { front: 0, start, size, array }
     }
 
@@ -100,8 +100,8 @@ impl<const N: usize> Drain<N> {
         let all = &self.array[..];
         let start = self.start as usize;
         let (front, end) = (start + self.front as usize, start + self.size as usize);
-        // SAFETY: the removed text is UTF-8, and `front` is a boundary of it, as the fields of the type say.
+        // SAFETY: the removed text was written and is UTF-8, and `front` is a boundary of it, as the fields of the type say.
         // SAFETY: this is within: `front <= size` and `start + size <= N`, as the fields of `Drain` say.
-        unsafe { str::from_utf8_unchecked(get_unchecked!(all, front..end)) }
+        unsafe { str::from_utf8_unchecked(access::bytes(get_unchecked!(all, front..end))) }
     }
 }

@@ -8,40 +8,17 @@
 //! seldom, and in them the moves in place would only be more code. The sources have no such forms, and no call of
 //! `memmove`: there longer runs move in place, too.
 
+use crate::access::{self, Place};
+
 /// Moves `len` bytes of the array from the offset `from` to the offset `to`; the two runs may
 /// overlap. No byte outside the target changes.
 ///
 /// # Safety
 ///
-/// The run that is moved must lie in the array. So must the run that is written over.
-///
-/// # Examples
-///
-/// ```
-/// use arraystring::utils;
-///
-/// let mut array = *b"abcd";
-/// // SAFETY: the bytes 0..3 and 1..4 lie in the array.
-/// unsafe { utils::shift(&mut array, 0, 1, 3) };
-/// assert_eq!(&array, b"aabc");
-/// ```
-///
-/// <details><summary>Contract</summary>
-///
-/// ```text
-/// requires source { from + len ≤ N }
-/// requires target { to + len ≤ N }
-/// ensures bytes { array.new
-///     ≡ take to array.old ++ (take len (drop from array.old) ++ drop (to + len) array.old) }
-/// ```
-///
-/// [How to read a contract](crate::contracts)
-///
-/// </details>
+/// - `from + len <= N`
+/// - `to + len <= N`
 #[inline(always)]
-pub unsafe fn shift<const N: usize>(array: &mut [u8; N], from: usize, to: usize, len: usize) {
-    required!(from <= N && len <= N - from);
-    required!(to <= N && len <= N - to);
+pub(crate) unsafe fn shift<const N: usize>(array: &mut [Place; N], from: usize, to: usize, len: usize) {
     if from != to {
         // SAFETY: `from + len <= N`; `to + len <= N`: by this function's `# Safety`.
         unsafe { move_run(array, from, to, len) };
@@ -54,7 +31,7 @@ pub unsafe fn shift<const N: usize>(array: &mut [u8; N], from: usize, to: usize,
 ///
 /// - `from + len <= N`
 /// - `to + len <= N`
-pub(crate) unsafe fn shift_by_call<const N: usize>(array: &mut [u8; N], from: usize, to: usize, len: usize) {
+pub(crate) unsafe fn shift_by_call<const N: usize>(array: &mut [Place; N], from: usize, to: usize, len: usize) {
     // SAFETY: `from + len <= array[..].len()`; `to + len <= array[..].len()`: by this function's `# Safety`.
     unsafe { move_bytes(&mut array[..], from, to, len) };
 }
@@ -65,7 +42,7 @@ pub(crate) unsafe fn shift_by_call<const N: usize>(array: &mut [u8; N], from: us
 ///
 /// - `from + len <= N`
 /// - `to + len <= N`
-unsafe fn move_run<const N: usize>(array: &mut [u8; N], from: usize, to: usize, len: usize) {
+unsafe fn move_run<const N: usize>(array: &mut [Place; N], from: usize, to: usize, len: usize) {
     let all = &mut array[..];
     if N < 16 || len < 16 {
         // SAFETY: `from + len <= all.len()`; `to + len <= all.len()`; `len <= N`; `len < 16`: by this function's
@@ -84,7 +61,7 @@ unsafe fn move_run<const N: usize>(array: &mut [u8; N], from: usize, to: usize, 
 /// - `from + len <= all.len()`
 /// - `to + len <= all.len()`
 #[inline]
-unsafe fn move_bytes(all: &mut [u8], from: usize, to: usize, len: usize) {
+unsafe fn move_bytes(all: &mut [Place], from: usize, to: usize, len: usize) {
     // SAFETY: this is within: by this function's `# Safety`.
     unsafe { copy_within_unchecked!(all, from..from + len, to) };
 }
@@ -97,7 +74,7 @@ unsafe fn move_bytes(all: &mut [u8], from: usize, to: usize, len: usize) {
 /// - `to + len <= all.len()`
 /// - `len <= N`
 /// - `len < 16`
-unsafe fn move_short_run<const N: usize>(all: &mut [u8], from: usize, to: usize, len: usize) {
+unsafe fn move_short_run<const N: usize>(all: &mut [Place], from: usize, to: usize, len: usize) {
     if N >= 4 && len >= 4 {
         if N >= 8 && len >= 8 {
             // SAFETY: `from + len <= all.len()`; `to + len <= all.len()`; `8 <= len`; `len - 8 <= 8`: by this
@@ -127,7 +104,7 @@ unsafe fn move_short_run<const N: usize>(all: &mut [u8], from: usize, to: usize,
 /// - `to + len <= all.len()`
 /// - `K <= len`
 /// - `len - K <= K`
-unsafe fn move_ends<const K: usize>(all: &mut [u8], from: usize, to: usize, len: usize) {
+unsafe fn move_ends<const K: usize>(all: &mut [Place], from: usize, to: usize, len: usize) {
     let rest = len - K;
     // SAFETY: `from + K <= all.len()`: the slice has the `len` bytes from `from` on by this function's `# Safety`, and
     // `rest + K` is `len`.
@@ -148,12 +125,12 @@ unsafe fn move_ends<const K: usize>(all: &mut [u8], from: usize, to: usize, len:
 /// # Safety
 ///
 /// - `at + given.len() <= N`
-pub(crate) unsafe fn write_over<const N: usize>(array: &mut [u8; N], at: usize, given: &[u8]) {
+pub(crate) unsafe fn write_over<const N: usize>(array: &mut [Place; N], at: usize, given: &[u8]) {
     let all = &mut array[..];
     if N < 16 || given.len() < 16 {
         // SAFETY: `at + given.len() <= all.len()`; `given.len() <= N`; `given.len() < 16`: by this function's
         // `# Safety` and the test above, since `given.len()` is at most `N`.
-        unsafe { write_short_run::<N>(all, at, given) };
+        unsafe { write_short_run::<N>(all, at, access::places(given)) };
     } else {
         // SAFETY: `at + given.len() <= all.len()`: by this function's `# Safety`.
         unsafe { write_bytes(all, given, at) };
@@ -166,7 +143,7 @@ pub(crate) unsafe fn write_over<const N: usize>(array: &mut [u8; N], at: usize, 
 /// # Safety
 ///
 /// - `at + given.len() <= N`
-pub(crate) unsafe fn write_by_call<const N: usize>(array: &mut [u8; N], at: usize, given: &[u8]) {
+pub(crate) unsafe fn write_by_call<const N: usize>(array: &mut [Place; N], at: usize, given: &[u8]) {
     // SAFETY: `at + given.len() <= array[..].len()`: by this function's `# Safety`.
     unsafe { write_bytes(&mut array[..], given, at) };
 }
@@ -177,9 +154,9 @@ pub(crate) unsafe fn write_by_call<const N: usize>(array: &mut [u8; N], at: usiz
 ///
 /// - `at + given.len() <= all.len()`
 #[inline]
-unsafe fn write_bytes(all: &mut [u8], given: &[u8], at: usize) {
+unsafe fn write_bytes(all: &mut [Place], given: &[u8], at: usize) {
     // SAFETY: this is within: by this function's `# Safety`.
-    unsafe { copy_from_slice_unchecked!(all, at..at + given.len(), given) };
+    unsafe { copy_from_slice_unchecked!(all, at..at + given.len(), access::places(given)) };
 }
 
 /// Writes `given`: fewer than 16 bytes, and at most `N`. The branches for sizes above `N` are left out.
@@ -189,7 +166,7 @@ unsafe fn write_bytes(all: &mut [u8], given: &[u8], at: usize) {
 /// - `at + given.len() <= all.len()`
 /// - `given.len() <= N`
 /// - `given.len() < 16`
-unsafe fn write_short_run<const N: usize>(all: &mut [u8], at: usize, given: &[u8]) {
+unsafe fn write_short_run<const N: usize>(all: &mut [Place], at: usize, given: &[Place]) {
     let len = given.len();
     if N >= 4 && len >= 4 {
         if N >= 8 && len >= 8 {
@@ -219,7 +196,7 @@ unsafe fn write_short_run<const N: usize>(all: &mut [u8], at: usize, given: &[u8
 /// - `at + given.len() <= all.len()`
 /// - `K <= given.len()`
 /// - `given.len() - K <= K`
-unsafe fn copy_ends<const K: usize>(all: &mut [u8], at: usize, given: &[u8]) {
+unsafe fn copy_ends<const K: usize>(all: &mut [Place], at: usize, given: &[Place]) {
     let rest = given.len() - K;
     // SAFETY: `K <= given.len()`: `rest + K` is `given.len()`, which is at least `K` by this function's `# Safety`.
     let first = unsafe { bytes_of::<K>(given, 0) };
@@ -240,7 +217,7 @@ unsafe fn copy_ends<const K: usize>(all: &mut [u8], at: usize, given: &[u8]) {
 ///
 /// - `at + K <= given.len()`
 #[inline(always)]
-unsafe fn bytes_of<const K: usize>(given: &[u8], at: usize) -> [u8; K] {
+unsafe fn bytes_of<const K: usize>(given: &[Place], at: usize) -> [Place; K] {
     // SAFETY: this is within: by this function's `# Safety`.
     *unsafe { chunk_unchecked!(given, at, K) }
 }
@@ -251,7 +228,7 @@ unsafe fn bytes_of<const K: usize>(given: &[u8], at: usize) -> [u8; K] {
 ///
 /// - `at + K <= all.len()`
 #[inline(always)]
-unsafe fn put_bytes<const K: usize>(all: &mut [u8], at: usize, bytes: [u8; K]) {
+unsafe fn put_bytes<const K: usize>(all: &mut [Place], at: usize, bytes: [Place; K]) {
     // SAFETY: this is within: by this function's `# Safety`.
     *unsafe { chunk_unchecked_mut!(all, at, K) } = bytes;
 }

@@ -2,7 +2,7 @@
 //! The UTF-8 of texts and characters: boundaries, cuts, the first and the last character of a text, the bytes of
 //! a character, and whether bytes are UTF-8. Sizes and indices count bytes of UTF-8.
 
-use crate::access::{char, str};
+use crate::access::{self, Place, char, str};
 use crate::error::Utf8;
 
 /// Returns whether `at` is a boundary of `text`: the size of one of its prefixes of whole characters.
@@ -189,38 +189,15 @@ unsafe fn char_before_end(text: &str) -> (usize, char) {
 ///
 /// # Safety
 ///
-/// What is written must lie in the array.
-///
-/// # Examples
-///
-/// ```
-/// use arraystring::utils;
-///
-/// let mut array = *b"a__d";
-/// // SAFETY: `é` takes two bytes, and there are three from offset 1 on.
-/// let len = unsafe { utils::encode('é', &mut array, 1) };
-/// assert_eq!((len, &array), (2, b"a\xC3\xA9d"));
-/// ```
-///
-/// <details><summary>Contract</summary>
-///
-/// ```text
-/// requires { at + width ch ≤ N }
-/// ensures width { result ≡ width ch }
-/// ensures bytes { array.new ≡ take at array.old ++ (utf8 ch ++ drop (at + width ch) array.old) }
-/// ```
-///
-/// [How to read a contract](crate::contracts)
-///
-/// </details>
+/// - `at + ch.len_utf8() <= N`
 #[expect(clippy::cast_possible_truncation, reason = "by the tests of `code` each is a byte of UTF-8")]
-pub unsafe fn encode<const N: usize>(ch: char, array: &mut [u8; N], at: usize) -> usize {
-    required!(at <= N && ch.len_utf8() <= N - at);
+#[inline]
+pub(crate) unsafe fn encode<const N: usize>(ch: char, array: &mut [Place; N], at: usize) -> usize {
     let code = ch as u32;
     let all = &mut array[..];
     if code < 0x80 {
         // SAFETY: this is within: by this function's `# Safety`, since `ch` takes as many bytes as are written.
-        *unsafe { get_unchecked_mut!(all, at) } = code as u8;
+        *unsafe { get_unchecked_mut!(all, at) } = Place::new(code as u8);
         return 1;
     }
     // SAFETY: `at + ch.len_utf8() <= all.len()`; `!ch.is_ascii()`: by this function's `# Safety` and the test above.
@@ -235,26 +212,26 @@ pub unsafe fn encode<const N: usize>(ch: char, array: &mut [u8; N], at: usize) -
 /// - `at + ch.len_utf8() <= all.len()`
 /// - `!ch.is_ascii()`
 #[expect(clippy::cast_possible_truncation, reason = "by the tests of `code` each is a byte of UTF-8")]
-unsafe fn encode_wide(ch: char, all: &mut [u8], at: usize) -> usize {
+unsafe fn encode_wide(ch: char, all: &mut [Place], at: usize) -> usize {
     let code = ch as u32;
     let last = (0x80 + code % 64) as u8;
     if code < 0x800 {
         let first = (0xC0 + code / 64) as u8;
         // SAFETY: this is within: by this function's `# Safety`, since `ch` takes as many bytes as are written.
-        unsafe { copy_from_slice_unchecked!(all, at..at + 2, &[first, last]) };
+        unsafe { copy_from_slice_unchecked!(all, at..at + 2, access::places(&[first, last])) };
         return 2;
     }
     let before_last = (0x80 + code / 64 % 64) as u8;
     if code < 0x1_0000 {
         let first = (0xE0 + code / 4096) as u8;
         // SAFETY: this is within: by this function's `# Safety`, since `ch` takes as many bytes as are written.
-        unsafe { copy_from_slice_unchecked!(all, at..at + 3, &[first, before_last, last]) };
+        unsafe { copy_from_slice_unchecked!(all, at..at + 3, access::places(&[first, before_last, last])) };
         return 3;
     }
     let first = (0xF0 + code / 262_144) as u8;
     let second = (0x80 + code / 4096 % 64) as u8;
     // SAFETY: this is within: by this function's `# Safety`, since `ch` takes as many bytes as are written.
-    unsafe { copy_from_slice_unchecked!(all, at..at + 4, &[first, second, before_last, last]) };
+    unsafe { copy_from_slice_unchecked!(all, at..at + 4, access::places(&[first, second, before_last, last])) };
     4
 }
 

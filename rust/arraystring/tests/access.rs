@@ -157,6 +157,54 @@ fn what_is_made_of_a_number_or_of_bytes_is_as_it_is_made_with_a_test() {
     assert_eq!(access::str::from_utf8("é".as_bytes()), Ok("é"));
 }
 
+/// Places of an array, which are read and written as its bytes: of each length, each in its turn.
+#[test]
+fn a_place_is_its_byte() {
+    fn array_is_written<const N: usize>() {
+        let before: [u8; N] = bytes(N).try_into().expect("so many bytes");
+        for at in 0..N {
+            let (mut one, mut other) = (before, before);
+            // SAFETY: a byte is written there.
+            (unsafe { access::places_mut(&mut one) })[at] = access::Place::new(!before[at]);
+            other[at] = !before[at];
+            assert_eq!(one, other);
+        }
+    }
+    for len in lengths() {
+        let before = bytes(len);
+        let places = access::places(&before);
+        // SAFETY: each place is a byte.
+        let (same, each) = unsafe { (access::bytes(places), places.iter().map(|place| access::byte(*place))) };
+        assert_eq!((same, same.as_ptr(), places.len()), (&*before, before.as_ptr(), len));
+        assert!(each.eq(before.iter().copied()));
+        let mut all = places.to_vec();
+        for at in 0..len {
+            // SAFETY: each place is a byte.
+            (unsafe { access::bytes_mut(&mut all) })[at] ^= 0x55;
+        }
+        let wanted: Vec<u8> = before.iter().map(|byte| byte ^ 0x55).collect();
+        // SAFETY: each place is a byte.
+        assert_eq!(unsafe { access::bytes(&all) }, wanted);
+    }
+    array_is_written::<0>();
+    array_is_written::<1>();
+    array_is_written::<4>();
+    array_is_written::<63>();
+    array_is_written::<300>();
+    const E: &[u8; 2] = &[0xC3, 0xA9];
+    // SAFETY: each place is a byte.
+    const MADE: (&[u8], u8) = unsafe { (access::bytes(access::places(E)), access::byte(access::Place::new(E[1]))) };
+    assert_eq!(MADE, ("é".as_bytes(), 0xA9));
+}
+
+/// Only a place of a tested build may be read before it is written: it is 0 there.
+#[test]
+fn a_new_place_has_a_value_where_accesses_are_tested() {
+    // SAFETY: a new place has a value there.
+    let value = access::IS_TESTED.then(|| unsafe { access::byte(access::UNWRITTEN) });
+    assert_eq!(value, access::IS_TESTED.then_some(0));
+}
+
 /// So rustc refuses each use that stands in no `unsafe` block, and a search for the word finds it.
 #[test]
 fn no_macro_has_an_unsafe_of_its_own() {

@@ -214,6 +214,11 @@ impl Comparison<'_> {
             }
             None if self.take_entry(path, |says| *says == Says::OnlyInRust).is_some() => {
                 self.report.without_source += functions(&rust.item);
+                // One that stands before a public source of its name says what that says.
+                let is_before = |source: &Ruled| source.item.path == *path && source.item.is_public;
+                if let Some(at) = self.sources.iter().position(is_before).filter(|_| rust.item.is_public) {
+                    self.promises(rust, &[at]);
+                }
             }
             None => self.fault(&rust.item, format!("`{path}` is only in Rust")),
         }

@@ -59,13 +59,20 @@ const RUST: &[Row] = &[
     row("unsafe fn $head { required!($test);", "unsafe fn $head {", Then::Anything),
     row("unsafe fn $head { required_of_each!($test);", "unsafe fn $head {", Then::Anything),
     row("unsafe fn", "fn", Then::Anything),
+    // A place of an array is its byte.
+    row("access::bytes($of)", "$of", Then::Anything),
+    row("access::bytes_mut($of)", "$of", Then::Anything),
+    row("access::places($of)", "$of", Then::Anything),
+    row("access::places_mut($of)", "$of", Then::Anything),
+    row("access::byte($of)", "$of", Then::Anything),
+    row("Place::new($of)", "$of", Then::Anything),
+    row("UNWRITTEN", "0", Then::Anything),
+    row("Place", "u8", Then::Anything),
     // An access without a test.
     row("*get_unchecked!($of, $at)", "$of[$at]", Then::NoPostfix),
     row("*get_unchecked_mut!($of, $at)", "$of[$at]", Then::NoPostfix),
-    row("get_unchecked!($of, $at).", "$of[$at].", Then::Anything),
     row("get_unchecked_mut!($of, $at).", "$of[$at].", Then::Anything),
     row("get_unchecked!($of, $at)", "&$of[$at]", Then::NoPostfix),
-    row("get_unchecked_mut!($of, $at)", "&mut $of[$at]", Then::NoPostfix),
     row("copy_from_slice_unchecked!($of, $at, $given)", "$of[$at].copy_from_slice($given)", Then::Anything),
     row("unreachable_unchecked!()", "unreachable!()", Then::Anything),
 ];

@@ -1,7 +1,7 @@
 use std::collections::BTreeMap;
 use std::path::Path;
 
-use crate::compare::{RUST, Tree, compare};
+use crate::compare::{RUST, SOURCES, Tree, compare};
 use crate::differences::{Block, Says};
 use crate::items::{Item, items};
 use crate::lexer::{Token, closing, scan};
@@ -153,7 +153,7 @@ fn unsafe_blocks_and_functions_go() {
     same(&[
         ("fn f() requires { a } { g() }", "unsafe fn f() { unsafe { g() } }"),
         ("fn f() { let a = g().b + 1; h(!i) }", "fn f() { let a = unsafe { g() }.b + 1; h(!i) }"),
-        ("fn f() { (*a)[1].b(2).c() }", "fn f() { unsafe { get_unchecked!(*a, 1).b(2) }.c() }"),
+        ("fn f() { (*a)[1].b(2).c() }", "fn f() { unsafe { get_unchecked_mut!(*a, 1).b(2) }.c() }"),
         ("fn f() { g::<1>(a); h!(b) }", "fn f() { unsafe { g::<1>(a) }; unsafe { h!(b) } }"),
         ("fn f() { unsafe { g() } }", "fn f() { unsafe { g() } }"),
     ]);
@@ -185,8 +185,8 @@ fn accesses_have_their_tests_again() {
     same(&[
         ("fn f() { a[i] as u32 }", "fn f() { *unsafe { get_unchecked!(a, i) } as u32 }"),
         ("fn f() { a[i] = b }", "fn f() { *unsafe { get_unchecked_mut!(a, i) } = b }"),
-        ("fn f() { g(&a[i..], &mut a.b[1..]) }", "fn f() { g(get_unchecked!(a, i..), get_unchecked_mut!(a.b, 1..)) }"),
-        ("fn f() { a[i..].len() }", "fn f() { unsafe { get_unchecked!(a, i..) }.len() }"),
+        ("fn f() { g(&a[i..], &a.b[1..]) }", "fn f() { g(get_unchecked!(a, i..), get_unchecked!(a.b, 1..)) }"),
+        ("fn f() { a[i..].g() }", "fn f() { unsafe { get_unchecked_mut!(a, i..) }.g() }"),
         ("fn f() { (*a)[i].g() }", "fn f() { get_unchecked_mut!(*a, i).g() }"),
         ("fn f() { a[b[1]] }", "fn f() { *get_unchecked!(a, *get_unchecked!(b, 1)) }"),
         ("fn f() { a[1..2].copy_from_slice(&b) }", "fn f() { unsafe { copy_from_slice_unchecked!(a, 1..2, &b) } }"),
@@ -199,6 +199,29 @@ fn accesses_have_their_tests_again() {
         ("fn f() { a[i] }", "fn f() { get_unchecked!(a, i) }"),
         ("fn f() { a[i] }", "fn f() { *other_unchecked!(a, i) }"),
         ("fn f() { a[1] }", "fn f() { *get_unchecked!(a, 1)[2] }"),
+    ]);
+}
+
+#[test]
+fn a_place_is_a_byte() {
+    same(&[
+        ("struct A { a: [u8; 4] }", "struct A { a: [Place; 4] }"),
+        ("fn f(a: &mut [u8; 4]) { g([0; 4]) }", "fn f(a: &mut [Place; 4]) { g([UNWRITTEN; 4]) }"),
+        ("fn f() { a[i] = b as u8; }", "fn f() { *unsafe { get_unchecked_mut!(a, i) } = Place::new(b as u8); }"),
+        ("fn f() { let b = a[i]; }", "fn f() { let b = unsafe { access::byte(*get_unchecked!(a, i)) }; }"),
+        ("fn f() { g(&a[i..]) }", "fn f() { g(unsafe { access::bytes(get_unchecked!(a, i..)) }) }"),
+        ("fn f() { a[i..].g() }", "fn f() { unsafe { access::bytes_mut(get_unchecked_mut!(a, i..)) }.g() }"),
+        (
+            "fn f() { g(a, &[b], &mut c) }",
+            "fn f() { g(access::places(a), access::places(&[b]), access::places_mut(&mut c)) }",
+        ),
+    ]);
+    differ(&[
+        ("fn f() { g(a) }", "fn f() { g(places(a)) }"),
+        ("fn f() { g(a) }", "fn f() { g(other::bytes(a)) }"),
+        ("fn f() { g([1; 4]) }", "fn f() { g([UNWRITTEN; 4]) }"),
+        ("fn f(a: &mut [u16]) {}", "fn f(a: &mut [Place]) {}"),
+        ("fn f() { (a + b).g() }", "fn f() { access::byte(a) + b.g() }"),
     ]);
 }
 
@@ -359,6 +382,26 @@ fn each_kind_of_entry_is_used_or_fails() {
     tells(&tree("", "fn a() {}", &format!("only in Rust: a, b\n{because}")), "`b` fits nothing");
     assert_eq!(faults(&tree("fn a() {} struct B;", "", &format!("only in the source: {SOURCE}\n{because}"))), "");
     assert_eq!(faults(&tree("fn a() requires { b } {}", "fn a() {}", &format!("safe: a\n{because}"))), "");
+}
+
+/// A call of another file that has the name of a public source says what that says.
+#[test]
+fn what_stands_before_a_source_says_what_that_says() {
+    let source = "/// Does `a`.\npub fn f() requires { b } {}";
+    let entry = "only in Rust: f\n    why: because\n";
+    let before = |text: &str| {
+        let mut tree = tree(source, "pub(crate) unsafe fn f() {}", entry);
+        tree.insert(SOURCES[1].to_string() + "c.rt", String::new());
+        tree.insert(format!("{RUST}c.rs"), format!("// Proved sources: {}c.rt\n{text}", SOURCES[1]));
+        tree
+    };
+    let contract = "/// <details><summary>Contract</summary>\n///\n/// ```text\n/// requires { b }\n/// ```\n";
+    let said = format!("/// Does `a`.\n///\n{contract}pub unsafe fn f() {{ a::f() }}");
+    assert_eq!(faults(&before(&said)), "");
+    tells(&before("/// Does `a`.\npub unsafe fn f() {}"), "`f`: its documentation has no contract");
+    tells(&before(&said.replace("{ b }\n", "{ c }\n")), "`f`: the contract says other words");
+    tells(&before(&said.replace("Does", "Is")), "`f`: the documentation begins with");
+    tells(&before(&said.replace("unsafe ", "")), "`f` is no `unsafe fn`");
 }
 
 /// Code of a caller may do anything, so no access stands beside it without a test.

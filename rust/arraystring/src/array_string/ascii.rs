@@ -2,6 +2,7 @@
 //! The ASCII letters of a string or of a range of it, made upper or lower case.
 
 use crate::ArrayString;
+use crate::access::{self, Place};
 use crate::range_ends::plain_ends;
 use core::ops::RangeBounds;
 
@@ -172,8 +173,8 @@ impl<const N: usize> ArrayString<N> {
     #[inline]
     unsafe fn change_case(&mut self, start: usize, end: usize, case: Case) {
         let offset = self.start as usize;
-        // SAFETY: `offset + start <= offset + end`; `offset + end <= N`: by this function's `# Safety` and what the
-        // fields of `ArrayString` say.
+        // SAFETY: `offset + start <= offset + end`; `offset + end <= N`; the bytes of `self.array` from `offset + start` to
+        // `offset + end` were written: by this function's `# Safety` and what the fields of `ArrayString` say.
         unsafe { change_bytes(&mut self.array, offset + start, offset + end, case) };
     }
 }
@@ -184,13 +185,16 @@ impl<const N: usize> ArrayString<N> {
 ///
 /// - `start <= end`
 /// - `end <= N`
+/// - the bytes of `array` from `start` to `end` were written
 #[inline]
-unsafe fn change_bytes<const N: usize>(array: &mut [u8; N], start: usize, end: usize, case: Case) {
+unsafe fn change_bytes<const N: usize>(array: &mut [Place; N], start: usize, end: usize, case: Case) {
     let all = &mut array[..];
     match case {
-        // SAFETY: this is within: by this function's `# Safety`; a letter of ASCII becomes one, so what is UTF-8 stays so.
-        Case::Upper => unsafe { get_unchecked_mut!(all, start..end) }.make_ascii_uppercase(),
-        // SAFETY: this is within: by this function's `# Safety`; a letter of ASCII becomes one, so what is UTF-8 stays so.
-        Case::Lower => unsafe { get_unchecked_mut!(all, start..end) }.make_ascii_lowercase(),
+        // SAFETY: this is within, and was written: by this function's `# Safety`; a letter of ASCII becomes one, so what is
+        // UTF-8 stays so.
+        Case::Upper => unsafe { access::bytes_mut(get_unchecked_mut!(all, start..end)) }.make_ascii_uppercase(),
+        // SAFETY: this is within, and was written: by this function's `# Safety`; a letter of ASCII becomes one, so what is
+        // UTF-8 stays so.
+        Case::Lower => unsafe { access::bytes_mut(get_unchecked_mut!(all, start..end)) }.make_ascii_lowercase(),
     }
 }

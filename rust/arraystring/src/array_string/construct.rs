@@ -2,7 +2,7 @@
 //! The constructors: from a `&str`, from pieces, from characters and from bytes of UTF-8.
 
 use crate::ArrayString;
-use crate::access::str;
+use crate::access::{UNWRITTEN, str};
 use crate::error::{Error, OutOfBounds, Utf8};
 use crate::moves::write_by_call;
 use crate::utf8::{read_utf8, truncate_str};
@@ -34,7 +34,7 @@ impl<const N: usize> ArrayString<N> {
     #[inline(always)]
     pub const fn new() -> Self {
         // FIELDS: there is no text, which begins and ends within any capacity.
-        ArrayString { array: [0; N], start: 0, size: 0 }
+        ArrayString { array: [UNWRITTEN; N], start: 0, size: 0 }
     }
 
     /// Creates a string from `string`.
@@ -70,11 +70,12 @@ impl<const N: usize> ArrayString<N> {
         if string.len() > Self::capacity() as usize {
             return Err(OutOfBounds);
         }
-        let mut array = [0; N];
+        // FIELDS: the size of `string` is at most the capacity by the test above, and nobody sees the string before
+        // `write_by_call` has written it.
+        let mut made = ArrayString { array: [UNWRITTEN; N], start: 0, size: string.len() as u8 };
         // SAFETY: `string.as_bytes().len() <= N`: by the test above, and the capacity is at most `N`.
-        unsafe { write_by_call(&mut array, 0, string.as_bytes()) };
-        // FIELDS: `string` lies in front of the array, and its size is at most the capacity by the test above.
-        Ok(ArrayString { array, start: 0, size: string.len() as u8 })
+        unsafe { write_by_call(&mut made.array, 0, string.as_bytes()) };
+        Ok(made)
     }
 
     /// Creates a string from the longest prefix of whole characters of `string` that fits.

@@ -5,6 +5,7 @@
 
 use core::fmt;
 
+use crate::access::Place;
 use crate::error::OutOfBounds;
 use crate::{ArrayString, CacheString};
 
@@ -40,9 +41,9 @@ impl<const N: usize> ArrayString<N> {
             return Err(OutOfBounds);
         }
         let mut made = Self::new();
-        let (mut array, mut bytes): (&mut [u8], _) = (&mut made.array, string.as_bytes());
+        let (mut array, mut bytes): (&mut [Place], _) = (&mut made.array, string.as_bytes());
         while let ([place, places @ ..], [byte, others @ ..]) = (array, bytes) {
-            *place = *byte;
+            *place = Place::new(*byte);
             // FIELDS: so many bytes of the text are there, which fits by the test above. Behind the loop it is all of
             // it.
             made.size += 1;

@@ -56,8 +56,8 @@ impl<const N: usize> ArrayString<N> {
     fn drain_through<R: RangeBounds<u8>>(&mut self, range: R, removed: &mut Drain<N>) -> Result<Drain<N>, Error> {
         let (from, to) = saturating_ends(range, self.len());
         self.check_part(from, to)?;
-        // SAFETY: the `to - from` bytes of `self.array` from `self.start + from` on are UTF-8 and end within the
-        // capacity: `check_part` returned `Ok`, so this is a part of the text.
+        // SAFETY: the `to - from` bytes of `self.array` from `self.start + from` on were written, are UTF-8 and end within
+        // the capacity: `check_part` returned `Ok`, so this is a part of the text.
         *removed = unsafe { Drain::new(self.array, self.start + from, to - from) };
         // SAFETY: `from <= to`; `from` is a boundary of `self`; `to` is a boundary of `self`: `check_part` returned
         // `Ok`, so this is a part of the text.

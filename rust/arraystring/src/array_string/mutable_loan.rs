@@ -7,6 +7,7 @@ use core::ops::{
 };
 use core::str;
 
+use crate::access;
 use crate::range_ends::plain_ends;
 use crate::{ArrayString, CacheString};
 
@@ -28,9 +29,9 @@ impl<const N: usize> ArrayString<N> {
             let _ = self.as_str(); // tests that it is UTF-8
         }
         let (start, end) = (self.start as usize, self.end());
-        // SAFETY: `end` is `start + size`, which is at most `N`, and the bytes between are UTF-8, as the fields of the
-        // type say.
-        unsafe { str::from_utf8_unchecked_mut(get_unchecked_mut!(self.array, start..end)) }
+        // SAFETY: `end` is `start + size`, which is at most `N`, and the bytes between were written and are UTF-8, as the
+        // fields of the type say.
+        unsafe { str::from_utf8_unchecked_mut(access::bytes_mut(get_unchecked_mut!(self.array, start..end))) }
     }
 
     /// The part of a range, to be written.

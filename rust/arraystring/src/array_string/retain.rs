@@ -2,7 +2,7 @@
 //! The characters of a text that a closure keeps.
 
 use crate::ArrayString;
-use crate::access::str;
+use crate::access::{self, Place, str};
 use crate::moves::shift;
 use crate::utf8::first_char;
 
@@ -36,8 +36,8 @@ impl<const N: usize> ArrayString<N> {
     #[inline]
     pub fn retain<F: FnMut(char) -> bool>(&mut self, f: F) {
         let (offset, size) = (self.start as usize, self.size as usize);
-        // SAFETY: `offset + size <= N`; `size <= 255`; the `size` bytes of `self.array` from `offset` on are UTF-8: as
-        // the fields of `ArrayString` say, whatever the closure answers.
+        // SAFETY: `offset + size <= N`; `size <= 255`; the `size` bytes of `self.array` from `offset` on were written and are
+        // UTF-8: as the fields of `ArrayString` say, whatever the closure answers.
         unsafe { retain_at(&mut self.array, &mut self.size, offset, size, f) };
     }
 }
@@ -52,11 +52,11 @@ impl<const N: usize> ArrayString<N> {
 ///
 /// - `offset + size <= N`
 /// - `size <= 255`
-/// - the `size` bytes of `array` from `offset` on are UTF-8
+/// - the `size` bytes of `array` from `offset` on were written and are UTF-8
 #[inline]
 #[expect(clippy::cast_possible_truncation, reason = "`width` is that of a character, which is at most 4")]
 unsafe fn retain_at<const N: usize, F: FnMut(char) -> bool>(
-    array: &mut [u8; N],
+    array: &mut [Place; N],
     kept: &mut u8,
     offset: usize,
     size: usize,
@@ -68,9 +68,9 @@ unsafe fn retain_at<const N: usize, F: FnMut(char) -> bool>(
     let mut read = 0;
     while read < size {
         // A byte of ASCII is its character; others take the decoder.
-        // SAFETY: this is within: `read < size`, and the array has the `size` bytes from `offset` on, whatever the
-        // closure answers.
-        let first = *unsafe { get_unchecked!(array, offset + read) };
+        // SAFETY: this is within, and was written: `read < size`, and the array has the `size` bytes from `offset` on,
+        // whatever the closure answers.
+        let first = unsafe { access::byte(*get_unchecked!(array, offset + read)) };
         if first < 0x80 {
             if f(first as char) {
                 let to = offset + *kept as usize;
@@ -85,12 +85,13 @@ unsafe fn retain_at<const N: usize, F: FnMut(char) -> bool>(
             read += 1;
         } else {
             let all = &array[..];
-            // SAFETY: the `size` bytes from `offset` on were UTF-8 at the start. No byte from `read` on was written
-            // over, since `*kept <= read`: each turn adds no more to it. `read` goes on by whole characters, so one
-            // begins there, whatever the closure answers.
-            // SAFETY: this is within: `read < size`, and the array has the `size` bytes from `offset` on, whatever the
-            // closure answers.
-            let text = unsafe { str::from_utf8_unchecked(get_unchecked!(all, offset + read..offset + size)) };
+            let text =
+                // SAFETY: the `size` bytes from `offset` on were written, and UTF-8 at the start. No byte from `read` on was
+                // written over, since `*kept <= read`: each turn adds no more to it. `read` goes on by whole
+                // characters, so one begins there, whatever the closure answers.
+                // SAFETY: this is within: `read < size`, and the array has the `size` bytes from `offset` on, whatever
+                // the closure answers.
+                unsafe { str::from_utf8_unchecked(access::bytes(get_unchecked!(all, offset + read..offset + size))) };
             // SAFETY: `0 < text.len()`: `read < size`, whatever the closure answers.
             let (ch, width) = unsafe { first_char(text) };
             if f(ch) {

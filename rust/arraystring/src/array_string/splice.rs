@@ -4,7 +4,7 @@
 //! or all of the text: `append_at_array_end` and `remove` have them.
 
 use crate::ArrayString;
-use crate::access::str;
+use crate::access::{self, str};
 use crate::moves::{shift, write_over};
 use crate::utf8::encode;
 
@@ -84,7 +84,8 @@ impl<const N: usize> ArrayString<N> {
         if offset + size + len > Self::capacity() as usize {
             let mut utf8 = [0; 4];
             // SAFETY: `ch.len_utf8() <= N`, where `N` is that of `utf8`: there are four bytes, and no character has more.
-            unsafe { encode(ch, &mut utf8, 0) };
+            // SAFETY: what is written there are bytes.
+            unsafe { encode(ch, access::places_mut(&mut utf8), 0) };
             // SAFETY: `encode` wrote the `len` bytes of the UTF-8 of `ch` in front.
             // SAFETY: this is within: `len` is at most 4.
             let given = unsafe { str::from_utf8_unchecked(get_unchecked!(utf8, ..len)) };

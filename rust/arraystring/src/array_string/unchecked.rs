@@ -2,8 +2,8 @@
 //! The calls that leave a test to the caller, of which most programs need none.
 
 use crate::ArrayString;
-use crate::access::str;
-use crate::moves::write_over;
+use crate::access::{UNWRITTEN, str};
+use crate::moves::{write_by_call, write_over};
 
 /// # Unchecked
 ///
@@ -42,9 +42,9 @@ impl<const N: usize> ArrayString<N> {
     pub unsafe fn from_str_unchecked<S: AsRef<str>>(string: S) -> Self {
         let string = string.as_ref();
         required!(string.len() <= Self::capacity() as usize);
-        let mut array = [0; N];
+        let mut array = [UNWRITTEN; N];
         // SAFETY: `string.as_bytes().len() <= N`: by this function's `# Safety`, since the capacity is at most `N`.
-        unsafe { write_over(&mut array, 0, string.as_bytes()) };
+        unsafe { write_by_call(&mut array, 0, string.as_bytes()) };
         // FIELDS: `string` lies in front of the array, and its size is at most the capacity by this function's
         // `# Safety`.
         ArrayString { array, start: 0, size: string.len() as u8 }
@@ -86,7 +86,7 @@ impl<const N: usize> ArrayString<N> {
     #[inline]
     #[expect(clippy::cast_possible_truncation, reason = "the line before the write says why it fits")]
     pub unsafe fn from_iterator_unchecked<U: AsRef<str>, I: IntoIterator<Item = U>>(pieces: I) -> Self {
-        let mut array = [0; N];
+        let mut array = [UNWRITTEN; N];
         let mut end = 0;
         for piece in pieces {
             let piece = piece.as_ref();

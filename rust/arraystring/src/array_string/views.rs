@@ -2,7 +2,7 @@
 //! What is read of a string without a change: its capacity, its length and its text.
 
 use super::ArrayString;
-use crate::access::str;
+use crate::access::{self, str};
 use crate::utf8::is_boundary;
 
 /// What a string holds.
@@ -130,8 +130,8 @@ impl<const N: usize> ArrayString<N> {
         let (front, _) = unsafe { split_at_unchecked!(self.array, start + size) };
         // SAFETY: this is within: `front` has `start + size` bytes.
         let (_, text) = unsafe { split_at_unchecked!(front, start) };
-        // SAFETY: the `size` bytes from `start` on are UTF-8, as the fields of the type say.
-        unsafe { str::from_utf8_unchecked(text) }
+        // SAFETY: the `size` bytes from `start` on were written and are UTF-8, as the fields of the type say.
+        unsafe { str::from_utf8_unchecked(access::bytes(text)) }
     }
 
     /// Returns the bytes of the text, borrowed without a copy. There are as many as [`len`](Self::len) returns.
@@ -164,8 +164,9 @@ impl<const N: usize> ArrayString<N> {
         let (size, start) = (self.size as usize, self.start as usize);
         // SAFETY: this is within: `start + size` is at most `N`, as the fields of the type say.
         let (front, _) = unsafe { split_at_unchecked!(self.array, start + size) };
-        // SAFETY: this is within: `front` has `start + size` bytes.
-        unsafe { split_at_unchecked!(front, start) }.1
+        // SAFETY: this is within: `front` has `start + size` bytes. The `size` bytes from `start` on were written, as the
+        // fields of the type say.
+        unsafe { access::bytes(split_at_unchecked!(front, start).1) }
     }
 
     /// The offset at which the text ends.

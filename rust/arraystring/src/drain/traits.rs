@@ -2,6 +2,7 @@
 //! The traits of a drain: its iterators, and how what is left is printed, compared and hashed.
 
 use crate::Drain;
+use crate::access::{self, UNWRITTEN};
 use crate::utf8::last_char;
 use core::cmp::Ordering;
 use core::fmt;
@@ -48,8 +49,8 @@ impl<const N: usize> fmt::Debug for Drain<N> {
 impl<const N: usize> Default for Drain<N> {
     #[inline]
     fn default() -> Self {
-        // SAFETY: the `0` bytes of `[0; N]` from `0` on are UTF-8 and end within the capacity: there are none.
-        unsafe { Drain::new([0; N], 0, 0) }
+        // SAFETY: the `0` bytes of the array from `0` on were written, are UTF-8 and end within the capacity: there are none.
+        unsafe { Drain::new([UNWRITTEN; N], 0, 0) }
     }
 }
 
@@ -192,9 +193,9 @@ impl<const N: usize> Iterator for Drain<N> {
             return None;
         }
         // A byte of ASCII is its character; others take the decoder.
-        // SAFETY: this is within: the fields of `Drain` say that `front <= size` and `start + size <= N`, and the test
-        // above that `front != size`.
-        let first = *unsafe { get_unchecked!(self.array, self.start as usize + self.front as usize) };
+        // SAFETY: this is within, and was written: the fields of `Drain` say that `front <= size` and `start + size <= N`,
+        // and the test above that `front != size`.
+        let first = unsafe { access::byte(*get_unchecked!(self.array, self.start as usize + self.front as usize)) };
         if first < 0x80 {
             // FIELDS: the test above has `front < size`, and a byte of ASCII is a character, so this is the next
             // boundary.
