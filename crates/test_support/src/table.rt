@@ -1,5 +1,5 @@
 //! Tables of cases: a line of a text is a case, and `|` is between its columns. However many lines a
-//! table has, the test that iterates over it is proved once.
+//! table has, the test that iterates over it is proved once. The first line may name the player, after `#`.
 use std::str::Lines;
 
 /// 256 letters, one more than fit into any string.
@@ -8,9 +8,14 @@ pub const LETTERS: &str = "xxxxxxxxxxxxxxxxxxxxxxxxxxxxxxxxxxxxxxxxxxxxxxxxxxxxx
     xxxxxxxxxxxxxxxxxxxxxxxxxxxxxxxxxxxxxxxxxxxxxxxxxxxxxxxxxxxxxxxx\
     xxxxxxxxxxxxxxxxxxxxxxxxxxxxxxxxxxxxxxxxxxxxxxxxxxxxxxxxxxxxxxxx";
 
-/// Returns the rows of a table.
+/// Returns the rows of a table, without the line that names its player.
 pub fn rows(table: &str) -> Lines {
-    table.trim().lines()
+    let table = table.trim();
+    if !table.starts_with('#') {
+        return table.lines();
+    }
+    let (_, rows) = table.split_once('\n').unwrap_or_default();
+    rows.lines()
 }
 
 /// Returns a column of a row, without the spaces round it and without the quotes in which a text

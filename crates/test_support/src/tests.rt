@@ -106,6 +106,12 @@ fn rows_and_columns_are_read(rt: HostRuntime) {
     let columns = [0, 1, 2].map(|at| column(second, at));
     agree(&rt, columns, ["", "", "x x"]);
     agree(&rt, lines.next(), None);
+    agree(
+        &rt,
+        rows("\n # player: cuts\n a | b").next(),
+        Some(" a | b"),
+    );
+    agree(&rt, rows("# player: cuts").next(), None);
     agree(&rt, LETTERS.len(), 256);
     agree(&rt, LETTERS.trim_matches('x'), "");
 }

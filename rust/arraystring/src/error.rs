@@ -1,6 +1,5 @@
 // Proved sources: crates/arraystring_base/src/error.rt
-//! The errors, and the conversions to `Error`. When an error is printed, a width and a precision in the
-//! format are ignored.
+//! The errors, and the conversions to `Error`.
 
 use core::error::Error as StdError;
 use core::fmt;
@@ -69,7 +68,7 @@ impl fmt::Debug for Error {
     }
 }
 
-/// Prints the name alone.
+/// Prints the name alone. A width in the format does not pad it: pad its `to_string()`.
 ///
 /// # Examples
 ///
@@ -296,7 +295,7 @@ impl fmt::Debug for Utf8 {
     }
 }
 
-/// Prints [`Utf8`]. A width in the format does not pad it.
+/// Prints [`Utf8`]. A width in the format does not pad it: pad its `to_string()`.
 ///
 /// # Examples
 ///
@@ -391,7 +390,7 @@ impl fmt::Debug for Utf16 {
     }
 }
 
-/// Prints [`Utf16`]. A width in the format does not pad it.
+/// Prints [`Utf16`]. A width in the format does not pad it: pad its `to_string()`.
 ///
 /// # Examples
 ///
@@ -469,7 +468,7 @@ impl fmt::Debug for OutOfBounds {
     }
 }
 
-/// Prints [`OutOfBounds`]. A width in the format does not pad it.
+/// Prints [`OutOfBounds`]. A width in the format does not pad it: pad its `to_string()`.
 ///
 /// # Examples
 ///

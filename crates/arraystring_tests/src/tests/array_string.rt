@@ -15,7 +15,7 @@ fn texts_and_capacities(rt: HostRuntime) {
     check_blocks(
         &rt,
         "
-        # 8 | characters of each width are pushed and popped
+        # player: calls 8 | characters of each width are pushed and popped
         new | try_push | | A          | ok         | A
             | try_push | | \u{7F}     | ok         | A\u{7F}
             | len      | |            | ok         | A\u{7F}     | 2
@@ -40,7 +40,7 @@ fn texts_and_capacities(rt: HostRuntime) {
             | pop      | |            | \\u{10ffff} | A
             | pop      | |            | A          |
             | pop      | |            | None       |
-        # 5 | a text is popped from its end
+        # player: calls 5 | a text is popped from its end
         A🤔 | as_bytes    | | | [65, 240, 159, 164, 148] | A🤔
             | pop         | |                | 🤔   | A
             | pop         | |                | A    |
@@ -48,48 +48,48 @@ fn texts_and_capacities(rt: HostRuntime) {
         A🤔 | pop_counted | |                | 🤔   | A   | 4
             | pop_counted | |                | A    |     | 1
             | pop_counted | |                | None |     | 0
-        # 23 | a text is popped from its end
+        # player: calls 23 | a text is popped from its end
         A🤔 | pop         | |                | 🤔   | A
             | pop         | |                | A    |
             | pop         | |                | None |
         A🤔 | pop_counted | |                | 🤔   | A   | 4
             | pop_counted | |                | A    |     | 1
             | pop_counted | |                | None |     | 0
-        # 5 | what does not fit
+        # player: calls 5 | what does not fit
         new | try_push_str | | abc | ok          | abc
             | try_push_str | | def | OutOfBounds | abc
             | try_push     | | 🤔  | OutOfBounds | abc
             | push_str     | | é🤔 | ok          | abcé
             | push_str     | | x   | ok          | abcé
             | try_push_str | |     | ok          | abcé
-        # 23 | what fits is added unchecked
+        # player: calls 23 | what fits is added unchecked
         new | push_str_unchecked | | My String | ok | My String
             | push_unchecked     | | !         | ok | My String!
-        # 0 | no bytes
+        # player: calls 0 | no bytes
          | try_push | | x | OutOfBounds |
          | push_str | | x | ok          |
          | pop      | |   | None        |
          | capacity | |   | ok          | | 0
-        # 1 | one byte
+        # player: calls 1 | one byte
          | try_push | | é | OutOfBounds |
          | try_push | | x | ok          | x
          | try_push | | x | OutOfBounds | x
          | capacity | |   | ok          | x | 1
-        # 32 | the capacity is a number of bytes
+        # player: calls 32 | the capacity is a number of bytes
         new | capacity | | | ok | | 32
-        # 255 | the greatest capacity
+        # player: calls 255 | the greatest capacity
         new       | capacity           | |                    | ok |                           | 255
         My String | push_str_unchecked | | ' My other String' | ok | My String My other String
-        # 300 | a larger one has no more room
+        # player: calls 300 | a larger one has no more room
         new | capacity | | | ok | | 255
-        # 5 | strings are equal by their texts
+        # player: calls 5 | strings are equal by their texts
         abcde | pop   | |     | e     | abcd
               | pop   | |     | d     | abc
               | pop   | |     | c     | ab
               | cmp   | | ab  | Equal | ab
               | clone | |     | ab    | ab
               | cmp   | | abc | Less  | ab
-        # 8 | bytes of characters
+        # player: calls 8 | bytes of characters
         \u{1D11E}\u{FFFD} | as_bytes | | | [240, 157, 132, 158, 239, 191, 189] | \u{1D11E}\u{FFFD}
         ",
     );
@@ -101,6 +101,7 @@ fn letters_change_case(rt: HostRuntime) {
     check_rows::<23>(
         &rt,
         "
+        # player: calls 23
         aBé                     | make_ascii_uppercase | | | ok | ABé
         aBé                     | make_ascii_lowercase | | | ok | abé
         `az{@AZ[                | make_ascii_uppercase | | | ok | `AZ{@AZ[
@@ -206,20 +207,20 @@ fn the_least_and_the_greatest_capacities(rt: HostRuntime) {
     check_blocks(
         &rt,
         "
-        # 0 | a string of no bytes takes the empty text alone
+        # player: calls 0 | a string of no bytes takes the empty text alone
         new | try_push_str | |   | ok          |
             | try_push_str | | x | OutOfBounds |
-        # 1 | a string of one byte ends at a wider character
+        # player: calls 1 | a string of one byte ends at a wider character
         new | push_str | | éa | ok |
-        # 255 | letters past 255 are refused
+        # player: calls 255 | letters past 255 are refused
         new | try_push_str   |      | 256 x | OutOfBounds |
             | try_insert_str | 0    | 256 x | OutOfBounds |
             | replace_range  | 0..0 | 256 x | OutOfBounds |
-        # 300 | letters past 255 are refused
+        # player: calls 300 | letters past 255 are refused
         new   | capacity |  |   | ok          |       | 255
         255 x | len      |  |   | ok          | 255 x | 255
               | try_push |  | a | OutOfBounds | 255 x
-        # 255 | the end of a full string is an index
+        # player: calls 255 | the end of a full string is an index
         255 x | insert_str | 255 | x | ok          | 255 x
               | try_insert | 255 | x | OutOfBounds | 255 x
               | truncate   | 255 |   | ok          | 255 x

@@ -1,4 +1,4 @@
-//! Tables of calls. The columns of a row are
+//! Tables of calls. The first line is `# player: calls 8`, if 8 is the capacity. The columns of a row are
 //!
 //!     text before | call | index or range | what is given | result | text after | number
 //!
@@ -26,19 +26,19 @@ use std::ops::{Bound, RangeBounds, RangeInclusive};
 use std::process::Abort;
 use test_support::table::{column, rows};
 
-/// Makes the calls of a table in blocks. The line over a block is `# 8 | what it shows`, if 8 is
-/// the capacity.
+/// Makes the calls of several tables in one text. The first line of each has its capacity.
 pub(crate) fn check_blocks(rt: &(impl Abort + AllocGlobal), table: &str) {
     for block in table.split('#') {
         let (heading, rows) = block.split_once('\n').unwrap_or_default();
-        let capacity = column(heading, 0).parse().unwrap_or(u16::MAX);
+        let capacity = column(heading, 0).strip_prefix("player: calls ");
+        let capacity = capacity.unwrap_or_default().parse().unwrap_or(u16::MAX);
         if !check_block(rt, capacity, rows) {
             agree(rt, "rows of no such capacity", block.trim(), "");
         }
     }
 }
 
-/// Makes the calls of a block. If no string here has its capacity, the function returns `false`.
+/// Makes the calls of such a table. If no string here has its capacity, the function returns `false`.
 fn check_block(rt: &(impl Abort + AllocGlobal), capacity: u16, rows: &str) -> bool {
     match capacity {
         0 => check_rows::<0>(rt, rows),

@@ -106,6 +106,7 @@ fn what_is_made(rt: HostRuntime) {
     check_constructors::<23>(
         &rt,
         "
+        # player: constructors 23
         My String                | My, String               | My String               | My String               |      | None
                                  |                          |                         |                         |      | None
         🤔🤔🤔🤔🤔               | 🤔🤔🤔,🤔🤔              | 🤔🤔🤔🤔🤔              | 🤔🤔🤔🤔🤔              |      | None
@@ -118,6 +119,7 @@ fn what_is_made(rt: HostRuntime) {
     check_constructors::<0>(
         &rt,
         "
+        # player: constructors 0
           |   |             | |      | None
         x | x | OutOfBounds | |      | None
         ",
@@ -125,17 +127,37 @@ fn what_is_made(rt: HostRuntime) {
     check_constructors::<1>(
         &rt,
         "
+        # player: constructors 1
         ab  | a,b  | OutOfBounds | a |      | None
         🤔x | 🤔,x | OutOfBounds |   | x    | x
         éa  | é,a  | OutOfBounds |   | a    | a
         ",
     );
-    check_constructors::<2>(&rt, "abcd | a,b,c,d | OutOfBounds | ab | d | d");
-    check_constructors::<3>(&rt, "abcdef | ab,cd,ef | OutOfBounds | abc | e | ef");
-    check_constructors::<4>(&rt, "a🤔b | a,🤔b | OutOfBounds | a | b | None");
+    check_constructors::<2>(
+        &rt,
+        "
+        # player: constructors 2
+        abcd | a,b,c,d | OutOfBounds | ab | d | d
+        ",
+    );
+    check_constructors::<3>(
+        &rt,
+        "
+        # player: constructors 3
+        abcdef | ab,cd,ef | OutOfBounds | abc | e | ef
+        ",
+    );
+    check_constructors::<4>(
+        &rt,
+        "
+        # player: constructors 4
+        a🤔b | a,🤔b | OutOfBounds | a | b | None
+        ",
+    );
     check_constructors::<5>(
         &rt,
         "
+        # player: constructors 5
         a🤔b     | a,🤔b      | OutOfBounds | a🤔   |      | None
         abc🤔d   | ab,c🤔,d   | OutOfBounds | abc   | d    | d
         ab🤔cd   | a,b🤔,c,d  | OutOfBounds | ab    | c    | c
@@ -143,10 +165,17 @@ fn what_is_made(rt: HostRuntime) {
         abc🤔de  | ab,c🤔,d,e | OutOfBounds | abc   | d    | d
         ",
     );
-    check_constructors::<255>(&rt, "255 x | 255 x | 255 x | 255 x |      | None");
+    check_constructors::<255>(
+        &rt,
+        "
+        # player: constructors 255
+        255 x | 255 x | 255 x | 255 x |      | None
+        ",
+    );
     check_constructors::<300>(
         &rt,
         "
+        # player: constructors 300
         255 x | 255 x | 255 x       | 255 x |      | None
         256 x | 256 x | OutOfBounds | 255 x |      | None
         ",

@@ -47,6 +47,7 @@ fn steps_from_both_ends(rt: HostRuntime) {
     check_drains::<23>(
         &rt,
         "
+        # player: drains 23
         [A🤔B]   | next      | A    | 🤔B
                  | next_back | B    | 🤔
                  | next      | 🤔   |
@@ -64,6 +65,7 @@ fn steps_from_both_ends(rt: HostRuntime) {
     check_drains::<4>(
         &rt,
         "
+        # player: drains 4
          | next      |      |
          | next_back |      |
         ",
@@ -71,6 +73,7 @@ fn steps_from_both_ends(rt: HostRuntime) {
     check_drains::<0>(
         &rt,
         "
+        # player: drains 0
         [] | next      |      |
            | next_back |      |
         ",
@@ -119,6 +122,7 @@ fn each_walk(rt: HostRuntime) {
     check_walks(
         &rt,
         "
+        # player: walks
         1  |
         2  | a
         4  | aé
@@ -171,6 +175,7 @@ fn what_is_left_is_compared_and_printed(rt: HostRuntime) {
     check_comparisons(
         &rt,
         "
+        # player: comparisons
         a[bc]d     | cmp | | x[bc]       | Equal
         a[bc]d     | cmp | | [abcd]      | Greater
         [\u{FFFF}] | cmp | | [\u{10000}] | Less

@@ -7,14 +7,14 @@ use super::table::agree;
 use arraystring::prelude::SmallString;
 use arraystring::{ArrayString, Error};
 use std::process::Abort;
-use test_support::table::column;
+use test_support::table::{column, rows};
 
 #[test]
 fn insertions(rt: HostRuntime) {
     check_blocks(
         &rt,
         "
-        # 23 | characters and texts are inserted
+        # player: calls 23 | characters and texts are inserted
         ABCD🤔                   | try_insert           | 1  | A                       | ok          | AABCD🤔
                                 | try_insert           | 2  | B                       | ok          | AABBCD🤔
                                 | try_insert           | 20 | C                       | OutOfBounds | AABBCD🤔
@@ -37,13 +37,13 @@ fn insertions(rt: HostRuntime) {
         abcdefghijklmnopqrstuvw | len                  |    |                         | ok          | abcdefghijklmnopqrstuvw | 23
                                 | try_insert           | 0  | C                       | OutOfBounds | abcdefghijklmnopqrstuvw
         00000000000000000000000 | try_insert           | 0  | C                       | OutOfBounds | 00000000000000000000000
-        # 10 | what does not fit is cut
+        # player: calls 10 | what does not fit is cut
         AB | insert_str | 1 | 🤔🤔🤔 | ok | A🤔🤔B
-        # 9 | what does not fit is cut
+        # player: calls 9 | what does not fit is cut
         AB | insert_str | 1 | 🤔🤔🤔 | ok | A🤔B
-        # 23 | what does not fit is cut
+        # player: calls 23 | what does not fit is cut
         new | insert_str | 0 | 000000000000000000000000000000000 | ok | 00000000000000000000000
-        # 23 | moves of insertions
+        # player: calls 23 | moves of insertions
         ABCD | try_insert_str_counted | 1 | xy                      | ok          | AxyBCD | 3
         ABCD | try_insert_str_counted | 0 | xy                      | ok          | xyABCD | 4
         ABCD | try_insert_str_counted | 4 | xy                      | ok          | ABCDxy | 0
@@ -51,7 +51,7 @@ fn insertions(rt: HostRuntime) {
         ABCD | try_insert_str_counted | 5 | xy                      | OutOfBounds | ABCD   | 0
         ABCD | try_insert_str_counted | 1 | 00000000000000000000000 | OutOfBounds | ABCD   | 0
         🤔   | try_insert_str_counted | 2 | xy                      | Utf8        | 🤔     | 0
-        # 4 | a full string takes the empty text alone
+        # player: calls 4 | a full string takes the empty text alone
         abcd | try_insert           | 0 | x | OutOfBounds | abcd
              | try_insert           | 1 | x | OutOfBounds | abcd
              | try_insert           | 2 | x | OutOfBounds | abcd
@@ -95,21 +95,21 @@ fn insertions(rt: HostRuntime) {
              | try_insert_str       | 3 | x | OutOfBounds | 🤔
              | try_insert_str       | 3 |   | Utf8        | 🤔
              | insert_str           | 3 | x | Utf8        | 🤔
-        # 0 | capacities
+        # player: calls 0 | capacities
         new | try_insert     | 0 | x | OutOfBounds |
             | try_insert_str | 0 |   | ok          |
             | insert_str     | 0 | x | ok          |
             | insert_str     | 1 |   | OutOfBounds |
-        # 1 | capacities
+        # player: calls 1 | capacities
         new | insert_str | 0 | éa | ok          |
             | try_insert | 0 | é  | OutOfBounds |
             | try_insert | 0 | a  | ok          | a
-        # 300 | a string of the most letters
+        # player: calls 300 | a string of the most letters
         255 x | insert_str     | 255 | x | ok          | 255 x
               | try_insert_str | 255 |   | ok          | 255 x
               | try_insert     | 255 | x | OutOfBounds | 255 x
               | try_insert     | 0   | x | OutOfBounds | 255 x
-        # 255 | more letters than fit
+        # player: calls 255 | more letters than fit
         new | try_insert_str | 0 | 256 x | OutOfBounds |
             | insert_str     | 0 | 256 x | ok          | 255 x
         ",
@@ -140,12 +140,21 @@ fn a_full_string_has_no_room_at_any_index(rt: HostRuntime) {
     agree(&rt, "a face", face.as_str(), "🤔");
 }
 
-/// Asserts what is added from iterators that are borrowed. The columns of the row are
+/// Asserts what is added from iterators that are borrowed. The columns of a row are
 ///
 ///     text before | characters | pieces | text after | next character | next piece
 ///
 /// if the text after is the same by the characters and by the pieces.
-fn check_extension<const N: usize>(rt: &impl Abort, row: &str)
+fn check_extension<const N: usize>(rt: &impl Abort, table: &str)
+    requires { N ≤ 300 }
+{
+    for row in rows(table) {
+        check_added::<N>(rt, row);
+    }
+}
+
+/// Asserts what a row says.
+fn check_added<const N: usize>(rt: &impl Abort, row: &str)
     requires { N ≤ 300 }
 {
     let (mut chars, mut pieces) = (column(row, 1).chars(), column(row, 2).split(','));
@@ -161,11 +170,35 @@ fn check_extension<const N: usize>(rt: &impl Abort, row: &str)
 /// A full string takes one more item too.
 #[test]
 fn what_is_added(rt: HostRuntime) {
-    check_extension::<5>(&rt, "ab  | c🤔de   | c🤔,d,e    | abc   | d | d");
-    check_extension::<5>(&rt, "abc | dexyz   | d,ex,y,z   | abcde | y | y");
-    check_extension::<5>(&rt, "xyz | abc🤔de | ab,c🤔,d,e | xyzab | 🤔 | d");
-    check_extension::<6>(&rt, "ab  | c🤔d    | c,🤔,d     | abc   | d | d");
-    check_extension::<6>(&rt, "ab  | cd🤔e   | cd,🤔,e    | abcd  | e | e");
-    check_extension::<7>(&rt, "xy  | abc🤔de | ab,c🤔,d,e | xyabc | d | d");
-    check_extension::<255>(&rt, "255 x | abc | a,b | 255 x | b | b");
+    check_extension::<5>(
+        &rt,
+        "
+        # player: extension 5
+        ab  | c🤔de   | c🤔,d,e    | abc   | d | d
+        abc | dexyz   | d,ex,y,z   | abcde | y | y
+        xyz | abc🤔de | ab,c🤔,d,e | xyzab | 🤔 | d
+        ",
+    );
+    check_extension::<6>(
+        &rt,
+        "
+        # player: extension 6
+        ab  | c🤔d    | c,🤔,d     | abc   | d | d
+        ab  | cd🤔e   | cd,🤔,e    | abcd  | e | e
+        ",
+    );
+    check_extension::<7>(
+        &rt,
+        "
+        # player: extension 7
+        xy  | abc🤔de | ab,c🤔,d,e | xyabc | d | d
+        ",
+    );
+    check_extension::<255>(
+        &rt,
+        "
+        # player: extension 255
+        255 x | abc | a,b | 255 x | b | b
+        ",
+    );
 }

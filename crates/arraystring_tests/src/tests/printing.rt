@@ -61,8 +61,7 @@ pub(crate) fn debug_is_that_of<T: Debug, W: Debug>(
 
 #[test]
 fn texts_are_printed_as_they_are(rt: HostRuntime) {
-    for text in "| a | é | € | 🤔 | aé€🤔bé | ab | abc".split('|') {
-        let text = text.trim_matches(' ');
+    for text in ",a,é,€,🤔,aé€🤔bé,ab,abc".split(',') {
         display_is(&rt, &SmallString::from(text), text);
         display_is(&rt, &CacheString::from_str_truncate(text), text);
     }

@@ -8,7 +8,7 @@ fn ranges(rt: HostRuntime) {
     check_blocks(
         &rt,
         "
-        # 23 | parts are borrowed
+        # player: calls 23 | parts are borrowed
         ABCD🤔 | get   | ..     | | ABCD🤔 | ABCD🤔
                | get   | 3..    | | D🤔    | ABCD🤔
                | get   | ..3    | | ABC    | ABCD🤔
@@ -58,14 +58,14 @@ fn ranges(rt: HostRuntime) {
                | slice | (3..6] | | None   | ABCD🤔
                | slice | (5..8) | | None   | ABCD🤔
                | slice | (2..2) | | None   | ABCD🤔
-        # 4 | letters change case in a range
+        # player: calls 4 | letters change case in a range
         abcd | make_ascii_uppercase_in | 1..=2 | | ok   | aBCd
         abcd | make_ascii_lowercase_in | 1..=2 | | ok   | abcd
         abcd | make_ascii_uppercase_in | 0..=3 | | ok   | ABCD
         abcd | make_ascii_lowercase_in | 0..=3 | | ok   | abcd
         abcd | make_ascii_uppercase_in | 0..=4 | | None | abcd
         abcd | make_ascii_lowercase_in | 0..=4 | | None | abcd
-        # 4 | bounds of each kind
+        # player: calls 4 | bounds of each kind
         abcd | make_ascii_uppercase_in                         | ..     | | ok   | ABCD
              | make_ascii_lowercase_in                         | (..)   | | ok   | abcd
         abcd | make_ascii_uppercase_in                         | 2..    | | ok   | abCD
@@ -84,7 +84,7 @@ fn ranges(rt: HostRuntime) {
              | make_ascii_uppercase_in make_ascii_lowercase_in | (4..)  | | None | abcd
              | make_ascii_uppercase_in make_ascii_lowercase_in | (..4]  | | None | abcd
              | make_ascii_uppercase_in make_ascii_lowercase_in | 0..255 | | None | abcd
-        # 23 | letters change case in a range
+        # player: calls 23 | letters change case in a range
         abcd   | make_ascii_uppercase_in | 1..=2 | | ok   | aBCd
         abcd   | make_ascii_lowercase_in | 1..=2 | | ok   | abcd
         ABCD   | make_ascii_lowercase_in | 1..=2 | | ok   | AbcD
@@ -102,14 +102,14 @@ fn ranges(rt: HostRuntime) {
         aZéZaé | make_ascii_lowercase_in | (1..5) | | ok   | aZézaé
         aZéZaé | make_ascii_uppercase_in | (2..5) | | None | aZéZaé
         aZéZaé | make_ascii_lowercase_in | (0..2] | | None | aZéZaé
-        # 23 | parts are drained
+        # player: calls 23 | parts are drained
         ABCD🤔 | drain | ..3  | | ABC         | D🤔
                | drain | 3..  | | Utf8        | D🤔
                | drain | ..3  | | Utf8        | D🤔
                | drain | 10.. | | OutOfBounds | D🤔
                | drain | ..6  | | OutOfBounds | D🤔
                | drain | 3..2 | | OutOfBounds | D🤔
-        # 4 | parts are drained
+        # player: calls 4 | parts are drained
         abcd | drain | [1..3) | | bc   | ad
         abcd | drain | [1..1] | | b    | acd
         abcd | drain | (..2]  | | abc  | d
@@ -121,7 +121,7 @@ fn ranges(rt: HostRuntime) {
         abcd | drain | ..=2   | | abc  | d
         abcd | drain | 2..    | | cd   | ab
         abcd | drain | ..     | | abcd |
-        # 23 | parts are replaced
+        # player: calls 23 | parts are replaced
         ABCD🤔 | replace_range | 2..4   | EFGHI                   | ok          | ABEFGHI🤔
                | replace_range | 9..    | J                       | Utf8        | ABEFGHI🤔
                | replace_range | ..9    | J                       | Utf8        | ABEFGHI🤔
@@ -135,7 +135,7 @@ fn ranges(rt: HostRuntime) {
                | replace_range | ..     | y                       | ok          | y
         ABCD🤔 | replace_range | 1..4   | é€                      | ok          | Aé€🤔
                | replace_range | 1..6   | BCD                     | ok          | ABCD🤔
-        # 23 | moves of drains and replacements
+        # player: calls 23 | moves of drains and replacements
         ABCD🤔 | drain_counted         | 0..2 |                        | AB          | CD🤔    | 0
         ABCD🤔 | drain_counted         | ..2  |                        | AB          | CD🤔    | 0
         ABCD🤔 | drain_counted         | 1..3 |                        | BC          | AD🤔    | 5
@@ -151,7 +151,7 @@ fn ranges(rt: HostRuntime) {
         ABCD🤔 | replace_range_counted | 2..5 |                        | Utf8        | ABCD🤔  | 0
         ABCD🤔 | replace_range_counted | 2..9 |                        | OutOfBounds | ABCD🤔  | 0
         ABCD🤔 | replace_range_counted | 2..4 | 0000000000000000000000 | OutOfBounds | ABCD🤔  | 0
-        # 4 | the size of the result decides
+        # player: calls 4 | the size of the result decides
         abcd | replace_range | 0..0 | xy     | OutOfBounds | abcd
              | replace_range | 1..2 | xy     | OutOfBounds | abcd
              | replace_range | 1..3 | xy     | ok          | axyd
@@ -162,7 +162,7 @@ fn ranges(rt: HostRuntime) {
              | replace_range | 0..3 | xy     | Utf8        | 🤔
              | replace_range | 3..2 |        | OutOfBounds | 🤔
              | replace_range | 3..2 | xyzxyz | OutOfBounds | 🤔
-        # 255 | the last indices
+        # player: calls 255 | the last indices
         255 x | get           | 0..=255   |       | None        | 255 x
               | get           | 0..=254   |       | 255 x       | 255 x
               | get           | 255..255  |       |             | 255 x
@@ -174,7 +174,7 @@ fn ranges(rt: HostRuntime) {
               | drain         | 0..=255   |       | 255 x       |
         255 x | replace_range | 0..=255   | x     | ok          | x
         new   | replace_range | 0..0      | 256 x | OutOfBounds |
-        # 255 | the last indices of a part
+        # player: calls 255 | the last indices of a part
         255 x | slice                                           | 0..255     | | 255 x | 255 x
               | slice                                           | ..255      | | 255 x | 255 x
               | slice                                           | 0..=254    | | 255 x | 255 x
@@ -204,9 +204,9 @@ fn ranges(rt: HostRuntime) {
         again | make_ascii_lowercase_in                         | ..255      | | ok    | 255 x
         again | make_ascii_lowercase_in                         | (..254]    | | ok    | 255 x
         again | make_ascii_lowercase_in                         | [0..255)   | | ok    | 255 x
-        # 300 | the last indices
+        # player: calls 300 | the last indices
         255 x | replace_range | 255.. | x | OutOfBounds | 255 x
-        # 0 | a string of no bytes
+        # player: calls 0 | a string of no bytes
         new | replace_range           | 0..0  |   | ok          |
             | replace_range           | ..    | x | OutOfBounds |
             | get                     | ..    |   |             |
@@ -215,7 +215,7 @@ fn ranges(rt: HostRuntime) {
             | make_ascii_lowercase_in | 0..=0 |   | None        |
             | drain                   | ..    |   |             |
             | drain                   | ..=0  |   | OutOfBounds |
-        # 23 | bounds that no contract knows
+        # player: calls 23 | bounds that no contract knows
         ABCD🤔 | get                   | ~[1..3)       |    | BC          | ABCD🤔
               | drain                 | ~[1..3)       |    | BC          | AD🤔
         ABCD🤔 | replace_range         | ~[1..3)       | x  | ok          | AxD🤔

@@ -38,6 +38,7 @@ fn what_is_left_stays_where_it_is_until_it_grows(rt: HostRuntime) {
     check_rows::<8>(
         &rt,
         "
+        # player: calls 8
         '  abcdef' | trim_counted           |     |    | ok | abcdef   | 0
                    | try_insert_str_counted | 6   | xy | ok | abcdefxy | 6
         '  abcdef' | trim_counted           |     |    | ok | abcdef   | 0
@@ -51,6 +52,7 @@ fn what_is_left_stays_where_it_is_until_it_grows(rt: HostRuntime) {
     check_rows::<4>(
         &rt,
         "
+        # player: calls 4
         ' ab' | trim                   |   |    | ok | ab
               | try_insert_str_counted | 1 | xy | ok | axyb | 2
         abcd  | remove                 | 0 |    | a  | bcd
@@ -60,6 +62,7 @@ fn what_is_left_stays_where_it_is_until_it_grows(rt: HostRuntime) {
     check_rows::<300>(
         &rt,
         "
+        # player: calls 300
         255 x | remove   | 0 |   | x           | 254 x
               | try_push |   | x | ok          | 255 x
               | try_push |   | x | OutOfBounds | 255 x
@@ -69,6 +72,7 @@ fn what_is_left_stays_where_it_is_until_it_grows(rt: HostRuntime) {
     check_rows::<8>(
         &rt,
         "
+        # player: calls 8
         ..abcd | drain                  | ..2 |    | .. | abcd
                | try_insert_str_counted | 3   | x  | ok | abcxd  | 1
         ..abcd | drain                  | ..2 |    | .. | abcd
@@ -81,6 +85,7 @@ fn what_is_left_stays_where_it_is_until_it_grows(rt: HostRuntime) {
     check_rows::<8>(
         &rt,
         "
+        # player: calls 8
         abcdefé  | try_push_str   |   | € | OutOfBounds | abcdefé
                  | try_push       |   | € | OutOfBounds | abcdefé
         xyabcdef | try_insert_str | 1 | € | OutOfBounds | xyabcdef
@@ -94,6 +99,7 @@ fn texts_are_the_same_wherever_they_begin(rt: HostRuntime) {
     check_wherever_it_begins(
         &rt,
         "
+        # player: wherever_it_begins
         abCDef | as_bytes         |      |                   | [97, 98, 67, 68, 101, 102] | abCDef
                | len              |      |                   | ok      | abCDef | 6
                | cmp              |      | abCDef            | Equal   | abCDef
@@ -123,6 +129,7 @@ fn texts_are_the_same_wherever_they_begin(rt: HostRuntime) {
     check_wherever_it_begins(
         &rt,
         "
+        # player: wherever_it_begins
         abcdef | try_push             |      | x     | ok          | abcdefx
         aBé    | try_push             |      | x     | ok          | aBéx
         abcdef | try_push_str         |      | é     | ok          | abcdefé
@@ -163,6 +170,7 @@ fn texts_are_the_same_wherever_they_begin(rt: HostRuntime) {
     check_wherever_it_begins(
         &rt,
         "
+        # player: wherever_it_begins
         abcdef        | pop          |   |          | f           | abcde
         ' cdef '      | pop          |   |          | ' '         | ' cdef'
         aBé           | pop          |   |          | é           | aB
@@ -225,6 +233,7 @@ fn texts_are_the_same_wherever_they_begin(rt: HostRuntime) {
     check_wherever_it_begins(
         &rt,
         "
+        # player: wherever_it_begins
         abcdef | remove         | 1    |    | b           | acdef
                | remove         | 7    |    | OutOfBounds | acdef
         aBCé   | remove         | 1    |    | B           | aCé
@@ -255,6 +264,7 @@ fn texts_are_the_same_wherever_they_begin(rt: HostRuntime) {
     check_wherever_it_begins(
         &rt,
         "
+        # player: wherever_it_begins
         abcdef | make_ascii_uppercase    |      | | ok | ABCDEF
         abcdef | make_ascii_lowercase    |      | | ok | abcdef
         ABCDEF | make_ascii_uppercase    |      | | ok | ABCDEF

@@ -15,7 +15,7 @@ fn orders_and_additions(rt: HostRuntime) {
     check_blocks(
         &rt,
         "
-        # 8 | texts are ordered by their characters
+        # player: calls 8 | texts are ordered by their characters
         \u{FFFF} | cmp | | \u{10000} | Less    | \u{FFFF}
         a        | cmp | | ab        | Less    | a
         ab       | cmp | | b         | Less    | ab
@@ -23,7 +23,7 @@ fn orders_and_additions(rt: HostRuntime) {
         é        | cmp | | z         | Greater | é
         a🤔      | cmp | | a🤔       | Equal   | a🤔
         new      | cmp | | \0        | Less    |
-        # 23 | texts are ordered by their characters
+        # player: calls 23 | texts are ordered by their characters
         \u{FFFF} | cmp | | \u{10000} | Less    | \u{FFFF}
         a        | cmp | | ab        | Less    | a
         ab       | cmp | | b         | Less    | ab
@@ -31,11 +31,11 @@ fn orders_and_additions(rt: HostRuntime) {
         é        | cmp | | z         | Greater | é
         a🤔      | cmp | | a🤔       | Equal   | a🤔
         new      | cmp | | \0        | Less    |
-        # 4 | what lies behind the text is not compared
+        # player: calls 4 | what lies behind the text is not compared
         abcd | pop  | |     | d     | abc
              | cmp  | | abc | Equal | abc
              | hash | | abc | ok    | abc
-        # 3 | what does not fit is cut or refused
+        # player: calls 3 | what does not fit is cut or refused
         ab  | add       | | cd | ok    | abc
         ab  | add       | | é  | ok    | ab
             | add       | |    | ok    | ab
@@ -184,6 +184,7 @@ fn texts_of_each_size_are_ordered(rt: HostRuntime) {
     check_orders::<255>(
         &rt,
         "
+        # player: orders 255
         a        | b
         \u{7F}   | \u{80}
         è        | é
@@ -192,6 +193,22 @@ fn texts_of_each_size_are_ordered(rt: HostRuntime) {
         32640 + 2 * 32385 + 31878,
         2016 + 2 * 1953 + 1830,
     );
-    check_orders::<128>(&rt, "a | é", 8128, 1953);
-    check_orders::<63>(&rt, "\u{7F} | 🤔", 1830, 1830);
+    check_orders::<128>(
+        &rt,
+        "
+        # player: orders 128
+        a | é
+        ",
+        8128,
+        1953,
+    );
+    check_orders::<63>(
+        &rt,
+        "
+        # player: orders 63
+        \u{7F} | 🤔
+        ",
+        1830,
+        1830,
+    );
 }

@@ -10,7 +10,7 @@ fn trimmed_texts(rt: HostRuntime) {
     check_blocks(
         &rt,
         "
-        # 255 | texts are trimmed
+        # player: calls 255 | texts are trimmed
         '   🤔'                 | trim        | | | ok | 🤔
         '   🤔'                 | trim_spaces | | | ok | 🤔
         '   '                   | trim        | | | ok |
@@ -35,7 +35,7 @@ fn trimmed_texts(rt: HostRuntime) {
         '   to be trimmed     ' | trim_spaces | | | ok | to be trimmed
         new                     | trim        | | | ok |
         new                     | trim_spaces | | | ok |
-        # 23 | texts are trimmed
+        # player: calls 23 | texts are trimmed
         '   🤔'                 | trim        | | | ok | 🤔
         '   🤔'                 | trim_spaces | | | ok | 🤔
         '   '                   | trim        | | | ok |
@@ -60,7 +60,7 @@ fn trimmed_texts(rt: HostRuntime) {
         '   to be trimmed     ' | trim_spaces | | | ok | to be trimmed
         new                     | trim        | | | ok |
         new                     | trim_spaces | | | ok |
-        # 4 | full texts are trimmed
+        # player: calls 4 | full texts are trimmed
         '  ab' | trim        | | | ok | ab
         '  ab' | trim_spaces | | | ok | ab
         'ab  ' | trim        | | | ok | ab
@@ -69,16 +69,16 @@ fn trimmed_texts(rt: HostRuntime) {
         ' ab ' | trim_spaces | | | ok | ab
         ab     | trim        | | | ok | ab
         ab     | trim_spaces | | | ok | ab
-        # 8 | a trim moves nothing
+        # player: calls 8 | a trim moves nothing
         '  abcdef'          | trim_counted | | | ok | abcdef | 0
         '\t🤔\u{A0}'        | trim_counted | | | ok | 🤔     | 0
         '\u{2003} \u{3000}' | trim_counted | | | ok |        | 0
         ",
     );
     let mut line: MaxString = string(" a  b\n");
-    check_row(&rt, &mut line, " | trim_spaces | | | ok | 'a  b\n'");
+    check_row(&rt, &mut line, "|trim_spaces|||ok|'a  b\n'");
     line = string(" a  b\n");
-    check_row(&rt, &mut line, " | trim | | | ok | a  b");
+    check_row(&rt, &mut line, "|trim|||ok|a  b");
 }
 
 /// Asserts whether `trim` leaves `a` of a text or all of it, and whether `trim_spaces` does.
@@ -130,6 +130,7 @@ fn each_white_space_is_trimmed_and_nothing_beside_it(rt: HostRuntime) {
     check_trims(
         &rt,
         "
+        # player: trims
         0     | 8     |
         9     | D     | trim
         E     | 1F    |

@@ -69,6 +69,7 @@ fn units_are_read(rt: HostRuntime) {
     check_units(
         &rt,
         "
+        # player: units
                                                 |
         D834 DD1E 6D 75                         | 𝄞 m u
         D800 DC00 D800 DFFF DBFF DC00 DBFF DFFF | \u{10000} \u{103FF} \u{10FC00} \u{10FFFF}
@@ -87,6 +88,7 @@ fn what_is_made_of_units(rt: HostRuntime) {
     check_texts_of_units::<23>(
         &rt,
         "
+        # player: texts_of_units 23
         D834 DD1E 6D 75 73 69 63    | 𝄞music | 𝄞music | 𝄞music
         D834 DD1E 6D 75 D800 69 63  | Utf16  | Utf16  | 𝄞mu\u{FFFD}ic
         D800 D834 DD1E              | Utf16  | Utf16  | \u{FFFD}𝄞
@@ -98,15 +100,23 @@ fn what_is_made_of_units(rt: HostRuntime) {
     check_texts_of_units::<0>(
         &rt,
         "
+        # player: texts_of_units 0
                 |             |       |
         D800    | Utf16       | Utf16 |
         61 D800 | OutOfBounds |       |
         ",
     );
-    check_texts_of_units::<1>(&rt, "D800 | Utf16 | Utf16 |");
+    check_texts_of_units::<1>(
+        &rt,
+        "
+        # player: texts_of_units 1
+        D800 | Utf16 | Utf16 |
+        ",
+    );
     check_texts_of_units::<2>(
         &rt,
         "
+        # player: texts_of_units 2
         D800          | Utf16       | Utf16 |
         61 62 D800    | Utf16       | Utf16 | ab
         61 62 63 D800 | OutOfBounds | ab    | ab
@@ -115,6 +125,7 @@ fn what_is_made_of_units(rt: HostRuntime) {
     check_texts_of_units::<3>(
         &rt,
         "
+        # player: texts_of_units 3
         D800       | Utf16       | Utf16 | \u{FFFD}
         61 D800 62 | Utf16       | Utf16 | a
         D800 DC00  | OutOfBounds |       |
@@ -124,6 +135,7 @@ fn what_is_made_of_units(rt: HostRuntime) {
     check_texts_of_units::<4>(
         &rt,
         "
+        # player: texts_of_units 4
         61 D800 62 | Utf16      | Utf16      | a\u{FFFD}
         D800 DC00  | \u{10000}  | \u{10000}  | \u{10000}
         DBFF DFFF  | \u{10FFFF} | \u{10FFFF} | \u{10FFFF}
@@ -133,26 +145,43 @@ fn what_is_made_of_units(rt: HostRuntime) {
     check_texts_of_units::<5>(
         &rt,
         "
+        # player: texts_of_units 5
         D834 DD1E E9 D800 | OutOfBounds | 𝄞 | 𝄞
         D834 DD1E E9 61   | OutOfBounds | 𝄞 | 𝄞
         ",
     );
-    check_texts_of_units::<6>(&rt, "D834 DD1E E9 D800 | Utf16 | Utf16 | 𝄞é");
+    check_texts_of_units::<6>(
+        &rt,
+        "
+        # player: texts_of_units 6
+        D834 DD1E E9 D800 | Utf16 | Utf16 | 𝄞é
+        ",
+    );
     check_texts_of_units::<8>(
         &rt,
-        "D7FF E000 FFFF | OutOfBounds | \u{D7FF}\u{E000} | \u{D7FF}\u{E000}",
+        "
+        # player: texts_of_units 8
+        D7FF E000 FFFF | OutOfBounds | \u{D7FF}\u{E000} | \u{D7FF}\u{E000}
+        ",
     );
     check_texts_of_units::<9>(
         &rt,
         "
+        # player: texts_of_units 9
         D7FF E000 FFFF       | \u{D7FF}\u{E000}\u{FFFF} | \u{D7FF}\u{E000}\u{FFFF} | \u{D7FF}\u{E000}\u{FFFF}
         61 E9 20AC D83E DD14 | OutOfBounds | aé€ | aé€
         ",
     );
-    check_texts_of_units::<10>(&rt, "61 E9 20AC D83E DD14 | aé€🤔 | aé€🤔 | aé€🤔");
+    check_texts_of_units::<10>(
+        &rt,
+        "
+        # player: texts_of_units 10
+        61 E9 20AC D83E DD14 | aé€🤔 | aé€🤔 | aé€🤔
+        ",
+    );
     // A long list.
-    let row = "300 units | OutOfBounds | \0\0\0\0\0\0\0\0\0\0\0\0\0\0\0\0\0\0\0\0\0\0\0 \
-        | \0\0\0\0\0\0\0\0\0\0\0\0\0\0\0\0\0\0\0\0\0\0\0";
+    let row = "300 units|OutOfBounds|\0\0\0\0\0\0\0\0\0\0\0\0\0\0\0\0\0\0\0\0\0\0\0\
+        |\0\0\0\0\0\0\0\0\0\0\0\0\0\0\0\0\0\0\0\0\0\0\0";
     agree(&rt, "the size", column(row, 2).len(), 23);
     check_row::<23>(&rt, &[0; 300], row);
 }

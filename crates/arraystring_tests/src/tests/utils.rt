@@ -82,6 +82,7 @@ fn texts_are_cut_at_boundaries(rt: HostRuntime) {
     check_cuts(
         &rt,
         "
+        # player: cuts
         A🤔    | 0  |
         A🤔    | 1  | A
         A🤔    | 2  | A
@@ -108,6 +109,7 @@ fn texts_are_cut_at_boundaries(rt: HostRuntime) {
 #[test]
 fn the_last_character(rt: HostRuntime) {
     let table = "
+        # player: last_characters
                      | 0 |
         \u{7F}       | 0 | \u{7F}
         a\u{80}      | 1 | \u{80}

@@ -105,6 +105,7 @@ fn bytes_are_read_as_in_std(rt: HostRuntime) {
     let count = check_reading(
         &rt,
         "
+        # player: reading
         00 | 7F |          | ok
         80 | 80 |          | Utf8
         80 | FF |          | Utf8

@@ -1,4 +1,4 @@
-//! Tables of calls. The columns of a row are
+//! Tables of calls, which begin with `# player: calls 8`, where 8 is the capacity. The columns of a row are
 //!
 //!     text before | call | index or range | what is given | result | text after | number
 //!
@@ -29,8 +29,8 @@ fn plain(call: &str) -> &str {
     call.strip_suffix("_counted").unwrap_or(call)
 }
 
-/// The calls of the tables: those with an arm in a function below `make`.
-fn calls() -> impl Iterator<Item = &'static str> {
+/// The names of the calls of the tables: those with an arm in a function below `make`.
+fn names() -> impl Iterator<Item = &'static str> {
     let (_, below) = include_str!("calls.rs").split_once("\nfn make<").expect("the function");
     let arms = below.lines().filter(|line| line.trim_start().starts_with('"')).filter_map(|line| line.split_once("=>"));
     arms.flat_map(|(names, _)| names.split('"').skip(1).step_by(2))
@@ -39,20 +39,11 @@ fn calls() -> impl Iterator<Item = &'static str> {
 /// The calls of the tables that no row has made.
 pub fn not_made() -> Vec<&'static str> {
     let made = MADE.lock().expect("no panic");
-    calls().filter(|name| !made.contains(*name)).collect()
+    names().filter(|name| !made.contains(*name)).collect()
 }
 
-/// Makes the calls of blocks. The line over a block is `# 8 | what it shows`, where 8 is the capacity.
-pub fn blocks(table: &Table) -> usize {
-    let of_block = |block: &str| {
-        let (heading, rows) = block.split_once('\n').unwrap_or_default();
-        at_capacity!(parsed(heading, 0), hold, rows)
-    };
-    table.text.split('#').skip(1).map(of_block).sum()
-}
-
-/// Makes the calls of a table on strings of one capacity.
-pub fn rows_at(table: &Table) -> usize {
+/// Makes the calls of a table on strings of its capacity.
+pub fn calls(table: &Table) -> usize {
     at_capacity!(table.capacity(), hold, &table.text)
 }
 

@@ -158,6 +158,16 @@ pub fn cuts(table: &Table) -> usize {
         .count()
 }
 
+/// What is popped of texts. The columns are a text, where its last character begins, and that character.
+pub fn last_characters(table: &Table) -> usize {
+    rows(&table.text)
+        .inspect(|row| {
+            let mut text = SmallString::from(column(row, 0));
+            assert_eq!((text.pop(), text.len()), (column(row, 2).chars().next(), parsed(row, 1)), "{row}");
+        })
+        .count()
+}
+
 /// Walks over texts, from the back where a choice has a bit. The columns are how many choices there are, and the text.
 pub fn walks(table: &Table) -> usize {
     rows(&table.text)

@@ -1,7 +1,8 @@
 //! The tables of the proved crate's tests, read from its files and played on the Rust crate: one table tests both builds.
 //!
-//! A table is a text with `|` in it that a function of a test is given alone, perhaps at a capacity (`::<23>`). The name of this
-//! function says what plays the table here: `PLAYERS` has it.
+//! A table begins with a line that names its player, as `# player: cuts`. `PLAYERS` has the players. A player that makes strings of
+//! a capacity has it behind its name, and a table may say what it shows: `# player: calls 23 | the first character is taken out`.
+//! A text may hold several tables. What is no table has no ` | ` in it.
 
 mod calls;
 mod contract;
@@ -11,31 +12,41 @@ mod rows;
 
 use std::collections::BTreeMap;
 
-use rows::{Table, tables};
+use rows::{Table, of_text, tables};
 
 /// Where the tables are.
 const FOLDER: &str = "../../crates/arraystring_tests/src/tests";
 
-/// A player: the name of the function that is given its tables, how many of their rows it plays at least, and what plays a table here
-/// and returns how many rows it has played.
+/// A player: its name in the tables, how many rows it plays at least, and what plays a table here and returns how many rows it has
+/// played.
 type Player = (&'static str, usize, fn(&Table) -> usize);
 
 const PLAYERS: &[Player] = &[
-    ("check_blocks", 400, calls::blocks),
-    ("check_comparisons", 4, decoding_and_order::comparisons),
-    ("check_constructors", 20, made::constructors),
-    ("check_cuts", 18, decoding_and_order::cuts),
-    ("check_drains", 10, decoding_and_order::drains),
-    ("check_extension", 5, made::extension),
-    ("check_orders", 6, decoding_and_order::orders),
-    ("check_reading", 18, decoding_and_order::reading),
-    ("check_rows", 100, calls::rows_at),
-    ("check_texts_of_units", 20, made::texts_of_units),
-    ("check_trims", 23, decoding_and_order::trims),
-    ("check_units", 9, decoding_and_order::units),
-    ("check_walks", 7, decoding_and_order::walks),
-    ("check_wherever_it_begins", 100, calls::wherever_it_begins),
+    ("calls", 500, calls::calls),
+    ("comparisons", 4, decoding_and_order::comparisons),
+    ("constructors", 20, made::constructors),
+    ("cuts", 18, decoding_and_order::cuts),
+    ("drains", 10, decoding_and_order::drains),
+    ("extension", 5, made::extension),
+    ("last_characters", 8, decoding_and_order::last_characters),
+    ("orders", 6, decoding_and_order::orders),
+    ("reading", 18, decoding_and_order::reading),
+    ("texts_of_units", 20, made::texts_of_units),
+    ("trims", 23, decoding_and_order::trims),
+    ("units", 9, decoding_and_order::units),
+    ("walks", 7, decoding_and_order::walks),
+    ("wherever_it_begins", 100, calls::wherever_it_begins),
 ];
+
+/// The player that a table names, or what to tell whoever wrote the table.
+fn player_of(table: &Table) -> Result<&'static Player, String> {
+    PLAYERS.iter().find(|(name, ..)| *name == table.player()).ok_or_else(|| {
+        let names: Vec<_> = PLAYERS.iter().map(|(name, ..)| *name).collect();
+        let (place, heading, names) = (&table.place, &table.heading, names.join(", "));
+        let told = format!("{place}: a table begins with `# player: NAME`, not with `{heading}`.");
+        format!("{told} The players are {names}. (What is no table has no ` | ` in it.)")
+    })
+}
 
 /// Calls a function at a capacity that is known when it runs.
 macro_rules! at_capacity {
@@ -55,9 +66,7 @@ pub(crate) use at_capacity;
 fn each_table_holds_here_too() {
     let mut played: BTreeMap<&str, usize> = BTreeMap::new();
     for table in tables(std::path::Path::new(FOLDER)) {
-        let player = PLAYERS.iter().find(|(name, ..)| *name == table.player);
-        let (name, _, play) = player
-            .unwrap_or_else(|| panic!("{}: nothing in `PLAYERS` plays the tables of `{}`", table.file, table.player));
+        let (name, _, play) = player_of(&table).unwrap_or_else(|told| panic!("{told}"));
         *played.entry(name).or_default() += play(&table);
     }
     for (name, least, _) in PLAYERS {
@@ -66,4 +75,14 @@ fn each_table_holds_here_too() {
     }
     let missing = calls::not_made();
     assert!(missing.is_empty(), "no row of a table in crates/arraystring_tests/src/tests makes {missing:?}");
+}
+
+#[test]
+fn a_table_that_names_no_player_is_told() {
+    for heading in ["a | pop", "# player: pops", "# plyer: cuts", "# player:cuts", "player: cuts", "# 8 | pops"] {
+        let told = player_of(&of_text("remove.rt:6", &format!("\n {heading}\n a | pop"))[0]).expect_err(heading);
+        let wanted =
+            format!("remove.rt:6: a table begins with `# player: NAME`, not with `{heading}`. The players are calls, ");
+        assert!(told.starts_with(&wanted), "{told}");
+    }
 }

@@ -1,4 +1,5 @@
-//! The tables in the files of the tests. A line of a table is a row, and `|` is between its columns.
+//! The tables in the files of the tests. The first line of a table names its player. Each line below is a row, and `|` is
+//! between its columns.
 
 use std::fmt::Debug;
 use std::fs;
@@ -45,20 +46,32 @@ pub fn hash_of<T: Hash + ?Sized>(value: &T) -> u64 {
     state.finish()
 }
 
-/// A text that a call is given alone.
+/// A table, as a text of a test has it.
 pub struct Table {
-    pub file: String,
-    /// The function that is called.
-    pub player: String,
-    /// The capacity that it is called at, as in `::<23>`.
-    pub capacity: Option<usize>,
+    /// The file and the line where the text begins.
+    pub place: String,
+    /// The line that names the player, as in `# player: calls 23 | what it shows`, where 23 is the capacity.
+    pub heading: String,
+    /// The rows.
     pub text: String,
 }
 
 impl Table {
-    /// The capacity, which has to be written.
+    /// The name of the player. It is empty if the heading names none.
+    pub fn player(&self) -> &str {
+        self.named(0)
+    }
+
+    /// The capacity of the strings.
     pub fn capacity(&self) -> usize {
-        self.capacity.unwrap_or_else(|| panic!("{}: `{}` is called at no capacity", self.file, self.player))
+        let capacity = self.named(1).parse();
+        capacity.unwrap_or_else(|_| panic!("{}: `{}` lacks the capacity behind the player", self.place, self.heading))
+    }
+
+    /// A word of those that the heading has behind `player:`.
+    fn named(&self, at: usize) -> &str {
+        let words = column(&self.heading, 0).strip_prefix("# player: ").unwrap_or_default();
+        words.split(' ').nth(at).unwrap_or_default()
     }
 }
 
@@ -83,7 +96,7 @@ pub fn tables(folder: &Path) -> Vec<Table> {
         .collect()
 }
 
-/// The tables of a file.
+/// The tables of a file. Each text with ` | ` in it holds some.
 fn of_file(file: &str, source: &str) -> Vec<Table> {
     let mut found = Vec::new();
     let mut at = 0;
@@ -91,8 +104,21 @@ fn of_file(file: &str, source: &str) -> Vec<Table> {
         let end = start + 1 + length(&source[start + 1..]);
         at = end + 1;
         let text = unescaped(&source[start + 1..end]);
-        if let (true, Some((player, capacity))) = (text.contains('|'), caller(&source[..start])) {
-            found.push(Table { file: file.to_string(), player, capacity, text });
+        if text.contains(" | ") {
+            let line = 1 + source[..start].matches('\n').count();
+            found.extend(of_text(&format!("{file}:{line}"), &text));
+        }
+    }
+    found
+}
+
+/// The tables of a text. Its first line begins a table, and so does each line that begins with `#`.
+pub fn of_text(place: &str, text: &str) -> Vec<Table> {
+    let mut found: Vec<Table> = Vec::new();
+    for line in text.trim().lines().map(|line| line.trim_start_matches(' ')) {
+        match found.last_mut() {
+            Some(table) if !line.starts_with('#') => table.text += &format!("{line}\n"),
+            _ => found.push(Table { place: place.to_string(), heading: line.to_string(), text: String::new() }),
         }
     }
     found
@@ -157,27 +183,12 @@ fn unescaped(written: &str) -> String {
     text
 }
 
-/// The call whose last argument comes next, if it has at most the runtime before it.
-fn caller(before: &str) -> Option<(String, Option<usize>)> {
-    let before = before.trim_end();
-    let before = before.strip_suffix("rt,").map_or(before, |before| before.trim_end_matches('&').trim_end());
-    let mut before = before.strip_suffix('(')?;
-    let mut capacity = None;
-    if let Some(generic) = before.strip_suffix('>') {
-        let (name, number) = generic.rsplit_once("::<")?;
-        capacity = Some(number.parse().ok()?);
-        before = name;
-    }
-    let start = before.rfind(|ch: char| !ch.is_alphanumeric() && ch != '_').map_or(0, |end| end + 1);
-    (start < before.len()).then(|| (before[start..].to_string(), capacity))
-}
-
 #[test]
-fn texts_are_found_with_their_calls() {
-    let source = "// \"no | text\"\nhold::<23>(&rt, \"a | \\\"b\\u{e9}\");\nhold_each(\n    rt,\n    \"\\\n        c | d\",\n);\nf(&rt, 'x', \"e | f\"); let t = \"g | h\"; ('\\'', '\"');";
+fn tables_are_found_with_their_players() {
+    let source = "// \"no | text\"\nf(\n    \"\n    # player: hold 23 | bytes\n    a | \\\"b\\u{e9}\n    # player: cut\n    c | d\n    \");\nf('x', \"e|f\"); ('\\'', '\"');\nf(\"g | h\");";
+    let found = of_file("a.rt", source);
     let found: Vec<_> =
-        of_file("", source).into_iter().map(|table| (table.player, table.capacity, table.text)).collect();
-    let wanted =
-        [("hold".to_string(), Some(23), "a | \"bé".to_string()), ("hold_each".to_string(), None, "c | d".to_string())];
+        found.iter().map(|table| (&*table.place, table.player(), table.named(1), &*table.text)).collect();
+    let wanted = [("a.rt:3", "hold", "23", "a | \"bé\n"), ("a.rt:3", "cut", "", "c | d\n"), ("a.rt:10", "", "", "")];
     assert_eq!(found, wanted);
 }
