@@ -521,6 +521,8 @@ fn makes_are_written_in_another_way(table: &mut Table, at: usize) -> Result<(), 
     assert_eq!(written!(table.row("Name::from(text)"), WRITTEN, Name::try_from_str(text.as_str())?), "ab");
     assert_eq!(written!(table.row("Name::from(&text)"), WRITTEN, Name::try_from_str(&text)?), "ab");
     assert_eq!(written!(table.row("text.into()"), WRITTEN, Name::try_from_str(text)?), "ab");
+    let text = "ab";
+    assert_eq!(written!(table.row("text.to_owned()"), WRITTEN, Name::try_from_str(text)?), "ab");
     assert_eq!(written!(table.row("Name::new_const()"), WRITTEN, Name::new()), "");
     assert_eq!(written!(table.row("Name::with_capacity(at)"), WRITTEN, Name::new()), "");
     let row = table.row("Name::from_byte_string(b\"abcd\")");
