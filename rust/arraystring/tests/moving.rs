@@ -209,7 +209,11 @@ fn what_is_other_than_in_the_crate_before() {
 /// Asserts what a string takes at each of some capacities.
 macro_rules! sizes {
     ($($capacity:literal),*) => {
-        $(assert_eq!((size_of::<ArrayString<$capacity>>(), align_of::<ArrayString<$capacity>>()), ($capacity + 2, 1));)*
+        $(
+            assert_eq!((size_of::<ArrayString<$capacity>>(), align_of::<ArrayString<$capacity>>()), ($capacity + 2, 1));
+            assert_eq!((size_of::<Drain<$capacity>>(), align_of::<Drain<$capacity>>()), ($capacity + 3, 1));
+            assert_eq!(size_of::<Option<ArrayString<$capacity>>>(), $capacity + 3);
+        )*
     };
 }
 
