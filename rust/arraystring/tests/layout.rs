@@ -73,3 +73,33 @@ fn the_comment_has_these_drawings() {
     assert_eq!(blocks.concat(), drawings.concat());
     assert_eq!(blocks, drawings);
 }
+
+/// The bytes of a value, sorted.
+#[cfg(any(debug_assertions, feature = "checked", not(target_pointer_width = "64")))]
+fn values<T>(value: &T) -> Vec<u8> {
+    // SAFETY: each of its bytes has a value: this is what is tested.
+    let bytes = unsafe { std::slice::from_raw_parts(std::ptr::from_ref(value).cast::<u8>(), size_of::<T>()) };
+    let mut bytes = bytes.to_vec();
+    bytes.sort_unstable();
+    bytes
+}
+
+/// Where accesses are tested, a wrong index may panic when the size has risen and nothing is written yet. So a new string is cleared there.
+#[cfg(any(debug_assertions, feature = "checked", not(target_pointer_width = "64")))]
+#[test]
+fn a_new_string_is_cleared_where_accesses_are_tested() {
+    type Name = ArrayString<30>;
+    for empty in [Name::new(), Name::default(), Name::from(""), Name::from_chars([])] {
+        assert_eq!(values(&empty), [0; 32]);
+    }
+    let mut wanted = vec![0; 29];
+    wanted.extend([2, b'a', b'b']);
+    let pushed = Name::new() + "ab";
+    let made = [Name::from("ab"), Name::from_chars(['a', 'b']), Name::from_iterator(["a", "b"]), pushed];
+    // SAFETY: two bytes fit.
+    let unchecked = unsafe { [Name::from_str_unchecked("ab"), Name::from_iterator_unchecked(["a", "b"])] };
+    for string in made.into_iter().chain(unchecked).chain([Name::try_from_str("ab").unwrap()]) {
+        assert_eq!(values(&string), wanted);
+    }
+    assert_eq!(values(&arraystring::Drain::<30>::default()), [0; 33]);
+}
