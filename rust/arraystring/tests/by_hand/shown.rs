@@ -76,7 +76,7 @@ fn the_capacity_is_a_constant() {
 }
 
 #[test]
-fn a_text_is_shown_at_each_length() {
+fn a_text_is_hashed_printed_and_copied_at_each_length() {
     fn at<const N: usize>() {
         for len in 0..=capacity::<N>() {
             for text in texts_of(len).into_iter().take(if N > 65 { 2 } else { 3 }) {
