@@ -71,7 +71,7 @@ fn the_capacity_is_a_constant() {
     }
     at_capacities!(at);
     assert_eq!((CacheString::CAPACITY, CacheString::capacity()), (63, 63));
-    // It is the length of an array.
+    // As a constant it can stand as the length of an array.
     assert_eq!(([0u8; MaxString::CAPACITY].len(), [0u8; CacheString::CAPACITY].len()), (255, 63));
 }
 
