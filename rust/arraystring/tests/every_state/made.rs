@@ -5,7 +5,8 @@ use arraystring::utils::{encode, is_boundary, is_inside_boundary, shift, truncat
 use arraystring::{ArrayString, Error};
 
 use crate::edits::{all_pieces, indices, piece_counts};
-use crate::limited::{Limited, cut};
+use crate::inputs::cut;
+use crate::limited::Limited;
 use crate::states::{WIDTHS, at_each_capacity, counts, texts};
 
 type Made<const N: usize> = Result<ArrayString<N>, Error>;

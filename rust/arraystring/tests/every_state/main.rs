@@ -5,6 +5,9 @@
 
 use states::{WIDTHS, at_each_capacity, cases, counts, offset, string_counts, texts};
 
+#[path = "../inputs/mod.rs"]
+mod inputs;
+
 mod edits;
 mod limited;
 mod looks;
