@@ -55,8 +55,8 @@ fn parts(names: &[String]) -> Vec<Part> {
     parts
 }
 
-/// Makes the calls of each part, for callgrind.
-pub fn make_curves(names: &[String]) {
+/// Runs the calls of each part, for callgrind, which counts them.
+pub fn run_curve_calls(names: &[String]) {
     for Part { curve, capacity, case, side, .. } in parts(names) {
         next_part();
         for _ in 0..TIMES {
@@ -69,7 +69,7 @@ pub fn make_curves(names: &[String]) {
 pub fn curves(names: &[String]) -> Vec<Counted> {
     let parts = parts(names);
     assert!(!parts.is_empty(), "no curve has one of the names {names:?}");
-    let totals = totals("make-curves", names);
+    let totals = totals("run-curve-calls", names);
     assert_eq!(parts.len(), totals.len(), "callgrind counts each part");
     let mut found: Vec<Counted> = Vec::new();
     for (Part { curve, capacity, size, side, .. }, total) in parts.into_iter().zip(totals) {
@@ -94,8 +94,8 @@ impl Runner for Parts {
     }
 }
 
-/// Runs each program over each string, for callgrind.
-pub fn make_programs() {
+/// Runs each program over each string, for callgrind, which counts them.
+pub fn run_program_calls() {
     let given = Given::new();
     SIDES.iter().for_each(|side| run_all(*side, &given, &mut Parts(Vec::new())));
 }
@@ -105,7 +105,7 @@ pub fn whole_programs() -> Vec<(&'static str, Counts)> {
     let mut parts = Parts(Vec::new());
     run_all(Side::Crate, &Given::new(), &mut parts);
     let mut found: Vec<_> = parts.0.into_iter().map(|title| (title, Counts::new())).collect();
-    let mut totals = totals("make-programs", &[]).into_iter().map(|total| total / ROWS as f64);
+    let mut totals = totals("run-program-calls", &[]).into_iter().map(|total| total / ROWS as f64);
     for side in SIDES {
         for (_, counts) in &mut found {
             counts.push(if matches!(side, Side::Proved | Side::Original) { None } else { totals.next() });
@@ -114,7 +114,7 @@ pub fn whole_programs() -> Vec<(&'static str, Counts)> {
     found
 }
 
-/// The instructions of each part of what this program makes by these words.
+/// The instructions of each part of what this program runs by these words.
 fn totals(what: &str, names: &[String]) -> Vec<f64> {
     let out = env::temp_dir().join(format!("bench-callgrind-{}", std::process::id()));
     let program = env::current_exe().expect("a program has a path");

@@ -70,8 +70,8 @@ fn main() -> ExitCode {
         "programs" => tell_programs(),
         "clock" => clock::tell(names),
         // (callgrind runs the program by these)
-        "make-curves" => count::make_curves(names),
-        "make-programs" => count::make_programs(),
+        "run-curve-calls" => count::run_curve_calls(names),
+        "run-program-calls" => count::run_program_calls(),
         _ => {
             eprintln!("{USAGE}");
             return ExitCode::FAILURE;

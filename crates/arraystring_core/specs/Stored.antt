@@ -6,6 +6,7 @@ pub record Stored : Type 0 where
   pub text : List ℕ
   pub spare : List ℕ
 
--- a value with the text t, for what is said of each string by its text; its spare is that of no string
+-- a value with the text t and an empty spare, for laws and examples that name only the text. No string has an empty spare: its first
+-- number is the start
 abbrev pub string_of : List ℕ → Stored
 string_of t = record { text = t; spare = [] }

@@ -201,7 +201,7 @@ const CUTS: &str = "
     92 | done, done, done, text 🤔DC, no text, refused OutOfBounds, text AABB        | AABB
     ";
 
-/// The row of a cut.
+/// The row of `CUTS` for the example cut off after `end` bytes, or `None` if its last line is bad then.
 fn cut_at(end: usize) -> Option<&'static str> {
     for row in rows(CUTS) {
         if column(row, 0).parse() == Ok(end) {

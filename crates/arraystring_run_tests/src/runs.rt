@@ -400,7 +400,7 @@ fn what_fits_at_one_capacity(rt: HostRuntime) {
 
 #[test]
 fn what_is_tight_at_one_capacity(rt: HostRuntime) {
-    // A refusal for an index is not tight.
+    // A refusal for an index is not for want of room, so it is not tight (`is_tight`).
     at_two_capacities::<4, 23>(
         &rt,
         "ab",

@@ -436,7 +436,7 @@ fn commands_fit_until_one_is_tight(rt: HostRuntime) {
     // A command that is refused for its index is not tight.
     let past = [Command::TryInsert(1, 'a'), Command::PushStr(full)];
     check_small(&rt, alloc, &past, true, (full, full));
-    // One that is tight counts, also if the next one clears both texts.
+    // After a tight command the result is false, even if a later command clears both texts.
     let cleared = [Command::PushStr(over), Command::Clear];
     check_small(&rt, alloc, &cleared, false, ("", ""));
     let filled = [Command::PushStr(full), Command::Pop, Command::TryPush('m')];

@@ -75,7 +75,7 @@ module _ (m : Users) (t : List ℕ) (u : List ℕ × List ℕ) where
   get_others q ne =
       rw (finite.get-insert nat_list_cmp_total m t u q, false_from_ne_true _ (λ is. ne (tells_apart exact_bytes q t is))) refl
 
-  -- what is there already changes nothing
+  -- inserting what is there already changes nothing
   pub insert_same : finite.get m t ≡ Some u → finite.insert m t u ≡ m
   insert_same is =
       finite.same_map nat_list_cmp_total exact_bytes _ _

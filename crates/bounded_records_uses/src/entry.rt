@@ -3,7 +3,7 @@ ghost use Rattle.std.specs.Prelude.{◌≡◌, ℕ, List, IfErr, IsErrAnd, OnErr
 ghost use Rattle.std.specs.FinMap as finite;
 ghost use Rattle.bounded_records.specs.Records.{IsFirstFault, IsRecord};
 ghost use Rattle.bounded_records.specs.declared.record.RecordFault.{RecordFault};
-ghost use Rattle.bounded_records_uses.specs.declared.entry.NotEntered.TheVariants.{Memory, Record};
+ghost use Rattle.bounded_records_uses.specs.declared.entry.NotEntered.TheVariants.{Memory, NoRecord};
 
 use bounded_records::{Directory, decode};
 
@@ -11,7 +11,7 @@ use bounded_records::{Directory, decode};
 #[derive(Clone, Copy, PartialEq, Eq, Debug)]
 pub enum NotEntered {
     /// The bytes are no record.
-    Record,
+    NoRecord,
     /// There is not enough memory.
     Memory,
 }
@@ -22,19 +22,19 @@ pub enum NotEntered {
 ///
 /// The first of these that holds decides, and nothing has changed then:
 ///
-/// - `Err(Record)` if no user has this record;
+/// - `Err(NoRecord)` if no user has this record;
 /// - `Err(Memory)` if there is not enough memory.
 pub fn enter_record(users: &mut Directory, given: &[u8]) -> Result<(), NotEntered>
     ensures entered { (username role : List ℕ) → IsRecord given.now username role
         → OnOk result (users.new ≡ finite.insert users.old username (username, role)) }
     ensures refused { OnErr result (users.new ≡ users.old) }
     ensures no_record { (fault : RecordFault) → IsFirstFault given.now fault
-        → IsErrAnd result (λ cause. cause ≡ Record) }
+        → IsErrAnd result (λ cause. cause ≡ NoRecord) }
     ensures no_memory { (username role : List ℕ) → IsRecord given.now username role
         → IfErr result (λ cause. cause ≡ Memory) }
 {
     let Ok(user) = decode(given) else {
-        return Err(NotEntered::Record);
+        return Err(NotEntered::NoRecord);
     };
     if users.insert(user).is_err() {
         return Err(NotEntered::Memory);

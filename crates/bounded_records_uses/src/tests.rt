@@ -27,7 +27,7 @@ fn check_users(rt: &(impl Abort + AllocGlobal), users: &Directory, wanted: &[Use
 fn each_refusal_is_equal_to_itself_alone(rt: HostRuntime) {
     let refusals = [NotRenamed::Missing, NotRenamed::Taken, NotRenamed::Memory];
     agree(&rt, first_mistaken(&refusals), None);
-    let refusals = [NotEntered::Record, NotEntered::Memory];
+    let refusals = [NotEntered::NoRecord, NotEntered::Memory];
     agree(&rt, first_mistaken(&refusals), None);
 }
 
@@ -50,7 +50,7 @@ fn the_user_of_a_record_is_entered(rt: HostRuntime) {
     agree(
         &rt,
         enter_record(&mut users, &record[1..]),
-        Err(NotEntered::Record),
+        Err(NotEntered::NoRecord),
     );
     check_users(&rt, &users, &[]);
     agree(&rt, enter_record(&mut users, record), Ok(()));

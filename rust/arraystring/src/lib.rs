@@ -22,7 +22,7 @@ pub mod drain;
 pub mod error;
 mod moves;
 #[cfg(feature = "alloc")]
-mod from_owned;
+mod owned_texts;
 #[cfg(feature = "std")]
 mod paths;
 mod range_ends;

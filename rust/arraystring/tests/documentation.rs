@@ -186,7 +186,7 @@ fn no_example_and_no_page_converts_by_a_cast() {
     for (file, line) in &lines {
         assert!(!casts(line), "{file}: {line}");
     }
-    for file in ["src/array_string.rs", "src/from_owned.rs", "examples/editor.rs", "README.md"] {
+    for file in ["src/array_string.rs", "src/owned_texts.rs", "examples/editor.rs", "README.md"] {
         assert!(lines.iter().any(|(found, _)| found == file), "{file} was not read");
     }
     assert!(casts("assert_eq!(&string[at as u8 + 1..], \"text\");") && casts("(len as usize)"));
@@ -213,7 +213,7 @@ fn what_a_feature_adds_names_it() {
             }
         }
     }
-    assert_eq!(named, 28, "the impls of `into_owned`, `from_owned`, `paths` and `serde_traits`");
+    assert_eq!(named, 28, "the impls of `into_owned`, `owned_texts`, `paths` and `serde_traits`");
 }
 
 /// The items of the file of a type in the order of rustdoc: those of its modules, one after the other, and then its own.

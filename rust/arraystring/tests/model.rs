@@ -12,6 +12,9 @@ use std::panic::{AssertUnwindSafe, catch_unwind, resume_unwind};
 use arraystring::error::{OutOfBounds, Utf8};
 use arraystring::utils::{is_char_boundary, truncate_str};
 use arraystring::{ArrayString, Drain, Error};
+use inputs::cut;
+
+mod inputs;
 
 /// How many calls are made at each capacity, if the environment does not say it.
 const CALLS: usize = 20_000;
@@ -65,12 +68,6 @@ impl Random {
         let limit = if self.below(8) == 0 { 256 } else { text.len() + 1 };
         self.below(limit.min(256)) as u8
     }
-}
-
-/// The longest leading run of whole characters that fits.
-fn cut(text: &str, room: usize) -> &str {
-    let end = (0..=room.min(text.len())).rev().find(|end| text.is_char_boundary(*end));
-    &text[..end.unwrap_or(0)]
 }
 
 /// A string and what its text has to be.

@@ -67,7 +67,7 @@ fn too_long(room: usize) -> [usize; 4] {
 
 // ---- Constructors ----
 
-fn from_str<const N: usize>() {
+fn from_str_unchecked<const N: usize>() {
     let most = capacity::<N>();
     for ch in WIDE.into_iter().filter(|ch| ch.len_utf8() <= most) {
         let text = "a".repeat(most - ch.len_utf8()) + &ch.to_string();
@@ -89,7 +89,7 @@ fn from_str<const N: usize>() {
 /// Runs of bytes that are no text, at the end of others.
 const NO_TEXT: [&[u8]; 6] = [&[0x80], &[0xC3], &[0xE2, 0x82], &[0xED, 0xA0, 0x80], &[0xF4, 0x90, 0x80, 0x80], &[0xFF]];
 
-fn from_utf8<const N: usize>() {
+fn from_utf8_unchecked<const N: usize>() {
     let most = capacity::<N>();
     for ch in WIDE.into_iter().filter(|ch| ch.len_utf8() <= most) {
         let text = "a".repeat(most - ch.len_utf8()) + &ch.to_string();
@@ -118,7 +118,7 @@ fn refused_at_the_last<T, R: Debug>(items: &[T], call: impl FnOnce(&mut dyn Iter
     assert_eq!(asked.get(), if IS_TESTED { items.len() } else { 0 });
 }
 
-fn from_iterator<const N: usize>() {
+fn from_iterator_unchecked<const N: usize>() {
     let most = capacity::<N>();
     for size in [1, 3, 16, 255].into_iter().filter(|size| *size <= most) {
         let mut pieces = vec!["a".repeat(size); most / size];
@@ -136,7 +136,7 @@ fn from_iterator<const N: usize>() {
     }
 }
 
-fn from_chars<const N: usize>() {
+fn from_chars_unchecked<const N: usize>() {
     let most = capacity::<N>();
     for ch in WIDE {
         let width = ch.len_utf8();
@@ -157,10 +157,10 @@ fn from_chars<const N: usize>() {
 
 #[test]
 fn what_a_string_is_made_of_fits_and_is_a_text() {
-    at_each_capacity!(from_str);
-    at_each_capacity!(from_utf8);
-    at_each_capacity!(from_iterator);
-    at_each_capacity!(from_chars);
+    at_each_capacity!(from_str_unchecked);
+    at_each_capacity!(from_utf8_unchecked);
+    at_each_capacity!(from_iterator_unchecked);
+    at_each_capacity!(from_chars_unchecked);
 }
 
 #[test]
@@ -188,7 +188,7 @@ fn the_constructors_of_a_cache_string_require_the_same() {
 
 // ---- Edits ----
 
-fn push<const N: usize>(is_moved: bool) {
+fn push_unchecked<const N: usize>(is_moved: bool) {
     let most = capacity::<N>();
     for ch in WIDE {
         let width = ch.len_utf8();
@@ -206,7 +206,7 @@ fn push<const N: usize>(is_moved: bool) {
     }
 }
 
-fn push_str<const N: usize>(is_moved: bool) {
+fn push_str_unchecked<const N: usize>(is_moved: bool) {
     let most = capacity::<N>();
     for len in [0, 1, 2, most / 2, most].into_iter().filter(|len| *len <= most) {
         let mut edited = string::<N>(len, is_moved);
@@ -223,7 +223,7 @@ fn push_str<const N: usize>(is_moved: bool) {
 }
 
 /// Inserts at each index of a text of characters of each width, at each that is none, and where there is no room.
-fn insert<const N: usize>(is_moved: bool, given: &str, insert: impl Fn(&mut ArrayString<N>, u8)) {
+fn insert_at_each_index<const N: usize>(is_moved: bool, given: &str, insert: impl Fn(&mut ArrayString<N>, u8)) {
     let most = capacity::<N>();
     let Some(room) = most.checked_sub(given.len()) else {
         // (nothing fits, at the one index that there is)
@@ -258,23 +258,31 @@ fn insert<const N: usize>(is_moved: bool, given: &str, insert: impl Fn(&mut Arra
     }
 }
 
-fn inserts<const N: usize>(is_moved: bool) {
+fn insert_unchecked<const N: usize>(is_moved: bool) {
     for ch in WIDE {
         // SAFETY: the index is a boundary and the character fits, or it panics.
-        insert::<N>(is_moved, &ch.to_string(), |string, index| unsafe { string.insert_unchecked(index, ch) });
+        insert_at_each_index::<N>(is_moved, &ch.to_string(), |string, index| unsafe {
+            string.insert_unchecked(index, ch)
+        });
     }
+}
+
+fn insert_str_unchecked<const N: usize>(is_moved: bool) {
     for len in [1, 2, 3, 17, 255, 256, 512] {
         let given = "é".repeat(len / 2) + &"b".repeat(len % 2);
         // SAFETY: the index is a boundary and the text fits, or it panics.
-        insert::<N>(is_moved, &given, |string, index| unsafe { string.insert_str_unchecked(index, &given) });
+        insert_at_each_index::<N>(is_moved, &given, |string, index| unsafe {
+            string.insert_str_unchecked(index, &given)
+        });
     }
 }
 
 fn edits<const N: usize>() {
     for is_moved in [false, true] {
-        push::<N>(is_moved);
-        push_str::<N>(is_moved);
-        inserts::<N>(is_moved);
+        push_unchecked::<N>(is_moved);
+        push_str_unchecked::<N>(is_moved);
+        insert_unchecked::<N>(is_moved);
+        insert_str_unchecked::<N>(is_moved);
     }
 }
 

@@ -186,11 +186,14 @@ fn errors_are_errors() {
     let lone = char::decode_utf16([0xD800]).next().unwrap().unwrap_err();
     assert_eq!((Error::from(lone.clone()), Utf16::from(lone)), (Error::Utf16, Utf16));
     assert_eq!(Error::from(String::from_utf8(vec![0xFF]).unwrap_err().utf8_error()), Error::Utf8);
-    fn both(text: &str, units: &[u16]) -> Result<Name, Error> {
+    fn text_then_units(text: &str, units: &[u16]) -> Result<Name, Error> {
         Name::try_from_str(text)?;
         Ok(Name::from_utf16(units)?)
     }
-    assert_eq!((both("123456789", &[]), both("", &[0xDC00])), (Err(Error::OutOfBounds), Err(Error::Utf16)));
+    assert_eq!(
+        (text_then_units("123456789", &[]), text_then_units("", &[0xDC00])),
+        (Err(Error::OutOfBounds), Err(Error::Utf16))
+    );
 }
 
 #[test]
@@ -313,7 +316,7 @@ const KINDS: &[Kind] = &[
 const SOURCES: &[&str] = &[
     include_str!("../src/rust_traits.rs"),
     #[cfg(feature = "alloc")]
-    include_str!("../src/from_owned.rs"),
+    include_str!("../src/owned_texts.rs"),
 ];
 
 /// How many items are taken at most: what has no end is not taken without end.

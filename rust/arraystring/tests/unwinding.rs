@@ -6,7 +6,7 @@ use std::ops::{Bound, RangeBounds};
 use std::panic::{AssertUnwindSafe, catch_unwind};
 
 use arraystring::ArrayString;
-use states::{WIDTHS, at_each_capacity, cases, counts, length, string_counts, texts};
+use states::{MadeAndWanted, WIDTHS, at_each_capacity, cases, counts, length, string_counts, texts};
 
 #[path = "every_state/states.rs"]
 mod states;
@@ -338,7 +338,7 @@ fn total<const N: usize>() -> usize {
 
 #[test]
 fn a_closure_panics_at_each_call_on_every_string() {
-    fn retained<const N: usize>() -> (usize, usize) {
+    fn retained<const N: usize>() -> MadeAndWanted {
         let (mut made, mut wanted) = (0, 0);
         for case in cases::<N>(&WIDTHS) {
             for stops in 0..length(&case.text) {
@@ -361,7 +361,7 @@ fn a_closure_panics_at_each_call_on_every_string() {
 
 #[test]
 fn the_drop_of_a_closure_panics_on_every_string() {
-    fn dropped<const N: usize>() -> (usize, usize) {
+    fn dropped<const N: usize>() -> MadeAndWanted {
         let (mut made, mut wanted) = (0, 0);
         for case in cases::<N>(&WIDTHS) {
             for pattern in 0..1 << length(&case.text) {
@@ -417,7 +417,7 @@ impl Display for Written<'_> {
 
 #[test]
 fn an_iterator_panics_at_each_call_on_every_string() {
-    fn added<const N: usize>() -> (usize, usize) {
+    fn added<const N: usize>() -> MadeAndWanted {
         let mut made = 0;
         let texts = texts(&WIDTHS, N + 2);
         for case in cases::<N>(&WIDTHS) {
@@ -462,7 +462,7 @@ fn an_iterator_panics_at_each_call_on_every_string() {
 
 #[test]
 fn an_iterator_panics_where_a_string_is_made() {
-    fn made<const N: usize>() -> (usize, usize) {
+    fn made<const N: usize>() -> MadeAndWanted {
         let (mut made, mut panicked) = (0, 0);
         let texts = texts(&WIDTHS, N + 2);
         for given in &texts {
@@ -511,7 +511,7 @@ impl RangeBounds<u8> for Asked {
 
 #[test]
 fn a_text_or_a_range_panics_on_every_string() {
-    fn unchanged<const N: usize>() -> (usize, usize) {
+    fn unchanged<const N: usize>() -> MadeAndWanted {
         let (mut made, index) = (0, 0);
         for case in cases::<N>(&WIDTHS) {
             let (none, left) = (|| Item(None), (true, case.text.clone()));

@@ -1,4 +1,4 @@
-//! Holds each item of the Rust crate beside that of its source.
+//! Compares each item of the Rust crate with that of its source.
 
 use std::collections::{BTreeMap, BTreeSet};
 
@@ -201,7 +201,7 @@ impl Comparison<'_> {
         }
     }
 
-    /// Holds an item of Rust beside its source, which is in one of some files.
+    /// Compares an item of Rust with its source, which is in one of some files.
     fn item(&mut self, rust: &Ruled, named: &[String]) {
         let path = &rust.item.path;
         let is_like = |source: &Ruled| source.item.path == *path && named.contains(&source.item.file);

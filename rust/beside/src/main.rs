@@ -1,4 +1,4 @@
-//! Holds each function of the Rust crate beside its proved source. README.md has the rules.
+//! Compares each function of the Rust crate with its proved source. README.md has the rules.
 //!
 //!     cargo run --release -- [--root FOLDER] [--print PATH]
 

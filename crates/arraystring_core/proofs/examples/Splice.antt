@@ -5,7 +5,7 @@ use Rattle.arraystring_base.specs.Text.{width}
 use Rattle.arraystring_base.specs.Counts.{Counts}
 use Rattle.arraystring_core.specs.Splice.{ReplacesPart}
 
--- four looks, and so many moves
+-- counters that stand at 4 looks, where they have to stay, and at n moves
 abbrev moves : ℕ → Counts
 moves n = record { looked = 4; moved = n }
 

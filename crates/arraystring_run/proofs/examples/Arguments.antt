@@ -68,11 +68,11 @@ size-length (c ∷ t) =
     ap₂ (λ m n. m + n) one (size-length t) ∙ sym (length-append (utf8 c) (bytes t))
 
 IsOnlyWord-256_bytes_need_not_be : IsOnlyWord (has 256) (replicate 256 0x61) none None
-IsOnlyWord-256_bytes_need_not_be = record { text = tt; alone = λ some. absurd (cc); whole = large }
+IsOnlyWord-256_bytes_need_not_be = record { text = tt; alone = λ some. absurd (cc); whole = no_text_has_256_bytes }
   where
-    large : (t : List ℕ) (n : ℕ) → IsText t → size t ≤ 255 → has 256 ≡ has n → n ≤ 256 → bytes t ≡ take n (replicate 256 0x61)
+    no_text_has_256_bytes : (t : List ℕ) (n : ℕ) → IsText t → size t ≤ 255 → has 256 ≡ has n → n ≤ 256 → bytes t ≡ take n (replicate 256 0x61)
         → none ≡ none → IsSome {T = Stored} None
-    large t n is fits e long same alone =
+    no_text_has_256_bytes t n is fits e long same alone =
         let m : n ≡ 256 = cc in
         let all : length (bytes t) ≡ 256 = ap length (subst (λ k. bytes t ≡ take k (replicate 256 0x61)) m same) in
         absurd (omega (arith, size-length t))
@@ -80,14 +80,14 @@ IsOnlyWord-256_bytes_need_not_be = record { text = tt; alone = λ some. absurd (
 -- ED A0 80 would be the UTF-8 of the surrogate D800
 IsOnlyWord-no_utf8_is_no_word : IsOnlyWord (has 3) (0xED ∷ 0xA0 ∷ 0x80 ∷ []) none None
 unfolding utf8
-IsOnlyWord-no_utf8_is_no_word = record { text = tt; alone = λ some. absurd (cc); whole = ill }
+IsOnlyWord-no_utf8_is_no_word = record { text = tt; alone = λ some. absurd (cc); whole = no_text_has_these_bytes }
   where
-    surrogate : (c : ℕ) (t : List ℕ) → IsScalarValue c → utf8 c ++ bytes t ≡ 0xED ∷ 0xA0 ∷ 0x80 ∷ [] → ⊥
-    surrogate c t is e = grind arith
+    no_character_begins_them : (c : ℕ) (t : List ℕ) → IsScalarValue c → utf8 c ++ bytes t ≡ 0xED ∷ 0xA0 ∷ 0x80 ∷ [] → ⊥
+    no_character_begins_them c t is e = grind arith
 
-    ill : (t : List ℕ) (n : ℕ) → IsText t → size t ≤ 255 → has 3 ≡ has n → n ≤ 3 → bytes t ≡ take n (0xED ∷ 0xA0 ∷ 0x80 ∷ [])
+    no_text_has_these_bytes : (t : List ℕ) (n : ℕ) → IsText t → size t ≤ 255 → has 3 ≡ has n → n ≤ 3 → bytes t ≡ take n (0xED ∷ 0xA0 ∷ 0x80 ∷ [])
         → none ≡ none → IsSome {T = Stored} None
-    ill [] n is fits e long same alone = let m : n ≡ 3 = cc in absurd (grind arith)
-    ill (c ∷ t) n is fits e long same alone =
+    no_text_has_these_bytes [] n is fits e long same alone = let m : n ≡ 3 = cc in absurd (grind arith)
+    no_text_has_these_bytes (c ∷ t) n is fits e long same alone =
         let m : n ≡ 3 = cc in
-        absurd (surrogate c t is.0 (subst (λ k. bytes (c ∷ t) ≡ take k (0xED ∷ 0xA0 ∷ 0x80 ∷ [])) m same))
+        absurd (no_character_begins_them c t is.0 (subst (λ k. bytes (c ∷ t) ≡ take k (0xED ∷ 0xA0 ∷ 0x80 ∷ [])) m same))

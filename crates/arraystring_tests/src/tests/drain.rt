@@ -175,7 +175,7 @@ fn what_is_left_is_compared_and_printed(rt: HostRuntime) {
     check_comparisons(
         &rt,
         "
-        # player: comparisons
+        # player: drain_comparisons
         a[bc]d     | cmp | | x[bc]       | Equal
         a[bc]d     | cmp | | [abcd]      | Greater
         [\u{FFFF}] | cmp | | [\u{10000}] | Less

@@ -71,12 +71,12 @@ fn the_capacity_is_a_constant() {
     }
     at_capacities!(at);
     assert_eq!((CacheString::CAPACITY, CacheString::capacity()), (63, 63));
-    // It is the length of an array.
+    // As a constant it can stand as the length of an array.
     assert_eq!(([0u8; MaxString::CAPACITY].len(), [0u8; CacheString::CAPACITY].len()), (255, 63));
 }
 
 #[test]
-fn a_text_is_shown_at_each_length() {
+fn a_text_is_hashed_printed_and_copied_at_each_length() {
     fn at<const N: usize>() {
         for len in 0..=capacity::<N>() {
             for text in texts_of(len).into_iter().take(if N > 65 { 2 } else { 3 }) {

@@ -6,7 +6,7 @@ use std::fmt::{self, Display, Write};
 use arraystring::ArrayString;
 
 use crate::limited::Limited;
-use crate::states::{Case, WIDTHS, at_each_capacity, cases, counts, length, string_counts, texts};
+use crate::states::{Case, MadeAndWanted, WIDTHS, at_each_capacity, cases, counts, length, string_counts, texts};
 
 /// Characters that are white space, of one to three bytes, and a letter.
 pub const SPACES: [char; 4] = ['Z', ' ', '\u{85}', '\u{2003}'];
@@ -34,7 +34,7 @@ fn trimmed(text: &mut String, by: impl Fn(&str) -> &str) {
 
 #[test]
 fn edits_without_an_argument() {
-    fn plain<const N: usize>() -> (usize, usize) {
+    fn plain<const N: usize>() -> MadeAndWanted {
         let mut made = 0;
         for case in cases::<N>(&WIDTHS).iter().chain(&cases(&SPACES)) {
             let popped = case.wanted(|model| model.text.pop());
@@ -56,7 +56,7 @@ fn edits_without_an_argument() {
 
 #[test]
 fn edits_at_an_index() {
-    fn by_index<const N: usize>() -> (usize, usize) {
+    fn by_index<const N: usize>() -> MadeAndWanted {
         let mut made = 0;
         for case in cases::<N>(&WIDTHS) {
             for index in indices(N) {
@@ -87,7 +87,7 @@ fn halves(text: &str) -> impl Iterator<Item = (&str, &str)> {
 
 #[test]
 fn additions_of_a_text() {
-    fn added<const N: usize>() -> (usize, usize) {
+    fn added<const N: usize>() -> MadeAndWanted {
         let mut made = 0;
         let texts = texts(&WIDTHS, N + 2);
         for case in cases::<N>(&WIDTHS) {
@@ -162,7 +162,7 @@ impl Display for Printed<'_> {
 
 #[test]
 fn additions_of_items() {
-    fn extended<const N: usize>() -> (usize, usize) {
+    fn extended<const N: usize>() -> MadeAndWanted {
         let mut made = 0;
         let texts = texts(&WIDTHS, N + 2);
         for case in cases::<N>(&WIDTHS) {
@@ -204,7 +204,7 @@ fn additions_of_items() {
 
 #[test]
 fn additions_of_a_character() {
-    fn character<const N: usize>() -> (usize, usize) {
+    fn character<const N: usize>() -> MadeAndWanted {
         let mut made = 0;
         for case in cases::<N>(&WIDTHS) {
             for ch in WIDTHS {
@@ -240,7 +240,7 @@ fn additions_of_a_character() {
 
 #[test]
 fn insertions_of_a_text() {
-    fn inserted<const N: usize>() -> (usize, usize) {
+    fn inserted<const N: usize>() -> MadeAndWanted {
         let (mut made, mut unchecked) = (0, 0);
         let texts = texts(&WIDTHS, N + 2);
         for case in cases::<N>(&WIDTHS) {
@@ -270,7 +270,7 @@ fn insertions_of_a_text() {
 
 #[test]
 fn characters_that_are_kept() {
-    fn retained<const N: usize>() -> (usize, usize) {
+    fn retained<const N: usize>() -> MadeAndWanted {
         let (mut made, mut wanted) = (0, 0);
         for case in cases::<N>(&WIDTHS) {
             for pattern in 0..1 << length(&case.text) {

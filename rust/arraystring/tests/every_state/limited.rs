@@ -5,11 +5,7 @@ use std::ops::Bound;
 use arraystring::Error;
 use arraystring::error::{OutOfBounds, Utf8};
 
-/// The longest leading run of whole characters that takes at most so many bytes.
-pub fn cut(text: &str, room: usize) -> &str {
-    let ends = text.char_indices().map(|(at, ch)| at + ch.len_utf8());
-    &text[..ends.take_while(|end| *end <= room).last().unwrap_or(0)]
-}
+use crate::inputs::cut;
 
 /// A range over `u8` with the ends of one over `usize`, which std's calls take.
 pub fn wide((start, end): (Bound<u8>, Bound<u8>)) -> (Bound<usize>, Bound<usize>) {

@@ -7,7 +7,7 @@ use arraystring::ArrayString;
 use arraystring::utils::is_char_boundary;
 
 use crate::edits::{indices, total};
-use crate::states::{WIDTHS, at_each_capacity, cases, texts};
+use crate::states::{MadeAndWanted, WIDTHS, at_each_capacity, cases, texts};
 
 fn hash_of<T: Hash + ?Sized>(value: &T) -> u64 {
     let mut state = DefaultHasher::new();
@@ -30,7 +30,7 @@ fn shows<const N: usize>(string: &ArrayString<N>, text: &str) {
 
 #[test]
 fn what_a_string_shows() {
-    fn shown<const N: usize>() -> (usize, usize) {
+    fn shown<const N: usize>() -> MadeAndWanted {
         let mut made = 0;
         for case in cases::<N>(&WIDTHS) {
             for string in &case.strings {
@@ -46,7 +46,7 @@ fn what_a_string_shows() {
 
 #[test]
 fn boundaries_of_a_string() {
-    fn boundaries<const N: usize>() -> (usize, usize) {
+    fn boundaries<const N: usize>() -> MadeAndWanted {
         let mut made = 0;
         for case in cases::<N>(&WIDTHS) {
             for index in indices(N) {
@@ -62,7 +62,7 @@ fn boundaries_of_a_string() {
 
 #[test]
 fn strings_beside_each_other() {
-    fn strings<const N: usize>() -> (usize, usize) {
+    fn strings<const N: usize>() -> MadeAndWanted {
         let mut made = 0;
         let cases = cases::<N>(&WIDTHS);
         for (one, other) in cases.iter().flat_map(|one| cases.iter().map(move |other| (one, other))) {
@@ -105,7 +105,7 @@ fn is_beside<const N: usize>(string: &ArrayString<N>, text: &str, other: &str) {
 
 #[test]
 fn each_string_is_compared_with_each_text() {
-    fn beside<const N: usize>() -> (usize, usize) {
+    fn beside<const N: usize>() -> MadeAndWanted {
         let mut made = 0;
         let texts = texts(&WIDTHS, N + 2);
         for case in cases::<N>(&WIDTHS) {

@@ -5,8 +5,9 @@ use arraystring::utils::{encode, is_boundary, is_inside_boundary, shift, truncat
 use arraystring::{ArrayString, Error};
 
 use crate::edits::{all_pieces, indices, piece_counts};
-use crate::limited::{Limited, cut};
-use crate::states::{WIDTHS, at_each_capacity, counts, texts};
+use crate::inputs::cut;
+use crate::limited::Limited;
+use crate::states::{MadeAndWanted, WIDTHS, at_each_capacity, counts, texts};
 
 type Made<const N: usize> = Result<ArrayString<N>, Error>;
 
@@ -59,7 +60,7 @@ unsafe fn unchecked_of<const N: usize>(given: &str) -> [Made<N>; 3] {
 
 #[test]
 fn made_of_a_text() {
-    fn of_a_text<const N: usize>() -> (usize, usize) {
+    fn of_a_text<const N: usize>() -> MadeAndWanted {
         let mut made = 0;
         for given in texts(&WIDTHS, N + 2) {
             let (cuts, wholes) = (texts_of(cuts_of::<N>(&given)), texts_of(wholes_of::<N>(&given)));
@@ -89,7 +90,7 @@ fn made_of_a_text() {
 
 #[test]
 fn made_of_items() {
-    fn of_items<const N: usize>() -> (usize, usize) {
+    fn of_items<const N: usize>() -> MadeAndWanted {
         let (mut made, mut unchecked) = (0, 0);
         for given in texts(&WIDTHS, N + 2) {
             let left_of = |pieces: &[&str]| pieces.len() - Limited::new("", N).extend(pieces);
@@ -139,7 +140,8 @@ fn made_of_bytes() {
     /// The bytes of the characters of each width, a byte that no text has, and the number of bytes of the longest list.
     const BYTES: [u8; 11] = [b'a', 0xC3, 0xA9, 0xE2, 0x82, 0xAC, 0xF0, 0x9F, 0xA4, 0x94, 0xFF];
     const MOST: usize = 5;
-    fn of_bytes<const N: usize>() -> (usize, usize) {
+    /// Makes strings of each list of these bytes.
+    fn of_bytes<const N: usize>() -> MadeAndWanted {
         let mut made = 0;
         for given in lists(&BYTES, MOST) {
             let text = String::from_utf8(given.clone()).ok();
@@ -178,7 +180,7 @@ fn read_units(units: &[u16], size: usize) -> (String, Option<Error>) {
 fn made_of_units() {
     /// A unit of each width, and the halves of a pair.
     const UNITS: [u16; 5] = [0x61, 0xE9, 0x20AC, 0xD83E, 0xDD14];
-    fn of_units<const N: usize>() -> (usize, usize) {
+    fn of_units<const N: usize>() -> MadeAndWanted {
         let mut made = 0;
         for units in lists(&UNITS, N + 2) {
             let (text, stop) = read_units(&units, N);
@@ -201,7 +203,7 @@ fn made_of_units() {
 
 #[test]
 fn cuts_and_boundaries_of_a_text() {
-    fn cuts<const N: usize>() -> (usize, usize) {
+    fn cuts<const N: usize>() -> MadeAndWanted {
         let mut made = 0;
         for text in texts(&WIDTHS, N + 2) {
             for size in indices(N) {
@@ -224,7 +226,7 @@ fn letters<const N: usize>() -> [u8; N] {
 
 #[test]
 fn moves_in_an_array() {
-    fn moves<const N: usize>() -> (usize, usize) {
+    fn moves<const N: usize>() -> MadeAndWanted {
         let mut made = 0;
         for len in 0..=N {
             for (from, to) in (0..=N - len).flat_map(|from| (0..=N - len).map(move |to| (from, to))) {
@@ -243,7 +245,7 @@ fn moves_in_an_array() {
 
 #[test]
 fn characters_in_an_array() {
-    fn characters<const N: usize>() -> (usize, usize) {
+    fn characters<const N: usize>() -> MadeAndWanted {
         let mut made = 0;
         let array = letters::<N>();
         for ch in WIDTHS {

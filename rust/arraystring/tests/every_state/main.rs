@@ -3,7 +3,10 @@
 //!
 //! The variable `ARRAYSTRING_CAPACITY` of the environment says how far the capacities go.
 
-use states::{WIDTHS, at_each_capacity, cases, counts, offset, string_counts, texts};
+use states::{MadeAndWanted, WIDTHS, at_each_capacity, cases, counts, offset, string_counts, texts};
+
+#[path = "../inputs/mod.rs"]
+mod inputs;
 
 mod edits;
 mod limited;
@@ -14,7 +17,7 @@ mod states;
 
 #[test]
 fn every_string_is_there_once() {
-    fn strings<const N: usize>() -> (usize, usize) {
+    fn strings<const N: usize>() -> MadeAndWanted {
         let cases = cases::<N>(&WIDTHS);
         let texts = texts(&WIDTHS, N);
         assert_eq!(cases.iter().map(|case| &case.text).collect::<Vec<_>>(), texts.iter().collect::<Vec<_>>());

@@ -9,7 +9,7 @@ use arraystring::{ArrayString, Drain};
 
 use crate::edits::{indices, total};
 use crate::limited::wide;
-use crate::states::{WIDTHS, at_each_capacity, cases, length, texts};
+use crate::states::{MadeAndWanted, WIDTHS, at_each_capacity, cases, length, texts};
 
 type Ends = (Bound<u8>, Bound<u8>);
 
@@ -48,7 +48,7 @@ fn returned<T>(call: impl FnOnce() -> T) -> Option<T> {
 
 #[test]
 fn parts_between_two_bounds() {
-    fn parts<const N: usize>() -> (usize, usize) {
+    fn parts<const N: usize>() -> MadeAndWanted {
         let mut made = 0;
         for case in cases::<N>(&WIDTHS) {
             for range in ranges(N) {
@@ -69,7 +69,7 @@ fn parts_between_two_bounds() {
 
 #[test]
 fn capitals_between_two_bounds() {
-    fn capitals<const N: usize>() -> (usize, usize) {
+    fn capitals<const N: usize>() -> MadeAndWanted {
         const CAPITALS: [char; 4] = ['A', 'É', '€', '🤔'];
         let mut made = 0;
         for case in cases::<N>(&CAPITALS) {
@@ -88,7 +88,7 @@ fn capitals_between_two_bounds() {
 
 #[test]
 fn drains_between_two_bounds() {
-    fn drained<const N: usize>() -> (usize, usize) {
+    fn drained<const N: usize>() -> MadeAndWanted {
         let mut made = 0;
         for case in cases::<N>(&WIDTHS) {
             for range in ranges(N) {
@@ -103,7 +103,7 @@ fn drains_between_two_bounds() {
 
 #[test]
 fn replacements_between_two_bounds() {
-    fn replaced<const N: usize>() -> (usize, usize) {
+    fn replaced<const N: usize>() -> MadeAndWanted {
         let mut made = 0;
         let texts = texts(&WIDTHS, N + 2);
         for case in cases::<N>(&WIDTHS) {
@@ -135,7 +135,7 @@ macro_rules! by_kind {
 
 #[test]
 fn each_kind_of_range() {
-    fn kinds<const N: usize>() -> (usize, usize) {
+    fn kinds<const N: usize>() -> MadeAndWanted {
         let mut made = 0;
         for case in &cases::<N>(&WIDTHS) {
             made += by_kind!(case, .., ..);
@@ -185,7 +185,7 @@ fn walked<const N: usize>(drain: Drain<N>, left: &str) -> usize {
 
 #[test]
 fn every_walk_of_a_drain() {
-    fn walks<const N: usize>() -> (usize, usize) {
+    fn walks<const N: usize>() -> MadeAndWanted {
         let (mut made, mut wanted) = (0, 0);
         for case in cases::<N>(&WIDTHS) {
             let len = case.text.len() as u8;
@@ -208,7 +208,7 @@ fn every_walk_of_a_drain() {
 
 #[test]
 fn drains_beside_each_other() {
-    fn drains<const N: usize>() -> (usize, usize) {
+    fn drains<const N: usize>() -> MadeAndWanted {
         let mut made = 0;
         let cases = cases::<N>(&WIDTHS);
         let all = |string: &ArrayString<N>| { *string }.drain(..).expect("all of it");

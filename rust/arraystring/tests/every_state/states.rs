@@ -16,8 +16,10 @@ fn greatest_capacity() -> usize {
     })
 }
 
-/// Calls a generic check at each capacity up to the greatest. What the check returns is how many calls it made, and how many
-/// those had to be.
+/// What a check returns: how many calls it made, and how many it had to make.
+pub type MadeAndWanted = (usize, usize);
+
+/// Calls a generic check at each capacity up to the greatest, and asserts that it made as many calls as it had to.
 macro_rules! at_each_capacity {
     ($check:ident) => {
         $crate::states::checked_at_each_capacity(
@@ -28,7 +30,7 @@ macro_rules! at_each_capacity {
 }
 pub(crate) use at_each_capacity;
 
-pub fn checked_at_each_capacity(name: &str, checks: &[fn() -> (usize, usize)]) {
+pub fn checked_at_each_capacity(name: &str, checks: &[fn() -> MadeAndWanted]) {
     let greatest = greatest_capacity();
     assert!(greatest < checks.len(), "no capacity of {greatest} is gone through");
     let mut all = 0;

@@ -222,7 +222,7 @@ fn walked<const N: usize>(table: &str) -> usize {
 /// Comparisons of drains, of which `[ ]` has in it what is left after a step from each end. The columns are
 ///
 ///     one drain | `cmp` | | the other | order
-pub fn comparisons(table: &Table) -> usize {
+pub fn drain_comparisons(table: &Table) -> usize {
     rows(&table.text)
         .inspect(|row| {
             let (one, other) = (left(column(row, 0)), left(column(row, 3)));

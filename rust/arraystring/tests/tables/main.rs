@@ -23,9 +23,9 @@ type Player = (&'static str, usize, fn(&Table) -> usize);
 
 const PLAYERS: &[Player] = &[
     ("calls", 500, calls::calls),
-    ("comparisons", 4, decoding_and_order::comparisons),
     ("constructors", 20, made::constructors),
     ("cuts", 18, decoding_and_order::cuts),
+    ("drain_comparisons", 4, decoding_and_order::drain_comparisons),
     ("drains", 10, decoding_and_order::drains),
     ("extension", 5, made::extension),
     ("last_characters", 8, decoding_and_order::last_characters),

@@ -4,7 +4,8 @@
 /// The lengths of what is given: to more than twice what any string takes.
 pub const GIVEN: std::ops::RangeInclusive<usize> = 0..=600;
 
-/// The longest prefix of whole characters that takes at most so many bytes.
+/// The longest prefix of whole characters that takes at most so many bytes. It goes from character to character; `cut` in
+/// `arraystring/tests/inputs` asks std for boundaries.
 pub fn cut(text: &str, size: usize) -> &str {
     let end = text.char_indices().map(|(at, ch)| at + ch.len_utf8()).take_while(|end| *end <= size).last();
     &text[..end.unwrap_or(0)]
