@@ -22,11 +22,22 @@ fn start<const N: usize>(string: &ArrayString<N>) -> usize {
     distance(string) - distance(&ArrayString::<N>::new())
 }
 
-/// All bytes of the array, also those around the text.
+/// All bytes of the array of a string that [`with_values`] made, also those around the text.
 fn array<const N: usize>(string: &ArrayString<N>) -> &[u8] {
     let place = std::ptr::from_ref(string).cast::<u8>();
     // SAFETY: the array is a part of the value, from there on, and each byte of it has a value.
     unsafe { slice::from_raw_parts(place.add(distance(&ArrayString::<N>::new())), N) }
+}
+
+/// The same string with a value in each byte around the text, which has none in a new one.
+fn with_values<const N: usize>(mut string: ArrayString<N>) -> ArrayString<N> {
+    let (first, text) = (distance(&ArrayString::<N>::new()), start(&string)..start(&string) + string.len() as usize);
+    let place = std::ptr::from_mut(&mut string).cast::<u8>();
+    for at in (0..N).filter(|at| !text.contains(at)) {
+        // SAFETY: the array is a part of the value, from there on, and each byte around the text may have any value.
+        unsafe { place.add(first + at).write((at * 7 + at / 256) as u8 ^ 0xA5) };
+    }
+    string
 }
 
 /// Asserts that an edit leaves the text at a start offset, and writes no byte of the array but some.
@@ -44,7 +55,7 @@ fn strings<const N: usize>() -> impl Iterator<Item = ArrayString<N>> {
     let places = lengths.flat_map(|len| (0..=capacity::<N>() - len).map(move |offset| (len, offset)));
     places.map(|(len, offset)| {
         let texts = [letters(len), mixed(len, offset), format!("{:^len$}", &"x"[..len.min(1)])];
-        behind(offset, &texts[(len + offset) % 3])
+        with_values(behind(offset, &texts[(len + offset) % 3]))
     })
 }
 
