@@ -1,6 +1,6 @@
 // By hand: no proof stands behind this file.
 //! Reads and writes without a bounds check, and texts and characters that are made without a test. Each macro has the name of the
-//! call of std that it stands for.
+//! call of std that it stands for. Behind them stand the places of an array, of which some have no value yet.
 //!
 //! The proved sources never panic. So each index and each part in them is within bounds, each copy is between parts of one length,
 //! and no `unreachable!()` is reached. rustc does not see that proof. Without these macros it would test all this again.
