@@ -116,6 +116,7 @@ fn what_does_not_compile_beside_it_compiles_here() {
     let text = String::from("ab");
     assert_eq!(is_of!(table, "arrayvec, `String`", Name::from(&text)).as_deref(), Ok("ab"));
     table.row("text.into()").says(0, "String");
+    table.row("text.to_owned()").says(0, "String");
     assert_eq!(is_of!(table, "arrayvec", Name::new_const()).as_str(), "");
     table.row("Name::with_capacity(at)").says(0, "String");
     assert_eq!(is_of!(table, "arrayvec", Name::from_byte_string(b"abcd")).as_deref(), Ok("abcd"));
