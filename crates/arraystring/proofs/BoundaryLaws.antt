@@ -96,3 +96,19 @@ boundary-before_char t i p c b is =
     let long : size p + width c ≡ i = omega (arith, ap size is, size-append p (c ∷ []), front-size t i b) in
     let place = boundary-before t i p c (i - width c) is (omega arith) in
     (sym is, omega arith, place.0, place.1, place.2)
+
+-- the place behind the character at a boundary is a boundary, too: before it is what was there and this character. (`grind` finds it by
+-- the first equation.)
+pub boundary-after_char : (t : List ℕ) (i c : ℕ) (rest : List ℕ) → boundary t i ≡ true → back t i ≡ c ∷ rest
+    → (c ∷ rest ≡ back t i) × (boundary t (i + width c) ≡ true) × (front t (i + width c) ≡ front t i ++ c ∷ [])
+    × (back t (i + width c) ≡ rest)
+boundary-after_char t i c rest b is =
+    let before = front t i ++ c ∷ [] in
+    let parts : t ≡ before ++ rest =
+    sym (front-back t i) ∙ ap (λ l. front t i ++ l) is ∙ sym (append_assoc (front t i) (c ∷ []) rest) in
+    let long : size before ≡ i + width c = omega (arith, size-append (front t i) (c ∷ []), front-size t i b) in (
+      sym is,
+      ap (λ l. boundary l (i + width c)) parts ∙ boundary-is before rest (i + width c) long,
+      ap (λ l. front l (i + width c)) parts ∙ front-is before rest (i + width c) long,
+      ap (λ l. back l (i + width c)) parts ∙ back-is before rest (i + width c) long,
+    )

@@ -10,7 +10,7 @@ use Rattle.arraystring_base.specs.Text.{IsText, size, bytes, front, back, bounda
 use Rattle.arraystring_base.proofs.TextLaws.{bytes-is, bytes_same, bytes-chars, bytes-utf8, chars-bytes, size-append, text-chars, utf8-is, width-bounds}
 use Rattle.arraystring_base.proofs.BoundaryLaws.{back-text, bytes-front, front-back, front-size, front-text}
 use Rattle.arraystring.proofs.CharacterLaws.{spelled-at}
-use Rattle.arraystring.proofs.SplitLaws.{joined-last, none-last}
+use Rattle.arraystring.proofs.SplitLaws.{joined-last, none-last, position-inside}
 
 -- t is `before`, the character c and `after`, and c is not in `after`
 record IsSplitAtLast (c : ℕ) (t before after : List ℕ) : Type 0 where
@@ -25,6 +25,9 @@ spelled t part is e = chars-bytes (rw e (bytes-utf8 t is)) e
 module _ {c : ℕ} {t before after : List ℕ} (split : IsSplitAtLast c t before after) where
   split-last : (before_last (λ d. d == c) t ≡ before) × (after_last (λ d. d == c) t ≡ after)
   split-last = rw split.parts (joined-last (λ d. d == c) before c after (eq-eqb c c refl) split.none_after)
+
+  split-inside : position_or_len (λ d. d == c) t < length t
+  split-inside = rw split.parts (position-inside (λ d. d == c) before c after (eq-eqb c c refl))
 
 module _ {bs : List ℕ} (u : IsUtf8 bs) (c : ℕ) where
   -- what has no c
@@ -90,9 +93,9 @@ module _ {bs : List ℕ} (u : IsUtf8 bs) (c : ℕ) where
       × (before_last (λ d. d == c) (chars bs) ≡ []) × (after_last (λ d. d == c) (chars bs) ≡ chars bs))
       (λ x. (chars x.0.now ≡ before_last (λ d. d == c) (chars bs))
       × (chars x.1.now ≡ after_last (λ d. d == c) (chars bs)) × (chars bs ≡ chars x.0.now ++ c ∷ chars x.1.now)
-      × NonePass (λ d. d == c) (chars x.1.now))
+      × NonePass (λ d. d == c) (chars x.1.now) × (position_or_len (λ d. d == c) (chars bs) < length (chars bs)))
   rsplit_once-last None found = none-found found
   rsplit_once-last (Some x) found =
       let at = split found.2 in
       let is = split-last at in
-      rw (found.3, found.4, chars-before found.2, chars-after found.2) (sym is.0, sym is.1, at.parts, at.none_after)
+      rw (found.3, found.4, chars-before found.2, chars-after found.2) (sym is.0, sym is.1, at.parts, at.none_after, split-inside at)

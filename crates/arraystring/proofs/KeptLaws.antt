@@ -1,8 +1,8 @@
 -- What `retain` leaves, if its closure remembers something of the characters so far (specs/Loops).
-use Rattle.std.proofs.Common.{◌≡◌, List, [], ◌∷◌, Bool, true, false, refl, ap, ◌∙◌, arith, length, if◌then◌else◌}
+use Rattle.std.proofs.Common.{◌≡◌, ℕ, List, [], ◌∷◌, ◌++◌, Bool, true, false, refl, ap, ◌∙◌, arith, length, if◌then◌else◌}
 use Rattle.std.specs.List.{items_where_true}
 use Rattle.std.specs.List.Retain.{IsFiltered, ReturnsInTurn}
-use Rattle.arraystring.specs.Loops.{kept}
+use Rattle.arraystring.specs.Loops.{kept, traced}
 
 -- one item more
 pick : {X : Type 0} (b v : Bool) (x : X) (bs : List Bool) (xs zs : List X) → b ≡ v → items_where_true bs xs ≡ zs
@@ -26,3 +26,15 @@ module _ {X P S : Type 0} (R : P → X → Bool → P → Type 0) (seen : P → 
   -- so the text is what is kept
   pub kept-from_retain : (p : P) (xs ys : List X) → IsFiltered R p xs ys → ys ≡ kept next keeps (seen p) xs
   kept-from_retain p xs ys is = is.4 ∙ in-turn xs p is.0 is.1 is.2 is.3
+
+-- a loop leaves the same: its piece of a character is this character if it is kept, and else nothing
+pub kept-traced : {S : Type 0} (next : S → ℕ → S) (keeps : S → ℕ → Bool) (s : S) (t : List ℕ)
+    → kept next keeps s t ≡ traced next (λ s c. if keeps s c then c ∷ [] else []) s t
+kept-traced next keeps s [] = refl
+kept-traced next keeps s (c ∷ t) =
+    let rest = kept-traced next keeps (next s c) t in
+    elim (keeps s c) as (λ keep. (if keep then c ∷ kept next keeps (next s c) t else kept next keeps (next s c) t)
+    ≡ (if keep then c ∷ [] else []) ++ traced next (λ s c. if keeps s c then c ∷ [] else []) (next s c) t) [
+      | true ↦ ap (λ l. c ∷ l) rest
+      | false ↦ rest
+    ]

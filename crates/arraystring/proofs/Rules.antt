@@ -9,7 +9,7 @@ use Rattle.arraystring_base.proofs.TextLaws.{size-append, size-is, size-borrowed
 use Rattle.arraystring_base.proofs.CutLaws.{cut-all, cut-fits, cut-past, cut-past_part}
 use Rattle.arraystring_base.proofs.BoundaryLaws.{front-start, back-start}
 use Rattle.arraystring.proofs.AdditionLaws.{addition-made, addition-refused, addition_of_cut-makes, addition_of_cut-cuts, addition-char_cuts}
-use Rattle.arraystring.proofs.BoundaryLaws.{front-fits, boundary-start, boundary-at_end, boundary-behind_given, boundary-behind_char, boundary-before_char, part-start, part_in-front}
+use Rattle.arraystring.proofs.BoundaryLaws.{front-fits, boundary-start, boundary-at_end, boundary-behind_given, boundary-behind_char, boundary-before_char, boundary-after_char, part-start, part-end, part_in-front}
 use Rattle.arraystring.proofs.CharacterLaws.{width-one, chars-ascii, size-repeated, first-boundary}
 use Rattle.arraystring.proofs.LoopLaws.{taken-item, taken-with, taken-chars, pieces-push}
 use Rattle.arraystring.proofs.SplitLaws.{joined-found}
@@ -25,8 +25,8 @@ pub ruleset cuts = (addition_of_cut-makes, addition_of_cut-cuts, cut-all, cut-fi
 -- insertions at an index, and the place behind the text that is put there
 pub ruleset insertions = (boundary-at_end, boundary-behind_given, front-fits, nat_tests)
 
--- a place between two characters: the text before it, and the places behind and before a character
-pub ruleset cursors = (boundary-behind_given, boundary-behind_char, boundary-before_char, boundary-start, front-fits, part-start, part_in-front, width-is, nat_tests)
+-- a place between two characters: the texts before and after it, and the places before and behind a character
+pub ruleset cursors = (boundary-behind_given, boundary-behind_char, boundary-before_char, boundary-after_char, boundary-start, boundary-at_end, front-fits, part-start, part-end, part_in-front, width-is, nat_tests)
 
 -- removals: of the last character, of the one at an index
 pub ruleset removals = (boundary-at_end, popping-made, removal-made)

@@ -1,5 +1,6 @@
 -- Laws back from a split: a text that is put together at a character is split there.
 use Rattle.std.proofs.Common.{◌≡◌, ℕ, ◌+◌, ◌-◌, ◌<◌, ◌≤◌, Bool, true, false, not, List, [], ◌∷◌, ◌++◌, length, get_or, refl, ap, ◌∙◌, arith, zero, suc, take, drop, length-append}
+use Rattle.std.proofs.lemmas.Bool.Decides.{nat_tests}
 use Rattle.std.proofs.lemmas.Grind.{common_steps}
 use Rattle.std.proofs.lemmas.List.{get_or-append-add}
 use Rattle.std.proofs.lemmas.List.Sums.{position_or_len_is, suffix_len_is}
@@ -54,6 +55,12 @@ module _ (p : ℕ → Bool) where
   none-at [] k none below = absurd (omega (arith, below))
   none-at (x ∷ t) zero none below = none.0
   none-at (x ∷ t) (suc k) none below = none-at t k none.1 (omega (arith, below))
+
+  -- what passes stands within the text, and so does the first that passes
+  pub position-inside : (a : List ℕ) (ch : ℕ) (b : List ℕ) → p ch ≡ true
+      → position_or_len p (a ++ ch ∷ b) < length (a ++ ch ∷ b)
+  position-inside [] ch b passes = rw passes (omega arith)
+  position-inside (x ∷ a) ch b passes = grind (arith, nat_tests, position-inside a ch b passes)
 
   -- if the first character behind the joint passes, and none after it does, these are the parts
   pub joined-last : (a : List ℕ) (ch : ℕ) (b : List ℕ) → p ch ≡ true → NonePass p b

@@ -1,9 +1,9 @@
 //! Laws, which callers may rely on. Each carries its fact in its contract and changes nothing.
 //! `text_fits`, `text_spelled`, `left_fits` and `keys_ascend` call `len` or `as_str`, the others do
 //! nothing when called.
-ghost use Rattle.std.specs.Prelude.{◌≡◌, ◌<◌, ◌==◌, ◌⊎◌, ◌++◌, ◌∷◌, [], None, IsTrue, MatchOption, chars, length, map};
+ghost use Rattle.std.specs.Prelude.{◌≡◌, ◌<◌, ◌==◌, ◌⊎◌, ◌++◌, ◌∷◌, [], None, IsTrue, MatchOption, chars, drop, length, map};
 ghost use Rattle.std.specs.BTreeMap.{keys};
-ghost use Rattle.std.specs.List.{AllPairs, after_last, before_last, position_or_len};
+ghost use Rattle.std.specs.List.{AllPairs, after_last, before_last, position_or_len, slice_get};
 ghost use Rattle.std.specs.Str.{NonePass};
 ghost use Rattle.std.specs.Str.Pattern.{MatchBeginsAt, RFindsChar, SplitsAroundMatch};
 ghost use Rattle.std.specs.declared.str.Chars.{Chars};
@@ -22,6 +22,17 @@ pub use arraystring_core::laws::{
     what_comes_past_the_room, white_space,
 };
 use std::collections::BTreeMap;
+
+/// `text.chars().next()` returns the first character of `text`, or `None` if there is none.
+///
+/// # Precondition
+///
+/// `first` must be what `text.chars().next()` returned.
+pub fn first_given(text: &str, first: Option<char>)
+    requires { first ≡ slice_get (chars text.now) 0 }
+    ensures { MatchOption first (chars text.now ≡ [])
+        (λ c. chars text.now ≡ c ∷ drop 1 (chars text.now)) }
+{}
 
 /// `text.chars().next_back()` returns the last character of `text`, or `None` if there is none.
 ///
@@ -70,7 +81,8 @@ pub fn split_last(text: &str, c: char, parts: Option<(&str, &str)>)
         (λ found. (chars found.0.now ≡ before_last (λ d. d == c) (chars text.now))
         × (chars found.1.now ≡ after_last (λ d. d == c) (chars text.now))
         × (chars text.now ≡ chars found.0.now ++ c ∷ chars found.1.now)
-        × NonePass (λ d. d == c) (chars found.1.now)) }
+        × NonePass (λ d. d == c) (chars found.1.now)
+        × (position_or_len (λ d. d == c) (chars text.now) < length (chars text.now))) }
 {}
 
 /// Bytes are well-formed UTF-8, or they are not. A constructor from bytes returns `Utf8` if they are not,

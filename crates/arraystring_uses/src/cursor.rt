@@ -3,7 +3,7 @@ ghost use Rattle.std.specs.Prelude.{◌≡◌, ◌+◌, ◌≤◌, ◌↔◌, �
 ghost use Rattle.arraystring.specs.Refusals.{OutOfBounds};
 ghost use Rattle.arraystring.specs.Text.{back, boundary, bytes, cap, front, size, width};
 
-use arraystring::laws::{last_given, text_fits};
+use arraystring::laws::{first_given, last_given, text_fits};
 use arraystring::utils::is_char_boundary;
 use arraystring::{ArrayString, Error};
 
@@ -39,6 +39,14 @@ impl<const N: usize> Line<N> {
         ensures { chars result.now ≡ front self.now.text.text self.now.cursor }
     {
         self.text.slice(0..self.cursor)
+    }
+
+    /// Returns the text after the cursor.
+    #[tactic(auto, using(arraystring::proofs::Rules::cursors))]
+    pub fn after(&self) -> &str
+        ensures { chars result.now ≡ back self.now.text.text self.now.cursor }
+    {
+        self.text.slice(self.cursor..)
     }
 
     /// Inserts a character, and moves the cursor behind it.
@@ -105,6 +113,31 @@ impl<const N: usize> Line<N> {
         match last {
             Some(ch) => {
                 self.cursor -= ch.len_utf8() as u8;
+                Some(ch)
+            }
+            None => None,
+        }
+    }
+
+    /// Moves the cursor one character to the right, and returns this character. At the end it stays
+    /// there, and `None` is returned.
+    #[tactic(auto, using(arraystring::proofs::Rules::cursors))]
+    pub fn right(&mut self) -> Option<char>
+        ensures text { self.new.text.text ≡ self.old.text.text }
+        ensures after { MatchOption result (back self.old.text.text self.old.cursor ≡ [])
+            (λ ch. back self.old.text.text self.old.cursor
+            ≡ ch ∷ back self.new.text.text self.new.cursor) }
+        ensures before { IfSome result (λ ch. front self.new.text.text self.new.cursor
+            ≡ front self.old.text.text self.old.cursor ++ ch ∷ []) }
+        ensures end { IfNone result (self.new.cursor ≡ self.old.cursor) }
+    {
+        let after = self.after();
+        let first = after.chars().next();
+        first_given(after, first);
+        match first {
+            Some(ch) => {
+                text_fits(&self.text);
+                self.cursor += ch.len_utf8() as u8;
                 Some(ch)
             }
             None => None,

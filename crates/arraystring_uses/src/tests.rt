@@ -247,7 +247,7 @@ fn a_cut_is_told(rt: HostRuntime) {
     }
 }
 
-/// Puts a text and a character at each place of a line, and steps from its end to its start.
+/// Puts a text and a character at each place of a line, and steps from its end to its start and back.
 #[test]
 fn a_cursor_stands_between_characters(rt: HostRuntime) {
     let whole = "aé€🤔b";
@@ -264,11 +264,7 @@ fn a_cursor_stands_between_characters(rt: HostRuntime) {
                 agree(&rt, line.put("b"), Err(Error::OutOfBounds));
                 agree(&rt, line.insert('b'), Err(Error::OutOfBounds));
                 agree(&rt, line.before().strip_prefix(front), Some("ñ€"));
-                agree(
-                    &rt,
-                    line.as_str().strip_prefix(line.before()),
-                    whole.get(cursor as usize..),
-                );
+                agree(&rt, Some(line.after()), whole.get(cursor as usize..));
             }
             (line, front) => agree(&rt, line.is_some() || front.is_some(), false),
         }
@@ -285,6 +281,17 @@ fn a_cursor_stands_between_characters(rt: HostRuntime) {
             ] {
                 agree(&rt, line.left(), letter);
                 agree(&rt, line.before(), before);
+            }
+            for (letter, after) in [
+                (Some('a'), "é€🤔b"),
+                (Some('é'), "€🤔b"),
+                (Some('€'), "🤔b"),
+                (Some('🤔'), "b"),
+                (Some('b'), ""),
+                (None, ""),
+            ] {
+                agree(&rt, line.right(), letter);
+                agree(&rt, line.after(), after);
             }
             agree(&rt, line.as_str(), whole);
         }

@@ -2,7 +2,7 @@
 use Rattle.std.proofs.Common.{◌≡◌, ℕ, ◌+◌, ◌-◌, ◌≤◌, List, [], ◌∷◌, ◌++◌, length, drop, replicate, refl, sym, ap, ◌∙◌, arith, length-append, length-drop, length-take-le, take-append-drop, take_at, ◌↔◌, take, Result, Ok, Err, subst}
 use Rattle.std.specs.Prelude.{slice_set, suc}
 use Rattle.std.specs.List.{All}
-use Rattle.std.specs.Result.{IsOkAnd, IsErrAnd}
+use Rattle.std.specs.Result.{IfOk, IsOkAnd, IsErrAnd}
 use Rattle.std.proofs.lemmas.List.{drop_at, drop-drop, drop-replicate, length-replicate}
 use Rattle.std.proofs.lemmas.List.Elements.{All-head, All-tail, All-replicate}
 use borrow.Rule.Slice.PartMut.{put_mid}
@@ -107,6 +107,7 @@ one_user bs u r v s is other = (
 abbrev IsDecoded : List ℕ → Result User RecordFault → Type 0
 IsDecoded bs result = record {
   user : (username role : List ℕ) → IsOkAnd result (λ user. texts user ≡ (username, role)) ↔ IsRecord bs username role;
+  own : IfOk result (λ user. IsRecord bs user.username.text user.role.text);
   only : (u r v s : List ℕ) → IsRecord bs u r → IsRecord bs v s → (u ≡ v) × (r ≡ s);
   fault : (fault : RecordFault) → IsErrAnd result (λ e. e ≡ fault) ↔ IsFirstFault bs fault;
 }
@@ -114,6 +115,7 @@ IsDecoded bs result = record {
 pub refused : (bs : List ℕ) (fault : RecordFault) → IsFirstFault bs fault → IsDecoded bs (Err fault)
 refused bs fault is = record {
   user = λ u r. (λ none. absurd none, λ record_is. absurd (no_fault bs u r record_is fault is));
+  own = tt;
   only = one_user bs;
   fault = λ other. (λ same. subst (IsFirstFault bs) same is, λ first_is. one_fault bs fault other is first_is);
 }
@@ -126,6 +128,7 @@ accept bs user is =
         λ same. subst (λ p. IsRecord bs p.0 p.1) same is,
         λ other. let both = one_user bs u r v s is other in λ i. (both.0 i, both.1 i),
       );
+      own = is;
       only = one_user bs;
       fault = λ fault. (λ none. absurd none, λ first_is. absurd (no_fault bs u r is fault first_is));
     }

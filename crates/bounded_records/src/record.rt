@@ -102,6 +102,8 @@ pub fn decode(given: &[u8]) -> Result<User, RecordFault>
     ensures user { (username role : List ℕ)
         → IsOkAnd result (λ user. texts user ≡ (username, role))
         ↔ IsRecord given.now username role }
+    ensures own { IfOk result
+        (λ user. IsRecord given.now user.username.text user.role.text) }
     ensures only { (username role other_username other_role : List ℕ)
         → IsRecord given.now username role → IsRecord given.now other_username other_role
         → (username ≡ other_username) × (role ≡ other_role) }

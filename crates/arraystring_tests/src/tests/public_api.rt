@@ -120,6 +120,7 @@ fn the_laws_are_at_hand(rt: HostRuntime) {
         laws::left_given(&drained);
     }
     laws::keys_ascend::<5, u8>(&BTreeMap::new(rt.alloc()));
+    laws::first_given("a", "a".chars().next());
     laws::last_given("a", "a".chars().next_back());
     laws::well_formed_or_not(&[0xFF]);
     laws::borrowed_text("a");
