@@ -31,7 +31,7 @@ impl<const N: usize> ArrayString<N> {
             Makes (draining t (saturated_start start) (saturated_end end (size t)))
             t (with_left result) self.new.text) }
     {
-        self.drain_through(range, &mut Steps::new(), &mut Drain::default())
+        self.drain_counted(range, &mut Steps::new())
     }
 
     /// Drains as `drain` does, and counts in `steps` the bytes that it moves.
@@ -80,35 +80,10 @@ impl<const N: usize> ArrayString<N> {
         ensures counted { steps.old.moved ≤ steps.new.moved }
         ensures looked { steps.new.looked ≡ steps.old.looked }
     {
-        self.drain_through(range, steps, &mut Drain::default())
-    }
-
-    /// Drains as `drain_counted` does. What is removed goes through `removed`, which is the caller's: a local would be
-    /// copied once more (docs/DECISIONS.md has what that takes).
-    #[inline(always)]
-    fn drain_through<R: RangeBounds<u8> + Drop>(
-        &mut self,
-        range: R,
-        steps: &mut Steps,
-        removed: &mut Drain<N>,
-    ) -> Result<Drain<N>, Error>
-        requires { steps.old.moved ≤ 2 ^ 63 }
-        ensures edit { OfReturnedBounds R.has_bounds R.start_bound R.end_bound range (λ start end.
-            let t = self.old.text in
-            let from = saturated_start start in let to = saturated_end end (size t) in
-            Makes (draining t from to) t (with_left result) self.new.text
-            × (from ≡ 0 → steps.new.moved ≡ steps.old.moved)
-            × (steps.new.moved ≤ steps.old.moved + (size t - to))
-            × OnOk result
-            (from ≢ to → steps.old.moved + min from (size t - to) ≤ steps.new.moved)) }
-        ensures refused { OnErr result (steps.new.moved ≡ steps.old.moved) }
-        ensures counted { steps.old.moved ≤ steps.new.moved }
-        ensures looked { steps.new.looked ≡ steps.old.looked }
-    {
         let (from, to) = saturating_ends(range, self.len());
         self.check_part(from, to)?;
-        *removed = Drain::new(self.array, self.start + from, to - from);
+        let removed = Drain::new(self.array, self.start + from, to - from);
         self.remove_range(from as usize, to as usize, steps);
-        Ok(*removed)
+        Ok(removed)
     }
 }
