@@ -24,7 +24,7 @@ impl<const N: usize> ArrayString<N> {
     /// - `Err(Error::OutOfBounds)` if the range ends past the text;
     /// - `Err(Error::Utf8)` if the start of the range is inside a character;
     /// - `Err(Error::Utf8)` if the end of the range is inside a character.
-    #[inline(always)]
+    #[inline]
     pub fn drain<R: RangeBounds<u8> + Drop>(&mut self, range: R) -> Result<Drain<N>, Error>
         ensures { OfReturnedBounds R.has_bounds R.start_bound R.end_bound range (λ start end.
             let t = self.old.text in
