@@ -1,7 +1,8 @@
 -- Laws of any edit, by its row of the table (specs/Edits).
 use Rattle.std.proofs.Common.{◌≡◌, ℕ, List, ap, subst, ◌∙◌, refl, Option, Some, None, Result, Ok, Err}
 use Rattle.arraystring_base.specs.declared.error.Error.{Error}
-use Rattle.arraystring_core.specs.Edits.{Cause, Edit, Makes, NoneHolds, FirstHolds, error_of, ok_unless, first_cause, text_of, from_out_of_bounds, from_utf8_error}
+use Rattle.arraystring_core.specs.Held.{NoneHolds, FirstHolds}
+use Rattle.arraystring_core.specs.Edits.{Cause, Edit, Makes, error_of, ok_unless, first_cause, text_of, from_out_of_bounds, from_utf8_error}
 use Rattle.arraystring.proofs.TestLaws.{none-holds, first-holds}
 
 -- an `Ok` says that no test held, and gives the row's result

@@ -1,65 +1,15 @@
--- What each edit does to a text: its causes in the order of its tests, what it returns, and the text after.
-use Rattle.std.specs.Prelude.{◌≡◌, ◌⊎◌, ⊤, ℕ, ◌+◌, ◌-◌, List, [], ◌∷◌, ◌++◌, Bool, true, false, not, ◌&&◌, Option, Some, None, Result, Ok, Err, OnOk, OnErr, if◌then◌else◌, nat_lt, nat_le, is_none, slice_index, drop, map}
+-- What each edit does to a text: its tests in their order, what it returns, and the text after.
+use Rattle.std.specs.Prelude.{◌≡◌, ℕ, ◌+◌, ◌-◌, List, [], ◌∷◌, ◌++◌, Bool, Option, Some, None, Result, Ok, Err, OnOk, OnErr, if◌then◌else◌, is_none, slice_index, drop, map}
 use Rattle.std.specs.Char.{to_ascii_uppercase, to_ascii_lowercase}
-use Rattle.arraystring_base.specs.Text.{size, cut, front, back, boundary}
+use Rattle.arraystring_base.specs.Text.{size, cut, front, back}
 use Rattle.arraystring_core.specs.Stored.{Stored}
 use Rattle.arraystring_base.specs.declared.error.Error.{Error}
 use Rattle.arraystring_base.specs.declared.error.Error.TheVariants as error
 -- paths that callers name
+pub use Rattle.arraystring_core.specs.Causes.{Cause, Past, Room, Inside, error_of, Test, past, crossed, at_end, inside, no_room, first_cause}
+pub use Rattle.arraystring_core.specs.Held.{NoneHolds, FirstHolds}
 pub use Rattle.arraystring_core.specs.Parts.{first_of, last_of, all_but_last, without_leading, without_trailing, part, part_in}
 unfoldable pub use Rattle.arraystring_core.specs.WhiteSpace.{is_space, in_ranges, is_white_space}
-
--- why an edit is refused: an index that is not in the text, a result that does not fit, an index inside a character
-pub data Cause : Type 0 where
-  Past : Cause
-  Room : Cause
-  Inside : Cause
-
--- the error of a refusal: `Utf8` for an index inside a character, else `OutOfBounds`
-abbrev pub error_of : Cause → Error
-error_of Past = error.OutOfBounds
-error_of Room = error.OutOfBounds
-error_of Inside = error.Utf8
-
--- a cause, and whether it holds
-pub record Test : Type 0 where
-  pub holds : Bool
-  pub cause : Cause
-
--- i is greater than the size of t
-abbrev pub past : List ℕ → ℕ → Test
-past t i = record { holds = nat_lt (size t) i; cause = Past }
-
--- a range that ends before it starts
-abbrev pub crossed : ℕ → ℕ → Test
-crossed start end = record { holds = nat_lt end start; cause = Past }
-
--- no character of t begins at i or after it
-abbrev pub at_end : List ℕ → ℕ → Test
-at_end t i = record { holds = nat_le (size t) i; cause = Past }
-
--- i is not past the text and no boundary of it
-abbrev pub inside : List ℕ → ℕ → Test
-inside t i = record { holds = nat_lt i (size t) && not (boundary t i); cause = Inside }
-
--- a result of this size does not fit into n bytes
-abbrev pub no_room : ℕ → ℕ → Test
-no_room result_size n = record { holds = nat_lt n result_size; cause = Room }
-
--- the cause of the first test that holds
-abbrev pub first_cause : List Test → Option Cause
-first_cause [] = None
-first_cause (test ∷ rest) = if test.holds then Some test.cause else first_cause rest
-
--- none of the tests holds
-abbrev pub NoneHolds : List Test → Type 0
-NoneHolds [] = ⊤
-NoneHolds (test ∷ rest) = (test.holds ≡ false) × NoneHolds rest
-
--- the cause is that of the first test that holds
-abbrev pub FirstHolds : List Test → Cause → Type 0
-FirstHolds [] found = ⊥
-FirstHolds (test ∷ rest) found = ((test.holds ≡ true) × (found ≡ test.cause)) ⊎ ((test.holds ≡ false) × FirstHolds rest found)
 
 -- one row: what is tested in turn, and what comes of the edit if no cause holds
 pub record Edit (A : Type 0) : Type 0 where
