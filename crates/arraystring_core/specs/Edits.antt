@@ -1,5 +1,5 @@
 -- What each edit does to a text: its tests in their order, what it returns, and the text after.
-use Rattle.std.specs.Prelude.{◌≡◌, ℕ, ◌+◌, ◌-◌, List, [], ◌∷◌, ◌++◌, Bool, Option, Some, None, Result, Ok, Err, OnOk, OnErr, if◌then◌else◌, is_none, slice_index, drop, map}
+use Rattle.std.specs.Prelude.{◌≡◌, ℕ, ◌+◌, ◌-◌, List, [], ◌∷◌, ◌++◌, Bool, Option, Some, None, Result, Ok, Err, OnOk, OnErr, if◌then◌else◌, is_none, slice_index_or, drop, map}
 use Rattle.std.specs.Char.{to_ascii_uppercase, to_ascii_lowercase}
 use Rattle.arraystring_base.specs.Text.{size, cut, front, back}
 use Rattle.arraystring_core.specs.Stored.{Stored}
@@ -89,11 +89,12 @@ truncation t i = record { tests = inside t i ∷ []; result = tt; after = front 
 abbrev pub trimming : (ℕ → Bool) → List ℕ → Edit (Unit {0})
 trimming passes t = record { tests = []; result = tt; after = without_leading passes (without_trailing passes t) }
 
--- the character that begins at i is taken out and returned
+-- the character that begins at i is taken out and returned; the last 0 stands where none begins, and is returned by no call, since
+-- `at_end` holds there
 abbrev pub removal : List ℕ → ℕ → Edit ℕ
 removal t i = record {
   tests = at_end t i ∷ inside t i ∷ [];
-  result = slice_index (back t i) 0;
+  result = slice_index_or (back t i) 0 0;
   after = front t i ++ drop 1 (back t i);
 }
 
