@@ -1,8 +1,11 @@
 -- Laws of any edit, by its row of the table (specs/Edits).
 use Rattle.std.proofs.Common.{◌≡◌, ℕ, List, ap, subst, ◌∙◌, refl, Option, Some, None, Result, Ok, Err}
+use Rattle.std.specs.declared.fmt.Error.{Error as FmtError}
 use Rattle.arraystring_base.specs.declared.error.Error.{Error}
+use Rattle.arraystring_base.specs.declared.error.OutOfBounds.{OutOfBounds}
+use Rattle.arraystring_base.specs.declared.error.Utf8.{Utf8}
 use Rattle.arraystring_core.specs.Held.{NoneHolds, FirstHolds}
-use Rattle.arraystring_core.specs.Edits.{Cause, Edit, Makes, error_of, ok_unless, first_cause, text_of, from_out_of_bounds, from_utf8_error}
+use Rattle.arraystring_core.specs.Edits.{Cause, Edit, Makes, error_of, ok_unless, first_cause, text_of, from_out_of_bounds, from_fmt_error, from_utf8_error}
 use Rattle.arraystring.proofs.TestLaws.{none-holds, first-holds}
 
 -- an `Ok` says that no test held, and gives the row's result
@@ -17,12 +20,17 @@ ok_unless-err {f = None} value e = absurd (cc)
 ok_unless-err {f = Some cause} value e = (cause, refl, cc)
 
 -- a call that has one error returns `Ok` if the row does
-pub out_of_bounds-ok : {A E : Type 0} {result : Result A E} {value : A} → from_out_of_bounds result ≡ Ok value → result ≡ Ok value
+pub out_of_bounds-ok : {A : Type 0} {result : Result A OutOfBounds} {value : A} → from_out_of_bounds result ≡ Ok value → result ≡ Ok value
 out_of_bounds-ok {result = Ok given} e = cc
 out_of_bounds-ok {result = Err error} e = absurd (cc)
 
+-- one whose error is that of std's `fmt`
+pub fmt_error-ok : {A : Type 0} {result : Result A FmtError} {value : A} → from_fmt_error result ≡ Ok value → result ≡ Ok value
+fmt_error-ok {result = Ok given} e = cc
+fmt_error-ok {result = Err error} e = absurd (cc)
+
 -- one whose error is `Utf8`
-pub utf8_error-ok : {A E : Type 0} {result : Result A E} {value : A} → from_utf8_error result ≡ Ok value → result ≡ Ok value
+pub utf8_error-ok : {A : Type 0} {result : Result A Utf8} {value : A} → from_utf8_error result ≡ Ok value → result ≡ Ok value
 utf8_error-ok {result = Ok given} e = cc
 utf8_error-ok {result = Err error} e = absurd (cc)
 

@@ -1,10 +1,13 @@
 -- What each edit does to a text: its tests in their order, what it returns, and the text after.
 use Rattle.std.specs.Prelude.{◌≡◌, ℕ, ◌+◌, ◌-◌, List, [], ◌∷◌, ◌++◌, Bool, Option, Some, None, Result, Ok, Err, OnOk, OnErr, if◌then◌else◌, is_none, slice_index_or, drop, map}
 use Rattle.std.specs.Char.{to_ascii_uppercase, to_ascii_lowercase}
+use Rattle.std.specs.declared.fmt.Error.{Error as FmtError}
 use Rattle.arraystring_base.specs.Text.{size, cut, front, back}
 use Rattle.arraystring_core.specs.Stored.{Stored}
 use Rattle.arraystring_base.specs.declared.error.Error.{Error}
 use Rattle.arraystring_base.specs.declared.error.Error.TheVariants as error
+use Rattle.arraystring_base.specs.declared.error.OutOfBounds.{OutOfBounds}
+use Rattle.arraystring_base.specs.declared.error.Utf8.{Utf8}
 -- paths that callers name
 pub use Rattle.arraystring_core.specs.Causes.{Cause, Past, Room, Inside, error_of, Test, past, crossed, at_end, inside, no_room, first_cause}
 pub use Rattle.arraystring_core.specs.Held.{NoneHolds, FirstHolds}
@@ -37,12 +40,17 @@ pub record Makes {A : Type 0} (edit : Edit A) (t : List ℕ) (result : Result A 
   pub err : OnErr result (new ≡ t)
 
 -- a result as `Makes` takes it, of a call that has `OutOfBounds` as its one error
-abbrev pub from_out_of_bounds : {A E : Type 0} → Result A E → Result A Error
+abbrev pub from_out_of_bounds : {A : Type 0} → Result A OutOfBounds → Result A Error
 from_out_of_bounds (Ok value) = Ok value
 from_out_of_bounds (Err e) = Err error.OutOfBounds
 
+-- a result as `Makes` takes it, of `write_str`, whose one error is that of std's `fmt`: it says that the text does not fit
+abbrev pub from_fmt_error : {A : Type 0} → Result A FmtError → Result A Error
+from_fmt_error (Ok value) = Ok value
+from_fmt_error (Err e) = Err error.OutOfBounds
+
 -- a result as `Makes` takes it, of a call that has `Utf8` as its one error
-abbrev pub from_utf8_error : {A E : Type 0} → Result A E → Result A Error
+abbrev pub from_utf8_error : {A : Type 0} → Result A Utf8 → Result A Error
 from_utf8_error (Ok value) = Ok value
 from_utf8_error (Err e) = Err error.Utf8
 

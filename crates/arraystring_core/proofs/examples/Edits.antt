@@ -1,6 +1,7 @@
 -- Examples of the table of edits. `Makes ROW t result new` says that an edit of the text t returns the result and leaves the text
 -- new. 'é' takes two bytes and '🤔' four; the last number of a row is the capacity, where it has one.
 use Rattle.std.proofs.Common.{◌≡◌, ℕ, [], ◌∷◌, refl, codes, Some, None, Ok, Err}
+use Rattle.std.specs.declared.fmt.Error.{Error as FmtError}
 use Rattle.arraystring_base.specs.Text.{width}
 use Rattle.arraystring_base.specs.declared.error.Error.TheVariants as error
 use Rattle.arraystring_base.specs.declared.error.OutOfBounds.{OutOfBounds}
@@ -8,7 +9,7 @@ use Rattle.arraystring_base.specs.declared.error.Utf8.{Utf8}
 use Rattle.arraystring_core.specs.Stored.{string_of}
 use Rattle.arraystring_core.specs.WhiteSpace.{is_space, is_white_space}
 use Rattle.arraystring_core.specs.Causes.{Past, Inside, first_cause}
-use Rattle.arraystring_core.specs.Edits.{ok_unless, result_of, text_of, Makes, from_out_of_bounds, from_utf8_error, with_text, addition, addition_of_cut, popping, insertion, insertion_of_cut, truncation, trimming, removal, clearing, split, uppercase, lowercase, draining, replacement}
+use Rattle.arraystring_core.specs.Edits.{ok_unless, result_of, text_of, Makes, from_out_of_bounds, from_fmt_error, from_utf8_error, with_text, addition, addition_of_cut, popping, insertion, insertion_of_cut, truncation, trimming, removal, clearing, split, uppercase, lowercase, draining, replacement}
 
 -- rows
 
@@ -44,11 +45,15 @@ Makes-no_other_text_when_done makes = cc (makes.ok)
 Makes-no_other_text_when_refused : Makes (removal (codes "é") 1) (codes "é") (Err error.Utf8) [] → ⊥
 Makes-no_other_text_when_refused makes = cc (makes.err)
 
-from_out_of_bounds-of_each_result : (from_out_of_bounds {E = OutOfBounds} (Ok (codes "a")) ≡ Ok (codes "a"))
+from_out_of_bounds-of_each_result : (from_out_of_bounds (Ok (codes "a")) ≡ Ok (codes "a"))
     × ((e : OutOfBounds) → from_out_of_bounds {A = ℕ} (Err e) ≡ Err error.OutOfBounds)
 from_out_of_bounds-of_each_result = (refl, λ e. refl)
 
-from_utf8_error-of_each_result : (from_utf8_error {E = Utf8} (Ok (codes "a")) ≡ Ok (codes "a"))
+from_fmt_error-of_each_result : (from_fmt_error (Ok (codes "a")) ≡ Ok (codes "a"))
+    × ((e : FmtError) → from_fmt_error {A = ℕ} (Err e) ≡ Err error.OutOfBounds)
+from_fmt_error-of_each_result = (refl, λ e. refl)
+
+from_utf8_error-of_each_result : (from_utf8_error (Ok (codes "a")) ≡ Ok (codes "a"))
     × ((e : Utf8) → from_utf8_error {A = ℕ} (Err e) ≡ Err error.Utf8)
 from_utf8_error-of_each_result = (refl, λ e. refl)
 
