@@ -108,6 +108,7 @@ fn each_path_is_there(rt: HostRuntime) {
 #[test]
 fn the_laws_are_at_hand(_rt: HostRuntime) {
     laws::first_tight_position();
+    laws::one_first_tight();
     laws::lines_of_input();
     laws::each_command_has_a_line();
     laws::one_reading();
