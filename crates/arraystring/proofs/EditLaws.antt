@@ -1,7 +1,12 @@
 -- Laws of any edit, by its row of the table (specs/Edits).
-use Rattle.std.proofs.Common.{◌≡◌, ℕ, List, ap, subst, ◌∙◌, refl, Option, Some, None, Result, Ok, Err}
+use Rattle.std.proofs.Common.{◌≡◌, ◌↔◌, ℕ, List, ap, subst, sym, ◌∙◌, refl, Option, Some, None, Result, Ok, Err, if◌then◌else◌}
+use Rattle.std.specs.Prelude.{is_none}
+use Rattle.std.specs.declared.fmt.Error.{Error as FmtError}
 use Rattle.arraystring_base.specs.declared.error.Error.{Error}
-use Rattle.arraystring_core.specs.Edits.{Cause, Edit, Makes, NoneHolds, FirstHolds, error_of, ok_unless, first_cause, text_of, from_out_of_bounds, from_utf8_error}
+use Rattle.arraystring_base.specs.declared.error.OutOfBounds.{OutOfBounds}
+use Rattle.arraystring_base.specs.declared.error.Utf8.{Utf8}
+use Rattle.arraystring_core.specs.Held.{NoneHolds, FirstHolds}
+use Rattle.arraystring_core.specs.Edits.{Cause, Edit, Makes, error_of, ok_unless, first_cause, result_of, text_of, from_out_of_bounds, from_fmt_error, from_utf8_error}
 use Rattle.arraystring.proofs.TestLaws.{none-holds, first-holds}
 
 -- an `Ok` says that no test held, and gives the row's result
@@ -16,12 +21,17 @@ ok_unless-err {f = None} value e = absurd (cc)
 ok_unless-err {f = Some cause} value e = (cause, refl, cc)
 
 -- a call that has one error returns `Ok` if the row does
-pub out_of_bounds-ok : {A E : Type 0} {result : Result A E} {value : A} → from_out_of_bounds result ≡ Ok value → result ≡ Ok value
+pub out_of_bounds-ok : {A : Type 0} {result : Result A OutOfBounds} {value : A} → from_out_of_bounds result ≡ Ok value → result ≡ Ok value
 out_of_bounds-ok {result = Ok given} e = cc
 out_of_bounds-ok {result = Err error} e = absurd (cc)
 
+-- one whose error is that of std's `fmt`
+pub fmt_error-ok : {A : Type 0} {result : Result A FmtError} {value : A} → from_fmt_error result ≡ Ok value → result ≡ Ok value
+fmt_error-ok {result = Ok given} e = cc
+fmt_error-ok {result = Err error} e = absurd (cc)
+
 -- one whose error is `Utf8`
-pub utf8_error-ok : {A E : Type 0} {result : Result A E} {value : A} → from_utf8_error result ≡ Ok value → result ≡ Ok value
+pub utf8_error-ok : {A : Type 0} {result : Result A Utf8} {value : A} → from_utf8_error result ≡ Ok value → result ≡ Ok value
 utf8_error-ok {result = Ok given} e = cc
 utf8_error-ok {result = Err error} e = absurd (cc)
 
@@ -30,6 +40,12 @@ left_by : {A : Type 0} (edit : Edit A) (t new : List ℕ) (f : Option Cause) →
     → Makes edit t (ok_unless f edit.result) new → new ≡ text_of edit t
 left_by edit t new None e m = rw e m.ok
 left_by edit t new (Some cause) e m = rw e m.err
+
+-- what makes an edit, if its first cause is known
+made_by : {A : Type 0} (edit : Edit A) (t new : List ℕ) (f : Option Cause) → first_cause edit.tests ≡ f
+    → new ≡ (if is_none f then edit.after else t) → Makes edit t (ok_unless f edit.result) new
+made_by edit t new None e n = record { returns = rw e refl; ok = n; err = tt }
+made_by edit t new (Some cause) e n = record { returns = rw e refl; ok = tt; err = n }
 
 -- any edit, by its row
 module _ {A : Type 0} {edit : Edit A} {t new : List ℕ} where
@@ -55,6 +71,13 @@ module _ {A : Type 0} {edit : Edit A} {t new : List ℕ} {result : Result A Erro
   -- the text after, whatever was returned
   pub edit-text : Makes edit t result new → new ≡ text_of edit t
   edit-text m = left_by edit t new (first_cause edit.tests) refl (subst (λ x. Makes edit t x new) m.returns m)
+
+  -- `Makes`, and the two words of the effect of a command, are two ways to say one thing
+  pub edit-both_ways : Makes edit t result new ↔ ((result ≡ result_of edit) × (new ≡ text_of edit t))
+  edit-both_ways = (
+    λ m. (m.returns, edit-text m),
+    λ is. subst (λ x. Makes edit t x new) (sym is.0) (made_by edit t new (first_cause edit.tests) refl is.1),
+  )
 
 module _ {A : Type 0} {edit : Edit A} {t new : List ℕ} where
   -- an `Ok` says that no test held

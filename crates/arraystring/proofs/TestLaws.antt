@@ -1,11 +1,12 @@
--- Laws of the tests that an edit makes in turn (specs/Edits).
+-- Laws of the tests that an edit makes in turn (specs/Causes and specs/Held of `arraystring_core`).
 use Rattle.std.proofs.Common.{◌≡◌, ℕ, ◌<◌, ◌≤◌, ◌⊎◌, List, [], ◌∷◌, arith, true, false, inl, inr, Some}
 use Rattle.std.proofs.lemmas.Bool.{cases_Bool}
 use Rattle.std.proofs.lemmas.Bool.Decides.{nat_tests}
 use Rattle.arraystring_base.specs.Text.{size, boundary}
 use Rattle.arraystring_base.specs.declared.error.Error.{Error}
 use Rattle.arraystring_base.specs.declared.error.Error.TheVariants.{Utf8, OutOfBounds}
-use Rattle.arraystring_core.specs.Edits.{Cause, Inside, Test, FirstHolds, error_of, first_cause, past, inside}
+use Rattle.arraystring_core.specs.Causes.{Cause, Inside, Test, error_of, first_cause, past, inside}
+use Rattle.arraystring_core.specs.Held.{FirstHolds}
 use Rattle.arraystring_core.proofs.EditLaws.{inside-so}
 pub use Rattle.arraystring_core.proofs.EditLaws.{none-holds, inside-failed}
 

@@ -1,1 +1,2 @@
 mod Cached
+mod Loops

@@ -5,6 +5,8 @@ pub use Rattle.arraystring_core.specs.Names
 pub use Rattle.arraystring_core.specs.Stored
 pub use Rattle.arraystring_core.specs.Parts
 pub use Rattle.arraystring_core.specs.WhiteSpace
+pub use Rattle.arraystring_core.specs.Causes
+pub use Rattle.arraystring_core.specs.Held
 pub use Rattle.arraystring_core.specs.Edits
 pub use Rattle.arraystring_core.specs.Construct
 pub use Rattle.arraystring_core.specs.Taken

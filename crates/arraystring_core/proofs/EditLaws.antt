@@ -7,7 +7,8 @@ use Rattle.std.specs.Char.{is_whitespace}
 use Rattle.std.specs.Prelude.{◌&&◌, ◌||◌, ◌==◌, nat_le, nat_lt}
 use Rattle.arraystring_base.specs.Text.{size, boundary}
 use Rattle.arraystring_base.proofs.BoundaryLaws.{boundary-end}
-use Rattle.arraystring_core.specs.Edits.{Cause, Room, Test, Edit, Makes, NoneHolds, first_cause, error_of, inside, addition, last_of, all_but_last, is_white_space}
+use Rattle.arraystring_core.specs.Held.{NoneHolds}
+use Rattle.arraystring_core.specs.Edits.{Cause, Room, Test, Edit, Makes, first_cause, error_of, inside, addition, last_of, all_but_last, is_white_space}
 use Rattle.arraystring_base.specs.declared.error.Error.{Error}
 use Rattle.arraystring_base.specs.declared.error.Error.TheVariants.{OutOfBounds}
 

@@ -2,6 +2,8 @@ mod Stored
 mod Layout
 mod Parts
 mod WhiteSpace
+mod Causes
+mod Held
 mod Edits
 mod Construct
 mod Taken

@@ -1,65 +1,18 @@
--- What each edit does to a text: its causes in the order of its tests, what it returns, and the text after.
-use Rattle.std.specs.Prelude.{◌≡◌, ◌⊎◌, ⊤, ℕ, ◌+◌, ◌-◌, List, [], ◌∷◌, ◌++◌, Bool, true, false, not, ◌&&◌, Option, Some, None, Result, Ok, Err, OnOk, OnErr, if◌then◌else◌, nat_lt, nat_le, is_none, slice_index, drop, map}
+-- What each edit does to a text: its tests in their order, what it returns, and the text after.
+use Rattle.std.specs.Prelude.{◌≡◌, ℕ, ◌+◌, ◌-◌, List, [], ◌∷◌, ◌++◌, Bool, Option, Some, None, Result, Ok, Err, OnOk, OnErr, if◌then◌else◌, is_none, slice_index_or, drop, map}
 use Rattle.std.specs.Char.{to_ascii_uppercase, to_ascii_lowercase}
-use Rattle.arraystring_base.specs.Text.{size, cut, front, back, boundary}
+use Rattle.std.specs.declared.fmt.Error.{Error as FmtError}
+use Rattle.arraystring_base.specs.Text.{size, cut, front, back}
 use Rattle.arraystring_core.specs.Stored.{Stored}
 use Rattle.arraystring_base.specs.declared.error.Error.{Error}
 use Rattle.arraystring_base.specs.declared.error.Error.TheVariants as error
+use Rattle.arraystring_base.specs.declared.error.OutOfBounds.{OutOfBounds}
+use Rattle.arraystring_base.specs.declared.error.Utf8.{Utf8}
 -- paths that callers name
+pub use Rattle.arraystring_core.specs.Causes.{Cause, Past, Room, Inside, error_of, Test, past, crossed, at_end, inside, no_room, first_cause}
+pub use Rattle.arraystring_core.specs.Held.{NoneHolds, FirstHolds}
 pub use Rattle.arraystring_core.specs.Parts.{first_of, last_of, all_but_last, without_leading, without_trailing, part, part_in}
 unfoldable pub use Rattle.arraystring_core.specs.WhiteSpace.{is_space, in_ranges, is_white_space}
-
--- why an edit is refused: an index that is not in the text, a result that does not fit, an index inside a character
-pub data Cause : Type 0 where
-  Past : Cause
-  Room : Cause
-  Inside : Cause
-
--- the error of a refusal: `Utf8` for an index inside a character, else `OutOfBounds`
-abbrev pub error_of : Cause → Error
-error_of Past = error.OutOfBounds
-error_of Room = error.OutOfBounds
-error_of Inside = error.Utf8
-
--- a cause, and whether it holds
-pub record Test : Type 0 where
-  pub holds : Bool
-  pub cause : Cause
-
--- i is greater than the size of t
-abbrev pub past : List ℕ → ℕ → Test
-past t i = record { holds = nat_lt (size t) i; cause = Past }
-
--- a range that ends before it starts
-abbrev pub crossed : ℕ → ℕ → Test
-crossed start end = record { holds = nat_lt end start; cause = Past }
-
--- no character of t begins at i or after it
-abbrev pub at_end : List ℕ → ℕ → Test
-at_end t i = record { holds = nat_le (size t) i; cause = Past }
-
--- i is not past the text and no boundary of it
-abbrev pub inside : List ℕ → ℕ → Test
-inside t i = record { holds = nat_lt i (size t) && not (boundary t i); cause = Inside }
-
--- a result of this size does not fit into n bytes
-abbrev pub no_room : ℕ → ℕ → Test
-no_room result_size n = record { holds = nat_lt n result_size; cause = Room }
-
--- the cause of the first test that holds
-abbrev pub first_cause : List Test → Option Cause
-first_cause [] = None
-first_cause (test ∷ rest) = if test.holds then Some test.cause else first_cause rest
-
--- none of the tests holds
-abbrev pub NoneHolds : List Test → Type 0
-NoneHolds [] = ⊤
-NoneHolds (test ∷ rest) = (test.holds ≡ false) × NoneHolds rest
-
--- the cause is that of the first test that holds
-abbrev pub FirstHolds : List Test → Cause → Type 0
-FirstHolds [] found = ⊥
-FirstHolds (test ∷ rest) found = ((test.holds ≡ true) × (found ≡ test.cause)) ⊎ ((test.holds ≡ false) × FirstHolds rest found)
 
 -- one row: what is tested in turn, and what comes of the edit if no cause holds
 pub record Edit (A : Type 0) : Type 0 where
@@ -87,12 +40,17 @@ pub record Makes {A : Type 0} (edit : Edit A) (t : List ℕ) (result : Result A 
   pub err : OnErr result (new ≡ t)
 
 -- a result as `Makes` takes it, of a call that has `OutOfBounds` as its one error
-abbrev pub from_out_of_bounds : {A E : Type 0} → Result A E → Result A Error
+abbrev pub from_out_of_bounds : {A : Type 0} → Result A OutOfBounds → Result A Error
 from_out_of_bounds (Ok value) = Ok value
 from_out_of_bounds (Err e) = Err error.OutOfBounds
 
+-- a result as `Makes` takes it, of `write_str`, whose one error is that of std's `fmt`: it says that the text does not fit
+abbrev pub from_fmt_error : {A : Type 0} → Result A FmtError → Result A Error
+from_fmt_error (Ok value) = Ok value
+from_fmt_error (Err e) = Err error.OutOfBounds
+
 -- a result as `Makes` takes it, of a call that has `Utf8` as its one error
-abbrev pub from_utf8_error : {A E : Type 0} → Result A E → Result A Error
+abbrev pub from_utf8_error : {A : Type 0} → Result A Utf8 → Result A Error
 from_utf8_error (Ok value) = Ok value
 from_utf8_error (Err e) = Err error.Utf8
 
@@ -139,11 +97,12 @@ truncation t i = record { tests = inside t i ∷ []; result = tt; after = front 
 abbrev pub trimming : (ℕ → Bool) → List ℕ → Edit (Unit {0})
 trimming passes t = record { tests = []; result = tt; after = without_leading passes (without_trailing passes t) }
 
--- the character that begins at i is taken out and returned
+-- the character that begins at i is taken out and returned; the last 0 stands where none begins, and is returned by no call, since
+-- `at_end` holds there
 abbrev pub removal : List ℕ → ℕ → Edit ℕ
 removal t i = record {
   tests = at_end t i ∷ inside t i ∷ [];
-  result = slice_index (back t i) 0;
+  result = slice_index_or (back t i) 0 0;
   after = front t i ++ drop 1 (back t i);
 }
 

@@ -6,6 +6,8 @@ pub mod Stored
 pub mod Layout
 pub mod Parts
 pub mod WhiteSpace
+pub mod Causes
+pub mod Held
 pub mod Edits
 pub mod Construct
 pub mod Taken

@@ -1,4 +1,5 @@
 mod RunLemmas
+mod TightLemmas
 mod CommandLemmas
 mod LineLemmas
 mod PrintLemmas

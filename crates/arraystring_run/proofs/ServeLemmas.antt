@@ -47,9 +47,20 @@ pub served : {word : Option (Bor (List ℕ))} {given old new errors_old errors_n
     (named : Option ℕ) (played : Option (Result (Unit {0}) PlayFault)) → capacity_named word ≡ named
     → IsOutcomeAt named given old new SameInput SameOutput played
     → status ≡ status_at played → AppendsPrefix errors_old errors_new (report_at played) → (status ≡ 0 → SameErrors)
-    → IsServed word given old new errors_old errors_new SameInput SameOutput SameErrors status
+    → IsServed (record {
+      word = word;
+      input = given;
+      output_before = old;
+      output_after = new;
+      errors_before = errors_old;
+      errors_after = errors_new;
+      SameInput = SameInput;
+      SameOutput = SameOutput;
+      SameErrors = SameErrors;
+      status = status;
+    })
 served None None named at is line quiet = let (_, input, output) = at.none_named refl in rw is (record {
-  other_word = λ _. (refl, input, output, line);
+  other_word = λ _. (refl, input, line);
   played = rw named tt;
   bad_line = rw named tt;
   no_memory = λ e. absurd (omega arith);

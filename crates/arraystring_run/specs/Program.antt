@@ -64,20 +64,34 @@ abbrev pub report_at : Option (Result (Unit {0}) PlayFault) → List ℕ
 report_at None = usage_line
 report_at (Some played) = report_of played
 
--- what a program did that was given a word, by the exit status: what was written to its output and its errors, and which of
--- input, output and errors are as before
-pub record IsServed (word : Option (Bor (List ℕ))) (given old new errors_old errors_new : Option (List ℕ))
-    (SameInput SameOutput SameErrors : Type 0) (status : ℕ) : Type 0 where
-  pub other_word : capacity_named word ≡ None
-      → (status ≡ 2) × SameInput × SameOutput × AppendsPrefix errors_old errors_new usage_line
-  pub played : IfSome (capacity_named word) (λ n. status ≡ 0 → IfSome given (λ input. IsPlayed input n old new))
-  pub bad_line : IfSome (capacity_named word) (λ _. status ≡ 2
-      → (k : ℕ) × IfSome given (λ input. IsBadAt (lines input) k) × AppendsPrefix errors_old errors_new (fault_line (BadLine k)))
-  pub no_memory : status ≡ 3 → AppendsPrefix errors_old errors_new (fault_line Memory)
-  pub failed : IfSome (capacity_named word) (λ n. status ≡ 4
-      → (SameOutput × AppendsPrefix errors_old errors_new (fault_line Read))
-      ⊎ (IfSome given (λ input. IsPartPlayed input n old new) × AppendsPrefix errors_old errors_new (fault_line Write)))
-  pub quiet : status ≡ 0 → SameErrors
-  pub unwritten : status ≢ 0 → status ≢ 4 → SameOutput
+-- what a program was given and what it did: its word, the bytes of its input, those of its output and of its errors before and
+-- after, as far as they are known, the claims that these three are as before, and the exit status
+pub record Service : Type 1 where
+  pub word : Option (Bor (List ℕ))
+  pub input : Option (List ℕ)
+  pub output_before : Option (List ℕ)
+  pub output_after : Option (List ℕ)
+  pub errors_before : Option (List ℕ)
+  pub errors_after : Option (List ℕ)
+  pub SameInput : Type 0
+  pub SameOutput : Type 0
+  pub SameErrors : Type 0
+  pub status : ℕ
+
+-- a program serves the word that it is given: what each exit status says of the script, and of what was written
+pub record IsServed (s : Service) : Type 0 where
+  pub other_word : capacity_named s.word ≡ None
+      → (s.status ≡ 2) × s.SameInput × AppendsPrefix s.errors_before s.errors_after usage_line
+  pub played : IfSome (capacity_named s.word)
+      (λ n. s.status ≡ 0 → IfSome s.input (λ input. IsPlayed input n s.output_before s.output_after))
+  pub bad_line : IfSome (capacity_named s.word) (λ _. s.status ≡ 2 → (k : ℕ) × IfSome s.input (λ input. IsBadAt (lines input) k)
+      × AppendsPrefix s.errors_before s.errors_after (fault_line (BadLine k)))
+  pub no_memory : s.status ≡ 3 → AppendsPrefix s.errors_before s.errors_after (fault_line Memory)
+  pub failed : IfSome (capacity_named s.word) (λ n. s.status ≡ 4
+      → (s.SameOutput × AppendsPrefix s.errors_before s.errors_after (fault_line Read))
+      ⊎ (IfSome s.input (λ input. IsPartPlayed input n s.output_before s.output_after)
+      × AppendsPrefix s.errors_before s.errors_after (fault_line Write)))
+  pub quiet : s.status ≡ 0 → s.SameErrors
+  pub unwritten : s.status ≢ 0 → s.status ≢ 4 → s.SameOutput
   -- 0, 2, 3 or 4
-  pub known : (status ≤ 4) × (status ≢ 1)
+  pub known : (s.status ≤ 4) × (s.status ≢ 1)

@@ -3,4 +3,4 @@ pub use Rattle.arraystring_run.specs.ScriptLines.{line_feed, with_newline, joine
 pub use Rattle.arraystring_run.specs.Printing.{printed, replies_printed, all_printed, run_printed}
 pub use Rattle.arraystring_run.specs.Writing.{AppendsPrefix}
 pub use Rattle.arraystring_run.specs.Player.{IfBadLine, IsPlayed, IsPartPlayed}
-pub use Rattle.arraystring_run.specs.Program.{capacity_named, status_of, usage_line, fault_line, report_of, IsServed}
+pub use Rattle.arraystring_run.specs.Program.{capacity_named, status_of, usage_line, fault_line, report_of, Service, IsServed}

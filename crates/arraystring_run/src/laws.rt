@@ -1,18 +1,26 @@
 //! Laws of runs and of scripts, which callers may rely on. Each does nothing when it is called and
 //! carries its fact in its contract.
-ghost use Rattle.std.specs.Prelude.{◌≡◌, ◌<◌, ◌⊎◌, ◌++◌, ◌∷◌, [], ℕ, List, MatchOption, length};
+ghost use Rattle.std.specs.Prelude.{◌≡◌, ◌<◌, ◌⊎◌, ◌++◌, ◌∷◌, [], ℕ, List, Option, MatchOption, length};
 ghost use Rattle.arraystring_run.specs.Runs.{after, first_tight_from, NoneTight, IsFirstTight};
 ghost use Rattle.arraystring_run.specs.Line.{arguments, line_of, AreArguments, IsLineOf};
 ghost use Rattle.arraystring_run.specs.ScriptLines.{lines, with_newline, joined_lines, IsOneLine, AreOneLine, AreLinesOf, IsBadAt};
 ghost use Rattle.arraystring_run.specs.declared.commands.Command.{Command};
 
 /// A command is tight if it is refused because its result does not fit, or if it adds less than all of
-/// what it is given. If `first_tight` of a run is a position, then the command there is tight on the
-/// text that the commands before it leave, and no command before it is tight. If `first_tight` is
-/// `None`, no command of the run is tight.
+/// what it is given. `first_tight_from` finds the first tight command of a run from its first command on. If
+/// it finds a position, then the command there is tight on the text that the commands before it leave, and no
+/// command before it is tight. If it finds none, no command of the run is tight.
 pub fn first_tight_position()
     ensures { (cs : List Command) (t : List ℕ) (n : ℕ)
         → MatchOption (first_tight_from 0 cs t n) (NoneTight cs t n) (IsFirstTight cs t n) }
+{}
+
+/// A run has one first tight position, or none: what `run` says of `first_tight` is said of no other position
+/// than that which `first_tight_from` finds.
+pub fn one_first_tight()
+    ensures { (cs : List Command) (t : List ℕ) (n : ℕ) (first : Option ℕ)
+        → MatchOption first (NoneTight cs t n) (IsFirstTight cs t n)
+        → first ≡ first_tight_from 0 cs t n }
 {}
 
 /// If an input is made of lines that are each followed by a line feed, it has exactly these lines. The lines

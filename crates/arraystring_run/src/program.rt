@@ -48,10 +48,18 @@ pub fn serve<I: Read, O: Write, E: Write>(
     output: &mut O,
     errors: &mut E,
 ) -> u8
-    ensures { IsServed word.entry (I.remaining input.old)
-        (O.contents output.old) (O.contents output.new)
-        (E.contents errors.old) (E.contents errors.new)
-        (input.new ≡ input.old) (output.new ≡ output.old) (errors.new ≡ errors.old) result }
+    ensures { IsServed (record {
+      word = word.entry;
+      input = I.remaining input.old;
+      output_before = O.contents output.old;
+      output_after = O.contents output.new;
+      errors_before = E.contents errors.old;
+      errors_after = E.contents errors.new;
+      SameInput = input.new ≡ input.old;
+      SameOutput = output.new ≡ output.old;
+      SameErrors = errors.new ≡ errors.old;
+      status = result;
+    }) }
 {
     let played = play_at(alloc, capacity_of(word), input, output);
     report(played, errors)

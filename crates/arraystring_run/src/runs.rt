@@ -1,8 +1,8 @@
 //! Runs of commands, over one string and over two.
-ghost use Rattle.std.specs.Prelude.{◌≡◌, ◌+◌, ◌<◌, ◌≤◌, [], ◌∷◌, ◌++◌, length, map, vec_len, vec_capacity, if◌then◌else◌, IfOk, IsOk, OnOk, OnErr, Some, None};
+ghost use Rattle.std.specs.Prelude.{◌≡◌, ◌+◌, ◌<◌, ◌≤◌, [], ◌∷◌, ◌++◌, length, map, vec_len, vec_capacity, if◌then◌else◌, IfOk, IsOk, OnOk, OnErr, MatchOption, Some, None};
 ghost use Rattle.std.specs.Vec.{vec_ptr};
 ghost use Rattle.arraystring.specs.Text.{cap, size};
-ghost use Rattle.arraystring_run.specs.Runs.{view_of, effect, is_tight, after, first_tight_from, earlier_of};
+ghost use Rattle.arraystring_run.specs.Runs.{view_of, effect, is_tight, after, first_tight_from, earlier_of, NoneTight, IsFirstTight};
 ghost use Rattle.arraystring_run.specs.Agreement.{commands_before, AllAgree, IsNoSooner};
 
 use crate::execute::execute;
@@ -39,8 +39,9 @@ pub fn run<const N: usize>(
         (λ o. map view_of o.replies.items ≡ (after commands.now text.old.text (cap N)).replies) }
     ensures one_each { IfOk result (λ o. vec_len o.replies ≡ length commands.now) }
     ensures text { OnOk result (text.new.text ≡ (after commands.now text.old.text (cap N)).text) }
-    ensures first_tight { IfOk result
-        (λ o. o.first_tight ≡ first_tight_from 0 commands.now text.old.text (cap N)) }
+    ensures first_tight { IfOk result (λ o. MatchOption o.first_tight
+        (NoneTight commands.now text.old.text (cap N))
+        (IsFirstTight commands.now text.old.text (cap N))) }
     ensures fits { size text.new.text ≤ cap N }
     ensures unchanged { OnErr result (text.new.text ≡ text.old.text) }
     ensures empty { commands.now ≡ [] → IsOk result }
@@ -127,14 +128,16 @@ pub fn run_both<const N: usize, const M: usize>(
         (λ o. map view_of o.0.replies.items ≡ (after commands.now first.old.text (cap N)).replies) }
     ensures first_text { OnOk result
         (first.new.text ≡ (after commands.now first.old.text (cap N)).text) }
-    ensures first_tight { IfOk result
-        (λ o. o.0.first_tight ≡ first_tight_from 0 commands.now first.old.text (cap N)) }
+    ensures first_tight { IfOk result (λ o. MatchOption o.0.first_tight
+        (NoneTight commands.now first.old.text (cap N))
+        (IsFirstTight commands.now first.old.text (cap N))) }
     ensures second_replies { IfOk result (λ o. map view_of o.1.replies.items
         ≡ (after commands.now second.old.text (cap M)).replies) }
     ensures second_text { OnOk result
         (second.new.text ≡ (after commands.now second.old.text (cap M)).text) }
-    ensures second_tight { IfOk result
-        (λ o. o.1.first_tight ≡ first_tight_from 0 commands.now second.old.text (cap M)) }
+    ensures second_tight { IfOk result (λ o. MatchOption o.1.first_tight
+        (NoneTight commands.now second.old.text (cap M))
+        (IsFirstTight commands.now second.old.text (cap M))) }
     ensures one_each { IfOk result (λ o. (vec_len o.0.replies ≡ length commands.now)
         × (vec_len o.1.replies ≡ length commands.now)) }
     ensures fits { (size first.new.text ≤ cap N) × (size second.new.text ≤ cap M) }

@@ -5,7 +5,7 @@ ghost use Rattle.arraystring_run.specs.Word.{IsOnlyWord};
 ghost use Rattle.arraystring_run.specs.Script.{line_feed, with_newline, joined_lines, IsOneLine, AreOneLine, first_byte, lines, AreLinesOf, IsBadAt};
 ghost use Rattle.arraystring_run.specs.Script.{printed, replies_printed, all_printed, run_printed, AppendsPrefix};
 ghost use Rattle.arraystring_run.specs.Script.{IfBadLine, IsPlayed, IsPartPlayed};
-ghost use Rattle.arraystring_run.specs.Script.{capacity_named, status_of, usage_line, fault_line, report_of, IsServed};
+ghost use Rattle.arraystring_run.specs.Script.{capacity_named, status_of, usage_line, fault_line, report_of, Service, IsServed};
 
 use super::runs::text_of;
 use super::table::agree;
@@ -108,6 +108,7 @@ fn each_path_is_there(rt: HostRuntime) {
 #[test]
 fn the_laws_are_at_hand(_rt: HostRuntime) {
     laws::first_tight_position();
+    laws::one_first_tight();
     laws::lines_of_input();
     laws::each_command_has_a_line();
     laws::one_reading();

@@ -5,7 +5,6 @@ ghost use Rattle.arraystring.specs.Text.{cut, size};
 ghost use Rattle.arraystring_run.specs.Runs.{NoneTight};
 
 use arraystring::ArrayString;
-use arraystring_run::laws::first_tight_position;
 use arraystring_run::{Command, run, run_both};
 use std::alloc::{AllocError, Global};
 
@@ -40,7 +39,6 @@ pub fn fits_small(
     ensures fits { IfOk result (λ fits. IsTrue fits ↔ NoneTight commands.now [] 23) }
     ensures same { IfOk result (λ fits. IsTrue fits → small.new.text ≡ large.new.text) }
 {
-    first_tight_position();
     let (in_small, _) = run_both(alloc, small, large, commands)?;
     Ok(in_small.first_tight.is_none())
 }

@@ -60,6 +60,7 @@
 //! | `MatchOrdering o A B C` | if `o` is `Less`, then `A`; if `Equal`, then `B`; if `Greater`, then `C` | `MatchOrdering (1.cmp(2)) A B C` is `A` |
 //! | `IsWholeOrRefused t n r` | if `t` takes at most `n` bytes, `r` is `Ok` of a string with the text `t`; otherwise `r` is `Err(OutOfBounds)` | `IsWholeOrRefused "ab" 1 (Err OutOfBounds)` |
 //! | `from_out_of_bounds r`, `from_utf8_error r` | the result `r`, with its error converted to `Error` | `from_utf8_error (Err Utf8)` is `Err(Error::Utf8)` |
+//! | `from_fmt_error r` | the result `r` of `write_str`, with `Error::OutOfBounds` for its error | `from_fmt_error (Err e)` is `Err(Error::OutOfBounds)` |
 //! | `with_text r`, `with_left r` | the result `r`, with the text in place of the string; with what is left in place of the `Drain` | `with_text (Ok s)` is `Ok(s.text)` |
 //! | `held r` | the result `r`, with the string inside in place of the `CacheString` | `held (Ok key)` is `Ok(key.0)` |
 //!

@@ -1,11 +1,21 @@
 -- Examples of the string inside a `CacheString`.
-use Rattle.std.proofs.Common.{◌≡◌, refl, Ok, Err}
-use Rattle.arraystring_base.specs.declared.error.Utf8.{Utf8}
+use Rattle.std.proofs.Common.{◌≡◌, Ok, Err, refl, arith, codes}
+use Rattle.arraystring_base.specs.Text.{width}
+use Rattle.arraystring_base.specs.declared.error.OutOfBounds.{OutOfBounds}
+use Rattle.arraystring_core.specs.Construct.{IsWholeOrRefused}
+use Rattle.arraystring_core.specs.Edits.{from_out_of_bounds}
 use Rattle.arraystring.specs.Cached.{held}
 use Rattle.arraystring.specs.declared.cache_string.CacheString.{CacheString}
 
-held-the_string_inside : (made : CacheString) → held {E = Utf8} (Ok made) ≡ Ok made.0
-held-the_string_inside made = refl
+-- what `try_from_str("ab")` returns: a string with this text, and no error
+held-a_string_with_this_text : (made : CacheString) → made.0.text ≡ codes "ab" → IsWholeOrRefused (codes "ab") 63 (from_out_of_bounds (held (Ok made)))
+unfolding width
+held-a_string_with_this_text made is = (omega arith, is)
 
-held-an_error_stays : (e : Utf8) → held (Err e) ≡ Err e
-held-an_error_stays e = refl
+held-a_string_with_another_text : (made : CacheString) → made.0.text ≡ codes "a"
+    → IsWholeOrRefused (codes "ab") 63 (from_out_of_bounds (held (Ok made))) → ⊥
+held-a_string_with_another_text made is whole = let e : codes "a" ≡ codes "ab" = grind arith in grind arith
+
+held-no_error_of_what_fits : (e : OutOfBounds) → IsWholeOrRefused (codes "ab") 63 (from_out_of_bounds (held (Err e))) → ⊥
+unfolding width
+held-no_error_of_what_fits e refused = omega (arith, refused.0)

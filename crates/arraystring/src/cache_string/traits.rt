@@ -2,7 +2,7 @@
 //! written out and not derived, so that a caller's proof can cite what each call returns.
 ghost use Rattle.std.specs.Prelude.{◌≡◌, ◌++◌, [], Ok, Some, IsOk, chars, nat_eq, refl};
 ghost use Rattle.arraystring_base.specs.Text.{bytes, IsBefore};
-ghost use Rattle.arraystring_core.specs.Edits.{Makes, from_out_of_bounds, addition, addition_of_cut};
+ghost use Rattle.arraystring_core.specs.Edits.{Makes, from_out_of_bounds, from_fmt_error, addition, addition_of_cut};
 ghost use Rattle.arraystring_core.specs.Construct.{IsWholeOrRefused};
 ghost use Rattle.arraystring.specs.Cached.{held};
 ghost use Rattle.std.specs.Cmp.{on_equiv, on_per, on_total, on_po, partial_equiv_from_equiv};
@@ -155,7 +155,7 @@ impl fmt::Write for CacheString {
     fn write_str(&mut self, string: &str) -> fmt::Result
         ensures ok { IsOk result → bytes self.new.0.text ≡ bytes self.old.0.text ++ string.now }
         ensures made { Makes (addition self.old.0.text (chars string.now) 63)
-            self.old.0.text (from_out_of_bounds result) self.new.0.text }
+            self.old.0.text (from_fmt_error result) self.new.0.text }
     {
         self.0.write_str(string)
     }

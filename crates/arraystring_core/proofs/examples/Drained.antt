@@ -1,5 +1,5 @@
 -- Examples of walks over what was taken out. '🤔' is U+1F914.
-use Rattle.std.proofs.Common.{◌≡◌, [], ◌∷◌, refl, codes, Some, None, Ok, Err}
+use Rattle.std.proofs.Common.{◌≡◌, [], ◌∷◌, refl, arith, codes, Some, None, Ok, Err}
 use Rattle.arraystring_base.specs.Text.{width}
 use Rattle.arraystring_base.specs.declared.error.Error.TheVariants as error
 use Rattle.arraystring_core.specs.Stored.{string_of}
@@ -9,8 +9,10 @@ use Rattle.arraystring_core.specs.Drained.{Drained, drained, removed_of, with_le
 abbrev rest : Drained
 rest = record { left = codes "é"; yielded = codes "a"; spare = [] }
 
-Drained-left_and_yielded : (rest.left ≡ codes "é") × (rest.yielded ≡ codes "a")
-Drained-left_and_yielded = (refl, refl)
+-- what was given from the front counts too: without it the same is left, and another text was removed
+Drained-the_same_left_of_two_texts : (rest.left ≡ (drained (string_of (codes "é")) 0).left) × (rest ≡ drained (string_of (codes "é")) 0 → ⊥)
+unfolding width
+Drained-the_same_left_of_two_texts = (refl, λ e. grind arith)
 
 drained-from_an_index_on : drained (string_of (codes "aé")) 1 ≡ rest
 unfolding width
@@ -36,8 +38,9 @@ End-each_is_another e = cc
 abbrev both_ends : Walked
 both_ends = record { fronts = codes "A"; left = codes "🤔"; backs = codes "B" }
 
-Walked-three_parts : (both_ends.fronts ≡ codes "A") × (both_ends.left ≡ codes "🤔") × (both_ends.backs ≡ codes "B")
-Walked-three_parts = (refl, refl, refl)
+-- the only character, by the end that asked
+Walked-the_end_counts : walked (Front ∷ []) (codes "A") ≡ walked (Back ∷ []) (codes "A") → ⊥
+Walked-the_end_counts e = grind arith
 
 from_front-first : from_front (Some 0x78) both_ends ≡ record { fronts = codes "xA"; left = codes "🤔"; backs = codes "B" }
 from_front-first = refl

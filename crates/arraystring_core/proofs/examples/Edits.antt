@@ -1,98 +1,15 @@
 -- Examples of the table of edits. `Makes ROW t result new` says that an edit of the text t returns the result and leaves the text
 -- new. 'é' takes two bytes and '🤔' four; the last number of a row is the capacity, where it has one.
-use Rattle.std.proofs.Common.{◌≡◌, ℕ, [], ◌∷◌, refl, codes, true, false, Some, None, Ok, Err, inl, inr, arith}
+use Rattle.std.proofs.Common.{◌≡◌, ℕ, [], ◌∷◌, refl, codes, Some, None, Ok, Err}
+use Rattle.std.specs.declared.fmt.Error.{Error as FmtError}
 use Rattle.arraystring_base.specs.Text.{width}
 use Rattle.arraystring_base.specs.declared.error.Error.TheVariants as error
 use Rattle.arraystring_base.specs.declared.error.OutOfBounds.{OutOfBounds}
 use Rattle.arraystring_base.specs.declared.error.Utf8.{Utf8}
 use Rattle.arraystring_core.specs.Stored.{string_of}
 use Rattle.arraystring_core.specs.WhiteSpace.{is_space, is_white_space}
-use Rattle.arraystring_core.specs.Edits.{Past, Room, Inside, error_of, past, crossed, at_end, inside, no_room, first_cause, NoneHolds, FirstHolds, ok_unless, result_of, text_of, Makes, from_out_of_bounds, from_utf8_error, with_text, addition, addition_of_cut, popping, insertion, insertion_of_cut, truncation, trimming, removal, clearing, split, uppercase, lowercase, draining, replacement}
-
--- causes and tests
-
-Cause-each_is_another : (Past ≡ Room → ⊥) × (Past ≡ Inside → ⊥) × (Room ≡ Inside → ⊥)
-Cause-each_is_another = (λ e. cc, λ e. cc, λ e. cc)
-
-error_of-each_cause : (error_of Past ≡ error.OutOfBounds) × (error_of Room ≡ error.OutOfBounds) × (error_of Inside ≡ error.Utf8)
-error_of-each_cause = (refl, refl, refl)
-
-Test-holds_and_cause : ((no_room 5 4).holds ≡ true) × ((no_room 5 4).cause ≡ Room)
-Test-holds_and_cause = (refl, refl)
-
-past-the_text : past (codes "ab") 3 ≡ record { holds = true; cause = Past }
-unfolding width
-past-the_text = refl
-
-past-not_at_its_end : past (codes "ab") 2 ≡ record { holds = false; cause = Past }
-unfolding width
-past-not_at_its_end = refl
-
-crossed-reversed : crossed 2 1 ≡ record { holds = true; cause = Past }
-crossed-reversed = refl
-
-crossed-not_empty_or_in_order : (crossed 1 1 ≡ record { holds = false; cause = Past })
-    × (crossed 1 2 ≡ record { holds = false; cause = Past })
-crossed-not_empty_or_in_order = (refl, refl)
-
-at_end-and_past_it : (at_end (codes "ab") 2 ≡ record { holds = true; cause = Past })
-    × (at_end (codes "ab") 3 ≡ record { holds = true; cause = Past })
-unfolding width
-at_end-and_past_it = (refl, refl)
-
-at_end-not_at_a_character : at_end (codes "ab") 1 ≡ record { holds = false; cause = Past }
-unfolding width
-at_end-not_at_a_character = refl
-
-inside-a_character : inside (codes "aé") 2 ≡ record { holds = true; cause = Inside }
-unfolding width
-inside-a_character = refl
-
-inside-not_at_a_boundary : (inside (codes "aé") 0 ≡ record { holds = false; cause = Inside })
-    × (inside (codes "aé") 1 ≡ record { holds = false; cause = Inside })
-    × (inside (codes "aé") 3 ≡ record { holds = false; cause = Inside })
-unfolding width
-inside-not_at_a_boundary = (refl, refl, refl)
-
-inside-not_past_the_text : inside (codes "aé") 4 ≡ record { holds = false; cause = Inside }
-unfolding width
-inside-not_past_the_text = refl
-
-no_room-one_byte_too_large : no_room 5 4 ≡ record { holds = true; cause = Room }
-no_room-one_byte_too_large = refl
-
-no_room-not_of_what_fits_exactly : no_room 4 4 ≡ record { holds = false; cause = Room }
-no_room-not_of_what_fits_exactly = refl
-
-first_cause-none : (first_cause [] ≡ None) × (first_cause (no_room 4 4 ∷ crossed 1 2 ∷ []) ≡ None)
-first_cause-none = (refl, refl)
-
-first_cause-of_two_that_hold : first_cause (no_room 5 4 ∷ crossed 2 1 ∷ []) ≡ Some Room
-first_cause-of_two_that_hold = refl
-
-first_cause-the_second : first_cause (no_room 4 4 ∷ crossed 2 1 ∷ []) ≡ Some Past
-first_cause-the_second = refl
-
-NoneHolds-of_two : NoneHolds [] × NoneHolds (no_room 4 4 ∷ crossed 1 2 ∷ [])
-NoneHolds-of_two = (tt, (refl, (refl, tt)))
-
-NoneHolds-not_the_first : NoneHolds (no_room 5 4 ∷ crossed 1 2 ∷ []) → ⊥
-NoneHolds-not_the_first none = cc (none.0)
-
-NoneHolds-not_the_second : NoneHolds (no_room 4 4 ∷ crossed 2 1 ∷ []) → ⊥
-NoneHolds-not_the_second none = cc (none.1.0)
-
-FirstHolds-the_first : FirstHolds (no_room 5 4 ∷ crossed 2 1 ∷ []) Room
-FirstHolds-the_first = inl (refl, refl)
-
-FirstHolds-the_second : FirstHolds (no_room 4 4 ∷ crossed 2 1 ∷ []) Past
-FirstHolds-the_second = inr (refl, inl (refl, refl))
-
-FirstHolds-not_the_second_of_two : FirstHolds (no_room 5 4 ∷ crossed 2 1 ∷ []) Past → ⊥
-FirstHolds-not_the_second_of_two first = grind arith
-
-FirstHolds-not_one_that_does_not_hold : FirstHolds (no_room 4 4 ∷ []) Room → ⊥
-FirstHolds-not_one_that_does_not_hold first = grind arith
+use Rattle.arraystring_core.specs.Causes.{Past, Inside, first_cause}
+use Rattle.arraystring_core.specs.Edits.{ok_unless, result_of, text_of, Makes, from_out_of_bounds, from_fmt_error, from_utf8_error, with_text, addition, addition_of_cut, popping, insertion, insertion_of_cut, truncation, trimming, removal, clearing, split, uppercase, lowercase, draining, replacement}
 
 -- rows
 
@@ -128,11 +45,15 @@ Makes-no_other_text_when_done makes = cc (makes.ok)
 Makes-no_other_text_when_refused : Makes (removal (codes "é") 1) (codes "é") (Err error.Utf8) [] → ⊥
 Makes-no_other_text_when_refused makes = cc (makes.err)
 
-from_out_of_bounds-of_each_result : (from_out_of_bounds {E = OutOfBounds} (Ok (codes "a")) ≡ Ok (codes "a"))
+from_out_of_bounds-of_each_result : (from_out_of_bounds (Ok (codes "a")) ≡ Ok (codes "a"))
     × ((e : OutOfBounds) → from_out_of_bounds {A = ℕ} (Err e) ≡ Err error.OutOfBounds)
 from_out_of_bounds-of_each_result = (refl, λ e. refl)
 
-from_utf8_error-of_each_result : (from_utf8_error {E = Utf8} (Ok (codes "a")) ≡ Ok (codes "a"))
+from_fmt_error-of_each_result : (from_fmt_error (Ok (codes "a")) ≡ Ok (codes "a"))
+    × ((e : FmtError) → from_fmt_error {A = ℕ} (Err e) ≡ Err error.OutOfBounds)
+from_fmt_error-of_each_result = (refl, λ e. refl)
+
+from_utf8_error-of_each_result : (from_utf8_error (Ok (codes "a")) ≡ Ok (codes "a"))
     × ((e : Utf8) → from_utf8_error {A = ℕ} (Err e) ≡ Err error.Utf8)
 from_utf8_error-of_each_result = (refl, λ e. refl)
 

@@ -1,9 +1,18 @@
 -- Examples of a string as contracts see it. `codes "aé"` is the list of the characters of "aé".
-use Rattle.std.proofs.Common.{◌≡◌, [], refl, codes}
+use Rattle.std.proofs.Common.{◌≡◌, ℕ, List, [], ◌∷◌, refl, arith, codes}
+use Rattle.std.specs.Str.{chars}
+use Rattle.arraystring_core.specs.Layout.{stored}
 use Rattle.arraystring_core.specs.Stored.{string_of}
 
-Stored-text_and_spare : ((string_of (codes "aé")).text ≡ codes "aé") × ((string_of (codes "aé")).spare ≡ [])
-Stored-text_and_spare = (refl, refl)
+-- contracts compare texts and not these values, since one text may lie at two places
+Stored-one_text_at_two_places : ((stored (codes "ab.") 0 2).text ≡ (stored (codes "xab") 1 2).text)
+    × (stored (codes "ab.") 0 2 ≡ stored (codes "xab") 1 2 → ⊥)
+unfolding chars
+Stored-one_text_at_two_places = (refl, λ e. grind arith)
 
-string_of-a_text : string_of (codes "aé") ≡ record { text = codes "aé"; spare = [] }
-string_of-a_text = refl
+string_of-its_text : (string_of (codes "aé")).text ≡ codes "aé"
+string_of-its_text = refl
+
+-- the spare numbers of a string begin with its start
+string_of-is_no_string_in_an_array : (array : List ℕ) (start n : ℕ) (t : List ℕ) → stored array start n ≡ string_of t → ⊥
+string_of-is_no_string_in_an_array array start n t e = grind arith

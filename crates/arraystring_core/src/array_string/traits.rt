@@ -4,7 +4,7 @@ ghost use Rattle.std.specs.Prelude.{◌≡◌, Ok, [], ◌++◌, chars, nat_eq, 
 ghost use Rattle.std.specs.Cmp.{on_equiv, on_per, partial_equiv_from_equiv, on_total, on_po};
 ghost use Rattle.std.specs.Cmp.Lexicographic.{pointwise, nat_list_eq_equiv, slice_cmp, nat_list_cmp_total, texts_po, texts_ties, bytes_decides};
 ghost use Rattle.arraystring_base.specs.Text.{bytes, cap, cut, IsBefore};
-ghost use Rattle.arraystring_core.specs.Edits.{Makes, from_out_of_bounds, addition, addition_of_cut};
+ghost use Rattle.arraystring_core.specs.Edits.{Makes, from_out_of_bounds, from_fmt_error, addition, addition_of_cut};
 ghost use Rattle.arraystring_core.specs.Construct.{IsWholeOrRefused};
 ghost use Rattle.std.specs.Hash as fed;
 ghost use Rattle.std.specs.Ordering.{nat_cmp, MatchOrdering};
@@ -166,7 +166,7 @@ impl<const N: usize> fmt::Write for ArrayString<N> {
     fn write_str(&mut self, string: &str) -> fmt::Result
         ensures ok { IsOk result → bytes self.new.text ≡ bytes self.old.text ++ string.now }
         ensures made { Makes (addition self.old.text (chars string.now) (cap N))
-            self.old.text (from_out_of_bounds result) self.new.text }
+            self.old.text (from_fmt_error result) self.new.text }
     {
         match self.try_push_str(string) {
             Ok(()) => Ok(()),

@@ -3,6 +3,7 @@ use Rattle.std.proofs.Common.{◌≡◌, [], ◌∷◌, Some, None, refl, arith,
 use Rattle.arraystring.specs.Refusals.{OutOfBounds, Utf8}
 use Rattle.arraystring_run.specs.Agreement.{commands_before, Agrees, AllAgree, IsNoSooner}
 use Rattle.arraystring_run.specs.Runs.{Done, Char, NoChar, Number, Refused}
+use Rattle.arraystring_run.specs.declared.commands.Command.{Command}
 use Rattle.arraystring_run.specs.declared.commands.Command.TheVariants as command
 
 commands_before-none_is_tight : commands_before (command.Pop ∷ command.Len ∷ []) None ≡ command.Pop ∷ command.Len ∷ []
@@ -29,6 +30,11 @@ Agrees-another_length e = grind arith
 -- each reply is the capacity of its own run
 Agrees-capacity_is_set_aside : Agrees command.Capacity (Number 4) (Number 23)
 Agrees-capacity_is_set_aside = tt
+
+-- no other reply is
+Agrees-no_other_is_set_aside : (c : Command) → (c ≡ command.Capacity → ⊥) → Agrees c Done NoChar → ⊥
+Agrees-no_other_is_set_aside command.Capacity other agrees = other refl
+Agrees-no_other_is_set_aside _ other agrees = cc
 
 AllAgree-of_no_command : AllAgree [] [] (Done ∷ [])
 AllAgree-of_no_command = tt

@@ -110,6 +110,12 @@ IsOutcome-another_bad_line : IsOutcome 5 (Some (0x0A ∷ [])) (Some []) (Some []
 IsOutcome-another_bad_line o =
     let bad : IsBadAt ([] ∷ []) 0 = o.bad_line in let number : 0 ≡ length bad.front + 1 = bad.number in omega arith
 
+IsOutcome-written_where_a_line_is_bad : IsOutcome 5 (Some (0x0A ∷ [])) (Some []) (Some []) ⊥ (Err (BadLine 1)) → ⊥
+IsOutcome-written_where_a_line_is_bad o = o.unwritten (λ e. cc)
+
+IsOutcome-written_without_memory : IsOutcome 5 (Some []) (Some []) (Some []) ⊥ (Err Memory) → ⊥
+IsOutcome-written_without_memory o = o.unwritten (λ e. cc)
+
 IsOutcome-written_where_a_read_failed : IsOutcome 5 (Some []) (Some []) (Some []) ⊥ (Err Read) → ⊥
 IsOutcome-written_where_a_read_failed o = o.unwritten (λ e. cc)
 

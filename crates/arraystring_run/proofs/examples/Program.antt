@@ -1,10 +1,10 @@
 -- Examples of what a program does that is given a word. `codes "len"` is the list of the bytes of `"len"`, and 0x0A is the line feed.
 -- For the claims that the input, the output or the errors are as before `Unit` is a true one, and `⊥` a false one.
-use Rattle.std.proofs.Common.{◌≡◌, sym, append-nil, ◌⊎◌, ℕ, inl, inr, List, [], ◌∷◌, ◌++◌, map, Some, None, Ok, Err, refl, arith, Bor, codes}
+use Rattle.std.proofs.Common.{◌≡◌, ap, sym, append-nil, ◌⊎◌, ℕ, inl, inr, List, [], ◌∷◌, ◌++◌, map, Some, None, Ok, Err, refl, arith, Bor, codes}
 use Rattle.std.specs.Fmt.{digits}
 use Rattle.arraystring_run.specs.Line.{IsLineOf}
 use Rattle.arraystring_run.specs.Player.{IsPlayed, IsPartPlayed, IsOutcome}
-use Rattle.arraystring_run.specs.Program.{capacity_named, bytes_of, status_of, usage_line, fault_line, report_of, IsOutcomeAt, status_at, report_at, IsServed}
+use Rattle.arraystring_run.specs.Program.{capacity_named, bytes_of, status_of, usage_line, fault_line, report_of, IsOutcomeAt, status_at, report_at, Service, IsServed}
 use Rattle.arraystring_run.specs.ScriptLines.{IsBadAt}
 use Rattle.arraystring_run.specs.Writing.{AppendsPrefix}
 use Rattle.arraystring_run.specs.declared.commands.Command.{Command}
@@ -103,8 +103,65 @@ bad_line_1 = record { front = []; commands = []; line = []; rest = []; whole = r
 all_of : (bs : List ℕ) → AppendsPrefix (Some []) (Some bs) bs
 all_of bs = record { done = bs; later = []; whole = sym (append-nil bs); appended = refl }
 
-IsServed-played : IsServed (Some (str (codes "small"))) (Some (codes "capacity")) (Some []) (Some output) (Some []) (Some [])
-    ⊥ ⊥ (Unit {0}) 0
+-- what was done for the word `small`, with no input, no byte to the output or the errors, and status 0: the other services are
+-- written as what is another in them. Output and errors were empty before.
+abbrev nothing : Service
+nothing = record {
+  word = Some (str (codes "small"));
+  input = Some [];
+  output_before = Some [];
+  output_after = Some [];
+  errors_before = Some [];
+  errors_after = Some [];
+  SameInput = ⊥;
+  SameOutput = Unit {0};
+  SameErrors = ⊥;
+  status = 0;
+}
+
+-- the script `capacity` was played
+abbrev played_capacity : Service
+played_capacity = record nothing {
+  input = Some (codes "capacity");
+  output_after = Some output;
+  SameOutput = ⊥;
+  SameErrors = Unit {0};
+}
+
+-- a word that names no capacity
+abbrev of_big : Service
+of_big = record nothing {
+  word = Some (str (codes "big"));
+  errors_after = Some usage_line;
+  SameInput = Unit {0};
+  status = 2;
+}
+
+-- an empty line, and a part of what is said of it
+abbrev of_bad_line : Service
+of_bad_line = record nothing { input = Some (0x0A ∷ []); errors_after = Some (codes "bad line "); status = 2 }
+
+abbrev of_no_memory : Service
+of_no_memory = record nothing { errors_after = Some (codes "out of memory" ++ 0x0A ∷ []); status = 3 }
+
+abbrev of_failed_read : Service
+of_failed_read = record nothing { errors_after = Some (codes "read failed" ++ 0x0A ∷ []); status = 4 }
+
+-- the write failed after a part of what `capacity` prints
+abbrev of_failed_write : Service
+of_failed_write = record nothing {
+  input = Some (codes "capacity");
+  output_after = Some (codes "number 23");
+  errors_after = Some (codes "write failed" ++ 0x0A ∷ []);
+  SameOutput = ⊥;
+  status = 4;
+}
+
+Service-the_output_is_not_the_errors : record nothing { output_after = Some (codes "a") } ≡ record nothing { errors_after = Some (codes "a") } → ⊥
+Service-the_output_is_not_the_errors e =
+    let same : Some (codes "a") ≡ Some [] = ap (λ (s : Service). s.output_after) e in grind arith
+
+IsServed-played : IsServed played_capacity
 unfolding digits
 IsServed-played = record {
   other_word = λ e. absurd (cc);
@@ -117,10 +174,9 @@ IsServed-played = record {
   known = omega arith;
 }
 
-IsServed-other_word : IsServed (Some (str (codes "big"))) (Some []) (Some []) (Some []) (Some [])
-    (Some (codes "usage: arraystring_run small or cache or max" ++ 0x0A ∷ [])) (Unit {0}) (Unit {0}) ⊥ 2
+IsServed-other_word : IsServed of_big
 IsServed-other_word = record {
-  other_word = λ e. (refl, tt, tt, all_of usage_line);
+  other_word = λ e. (refl, tt, all_of usage_line);
   played = tt;
   bad_line = tt;
   no_memory = λ e. absurd (omega arith);
@@ -131,8 +187,7 @@ IsServed-other_word = record {
 }
 
 -- the errors may fail, too, after a part of the line
-IsServed-bad_line : IsServed (Some (str (codes "small"))) (Some (0x0A ∷ [])) (Some []) (Some []) (Some []) (Some (codes "bad line "))
-    ⊥ (Unit {0}) ⊥ 2
+IsServed-bad_line : IsServed of_bad_line
 unfolding digits
 IsServed-bad_line = record {
   other_word = λ e. absurd (cc);
@@ -146,8 +201,7 @@ IsServed-bad_line = record {
   known = omega arith;
 }
 
-IsServed-no_memory : IsServed (Some (str (codes "small"))) (Some []) (Some []) (Some []) (Some [])
-    (Some (codes "out of memory" ++ 0x0A ∷ [])) ⊥ (Unit {0}) ⊥ 3
+IsServed-no_memory : IsServed of_no_memory
 IsServed-no_memory = record {
   other_word = λ e. absurd (cc);
   played = λ e. absurd (omega arith);
@@ -159,8 +213,7 @@ IsServed-no_memory = record {
   known = omega arith;
 }
 
-IsServed-read_failed : IsServed (Some (str (codes "small"))) (Some []) (Some []) (Some []) (Some [])
-    (Some (codes "read failed" ++ 0x0A ∷ [])) ⊥ (Unit {0}) ⊥ 4
+IsServed-read_failed : IsServed of_failed_read
 IsServed-read_failed = record {
   other_word = λ e. absurd (cc);
   played = λ e. absurd (omega arith);
@@ -172,8 +225,7 @@ IsServed-read_failed = record {
   known = omega arith;
 }
 
-IsServed-write_failed : IsServed (Some (str (codes "small"))) (Some (codes "capacity")) (Some []) (Some (codes "number 23")) (Some [])
-    (Some (codes "write failed" ++ 0x0A ∷ [])) ⊥ ⊥ ⊥ 4
+IsServed-write_failed : IsServed of_failed_write
 unfolding digits
 IsServed-write_failed = record {
   other_word = λ e. absurd (cc);
@@ -189,26 +241,28 @@ IsServed-write_failed = record {
   known = omega arith;
 }
 
-IsServed-played_for_another_word : IsServed None (Some []) (Some []) (Some []) (Some []) (Some []) (Unit {0}) (Unit {0}) (Unit {0}) 0 → ⊥
-IsServed-played_for_another_word is = omega (arith, (is.other_word refl).0)
+-- Each of these differs in one thing from one of those.
 
-IsServed-read_for_another_word : IsServed None (Some []) (Some []) (Some []) (Some []) (Some usage_line) ⊥ (Unit {0}) (Unit {0}) 2 → ⊥
+IsServed-another_status_for_another_word : IsServed (record of_big { status = 3 }) → ⊥
+IsServed-another_status_for_another_word is = omega (arith, (is.other_word refl).0)
+
+IsServed-read_for_another_word : IsServed (record of_big { SameInput = ⊥ }) → ⊥
 IsServed-read_for_another_word is = (is.other_word refl).1
 
-IsServed-no_usage_line : IsServed None (Some []) (Some []) (Some []) (Some []) (Some (codes "bad")) (Unit {0}) (Unit {0}) (Unit {0}) 2 → ⊥
-IsServed-no_usage_line is = let said : AppendsPrefix (Some []) (Some (codes "bad")) usage_line = (is.other_word refl).3 in grind arith
+IsServed-written_for_another_word : IsServed (record of_big { SameOutput = ⊥ }) → ⊥
+IsServed-written_for_another_word is = is.unwritten (omega arith) (omega arith)
 
--- the last line lacks a byte
-IsServed-output_lacks_a_byte : IsServed (Some (str (codes "small"))) (Some []) (Some []) (Some (codes "final ")) (Some []) (Some [])
-    ⊥ ⊥ (Unit {0}) 0 → ⊥
+IsServed-no_usage_line : IsServed (record of_big { errors_after = Some (codes "bad") }) → ⊥
+IsServed-no_usage_line is = let said : AppendsPrefix (Some []) (Some (codes "bad")) usage_line = (is.other_word refl).2 in grind arith
+
+IsServed-output_lacks_a_byte : IsServed (record played_capacity { input = Some []; output_after = Some (codes "final ") }) → ⊥
 IsServed-output_lacks_a_byte is = go (is.played refl)
   where
     go : IsPlayed [] 23 (Some []) (Some (codes "final ")) → ⊥
     go ([], are, e) = grind arith
     go (c ∷ cs, are, e) = are
 
-IsServed-no_line_is_bad : IsServed (Some (str (codes "small"))) (Some []) (Some []) (Some []) (Some []) (Some (codes "bad line 1"))
-    ⊥ (Unit {0}) ⊥ 2 → ⊥
+IsServed-no_line_is_bad : IsServed (record of_bad_line { input = Some [] }) → ⊥
 IsServed-no_line_is_bad is = go (is.bad_line refl).1
   where
     go : {k : ℕ} → IsBadAt [] k → ⊥
@@ -218,36 +272,57 @@ IsServed-no_line_is_bad is = go (is.bad_line refl).1
         none [] e = cc
         none (l ∷ front) e = cc
 
-IsServed-says_another_line_than_the_bad_one : IsServed (Some (str (codes "small"))) (Some (0x0A ∷ [])) (Some []) (Some []) (Some [])
-    (Some (codes "out")) ⊥ (Unit {0}) ⊥ 2 → ⊥
+IsServed-says_another_line_than_the_bad_one : IsServed (record of_bad_line { errors_after = Some (codes "out") }) → ⊥
 IsServed-says_another_line_than_the_bad_one is =
     let (k, bad, said) = is.bad_line refl in
     let said : AppendsPrefix (Some []) (Some (codes "out")) (fault_line (BadLine k)) = said in grind arith
 
-IsServed-says_another_fault_than_memory : IsServed (Some (str (codes "small"))) (Some []) (Some []) (Some []) (Some [])
-    (Some (codes "read failed")) ⊥ (Unit {0}) ⊥ 3 → ⊥
+IsServed-written_though_a_line_is_bad : IsServed (record of_bad_line { SameOutput = ⊥ }) → ⊥
+IsServed-written_though_a_line_is_bad is = is.unwritten (omega arith) (omega arith)
+
+IsServed-says_another_fault_than_memory : IsServed (record of_no_memory { errors_after = Some (codes "read failed") }) → ⊥
 IsServed-says_another_fault_than_memory is =
     let said : AppendsPrefix (Some []) (Some (codes "read failed")) (fault_line Memory) = is.no_memory refl in grind arith
 
-IsServed-wrote_and_says_that_a_read_failed : IsServed (Some (str (codes "small"))) (Some []) (Some []) (Some (codes "fin")) (Some [])
-    (Some (codes "read failed")) ⊥ ⊥ ⊥ 4 → ⊥
+IsServed-written_without_memory : IsServed (record of_no_memory { SameOutput = ⊥ }) → ⊥
+IsServed-written_without_memory is = is.unwritten (omega arith) (omega arith)
+
+-- what status 4 says of the service with no input, by what was written to the output and to the errors
+abbrev Failed : Type 0 → List ℕ → List ℕ → Type 0
+Failed Same out said = (Same × AppendsPrefix (Some []) (Some said) (fault_line Read))
+    ⊎ (IsPartPlayed [] 23 (Some []) (Some out) × AppendsPrefix (Some []) (Some said) (fault_line Write))
+
+IsServed-says_another_fault_than_a_failed_read : IsServed (record of_failed_read { errors_after = Some (codes "out of memory") }) → ⊥
+IsServed-says_another_fault_than_a_failed_read is = go (is.failed refl)
+  where
+    go : Failed (Unit {0}) [] (codes "out of memory") → ⊥
+    go (inl (same, said)) = grind arith
+    go (inr (part, said)) = grind arith
+
+IsServed-wrote_and_says_that_a_read_failed : IsServed (record of_failed_read { output_after = Some (codes "fin"); SameOutput = ⊥ }) → ⊥
 IsServed-wrote_and_says_that_a_read_failed is = go (is.failed refl)
   where
-    go : (⊥ × AppendsPrefix (Some []) (Some (codes "read failed")) (fault_line Read))
-        ⊎ (IsPartPlayed [] 23 (Some []) (Some (codes "fin")) × AppendsPrefix (Some []) (Some (codes "read failed")) (fault_line Write)) → ⊥
+    go : Failed ⊥ (codes "fin") (codes "read failed" ++ 0x0A ∷ []) → ⊥
     go (inl (same, said)) = same
     go (inr (part, said)) = grind arith
 
-IsServed-errors_were_written_though_all_was_played : IsServed (Some (str (codes "small"))) (Some (codes "capacity")) (Some []) (Some output)
-    (Some []) (Some []) ⊥ ⊥ ⊥ 0 → ⊥
+-- the run of no command prints `final `, of which these bytes are no part
+IsServed-wrote_what_the_script_does_not_print : IsServed (record of_failed_write { input = Some []; output_after = Some (codes "number") }) → ⊥
+IsServed-wrote_what_the_script_does_not_print is = go (is.failed refl)
+  where
+    no_part : IsPartPlayed [] 23 (Some []) (Some (codes "number")) → ⊥
+    no_part ([], are, appends) = grind arith
+    no_part (c ∷ cs, are, appends) = are
+
+    go : Failed ⊥ (codes "number") (codes "write failed" ++ 0x0A ∷ []) → ⊥
+    go (inl (same, said)) = same
+    go (inr (part, said)) = no_part part
+
+IsServed-errors_were_written_though_all_was_played : IsServed (record played_capacity { SameErrors = ⊥ }) → ⊥
 IsServed-errors_were_written_though_all_was_played is = is.quiet refl
 
-IsServed-output_was_written_without_memory : IsServed (Some (str (codes "small"))) (Some []) (Some []) (Some [])
-    (Some []) (Some []) ⊥ ⊥ ⊥ 3 → ⊥
-IsServed-output_was_written_without_memory is = is.unwritten (omega arith) (omega arith)
-
-IsServed-status_1 : IsServed (Some (str (codes "small"))) (Some []) (Some []) (Some []) (Some []) (Some []) ⊥ (Unit {0}) ⊥ 1 → ⊥
+IsServed-status_1 : IsServed (record nothing { status = 1 }) → ⊥
 IsServed-status_1 is = is.known.1 refl
 
-IsServed-status_5 : IsServed (Some (str (codes "small"))) (Some []) (Some []) (Some []) (Some []) (Some []) ⊥ (Unit {0}) ⊥ 5 → ⊥
+IsServed-status_5 : IsServed (record nothing { status = 5 }) → ⊥
 IsServed-status_5 is = omega (arith, is.known.0)

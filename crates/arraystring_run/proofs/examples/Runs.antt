@@ -8,7 +8,7 @@ use Rattle.arraystring.specs.WhiteSpace.{is_white_space}
 use Rattle.arraystring.specs.Edits.{Past, Room, Inside, addition, insertion, removal}
 use Rattle.arraystring.specs.Stored.{string_of}
 use Rattle.arraystring.specs.Refusals.{OutOfBounds, Utf8}
-use Rattle.arraystring_run.specs.Runs.{Done, Char, NoChar, Text, NoText, Number, Refused, view_of, Effect, reply_and_text, reply_of, apply, apply_unit, char_or_none, text_or_none, without, end_through, effect, is_room, lacks_room, is_made, adds_less, is_tight, RunResult, after, first_tight_from, earlier_of, NoneTight, IsFirstTight}
+use Rattle.arraystring_run.specs.Runs.{Done, Char, NoChar, Text, NoText, Number, Refused, view_of, reply_and_text, reply_of, apply, apply_unit, char_or_none, text_or_none, without, end_through, effect, is_room, lacks_room, is_made, adds_less, is_tight, after, first_tight_from, earlier_of, NoneTight, IsFirstTight}
 use Rattle.arraystring_run.specs.declared.commands.Command.{Command}
 use Rattle.arraystring_run.specs.declared.commands.Command.TheVariants as command
 use Rattle.arraystring_run.specs.declared.commands.Reply.TheVariants as reply
@@ -51,11 +51,15 @@ text_or_none-none = refl
 
 -- The effects of rows of the table of edits
 
-Effect-has_a_reply_and_a_text : Effect
-Effect-has_a_reply_and_a_text = record { reply = Done; text = codes "ab" }
+-- an effect is another one if the reply is, or the text
+Effect-another_reply : effect command.Pop [] 5 ≡ effect command.Clear [] 5 → ⊥
+Effect-another_reply e = grind arith
 
-reply_and_text-both : ((reply_and_text Done (codes "ab")).reply ≡ Done) × ((reply_and_text Done (codes "ab")).text ≡ codes "ab")
-reply_and_text-both = (refl, refl)
+Effect-another_text : effect command.Upper (codes "a") 5 ≡ effect command.Lower (codes "a") 5 → ⊥
+Effect-another_text e = grind arith
+
+reply_and_text-as_pop_leaves_nothing : reply_and_text (Char 0x61) [] ≡ effect command.Pop (codes "a") 5
+reply_and_text-as_pop_leaves_nothing = refl
 
 apply-made : apply Char (removal (codes "abc") 1) (codes "abc") ≡ reply_and_text (Char 0x62) (codes "ac")
 unfolding width
@@ -505,8 +509,12 @@ is_tight-no_other = refl
 
 -- Runs
 
-RunResult-has_replies_and_a_text : RunResult
-RunResult-has_replies_and_a_text = record { replies = Done ∷ []; text = codes "ab" }
+-- a run has another result if a reply is another, or the last text
+RunResult-another_reply : after (command.Pop ∷ []) [] 5 ≡ after (command.Clear ∷ []) [] 5 → ⊥
+RunResult-another_reply e = grind arith
+
+RunResult-another_text : after (command.Upper ∷ []) (codes "a") 5 ≡ after (command.Lower ∷ []) (codes "a") 5 → ⊥
+RunResult-another_text e = grind arith
 
 after-no_command : after [] (codes "ab") 5 ≡ record { replies = []; text = codes "ab" }
 after-no_command = refl
@@ -599,6 +607,15 @@ IsFirstTight-the_second =
     (command.PushStr (str (codes "ABCD🤔")) ∷ [], command.TryInsert 1 0x41, [], refl, refl, refl, none)
   where
     none : NoneTight (command.PushStr (str (codes "ABCD🤔")) ∷ []) [] 8
+    none [] c later e = grind arith
+    none (b ∷ []) c later e = absurd (cc)
+    none (b ∷ d ∷ before) c later e = absurd (cc)
+
+IsFirstTight-after_a_pop : IsFirstTight (command.Pop ∷ command.TryPush 0xE9 ∷ []) (codes "a") 1 1
+unfolding width
+IsFirstTight-after_a_pop = (command.Pop ∷ [], command.TryPush 0xE9, [], refl, refl, refl, none)
+  where
+    none : NoneTight (command.Pop ∷ []) (codes "a") 1
     none [] c later e = grind arith
     none (b ∷ []) c later e = absurd (cc)
     none (b ∷ d ∷ before) c later e = absurd (cc)

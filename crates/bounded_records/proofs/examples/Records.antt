@@ -221,7 +221,8 @@ IsFirstFault-length_before_padding is = omega (arith, is.0)
 IsFirstFault-count_before_utf8 : IsFirstFault (set (set good 21 6) 1 0xFF) Utf8 → ⊥
 IsFirstFault-count_before_utf8 is = omega (arith, is.1.1)
 
-IsFirstFault-count_before_padding : IsFirstFault (set (set good 0 21) 26 1) Padding → ⊥
+-- the role is counted a byte short, so that its last byte is in the padding
+IsFirstFault-count_before_padding : IsFirstFault (set (set (set good 21 4) 26 1) 0 21) Padding → ⊥
 IsFirstFault-count_before_padding is = omega (arith, is.1.0)
 
 IsFirstFault-utf8_before_padding : IsFirstFault (set (set good 22 0xFF) 5 1) Padding → ⊥

@@ -373,7 +373,7 @@ impl<const N: usize> fmt::Write for ArrayString<N> {
     /// ```text
     /// ensures ok { IsOk result → bytes self.new.text ≡ bytes self.old.text ++ string.now }
     /// ensures made { Makes (addition self.old.text (chars string.now) (cap N))
-    ///     self.old.text (from_out_of_bounds result) self.new.text }
+    ///     self.old.text (from_fmt_error result) self.new.text }
     /// ```
     ///
     /// [How to read a contract](crate::contracts)

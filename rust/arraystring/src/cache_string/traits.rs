@@ -349,7 +349,7 @@ impl fmt::Write for CacheString {
     /// ```text
     /// ensures ok { IsOk result → bytes self.new.0.text ≡ bytes self.old.0.text ++ string.now }
     /// ensures made { Makes (addition self.old.0.text (chars string.now) 63)
-    ///     self.old.0.text (from_out_of_bounds result) self.new.0.text }
+    ///     self.old.0.text (from_fmt_error result) self.new.0.text }
     /// ```
     ///
     /// [How to read a contract](crate::contracts)

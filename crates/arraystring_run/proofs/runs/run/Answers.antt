@@ -2,6 +2,7 @@ use Rattle.std.proofs.Common.{◌∙◌, ap, length, map, sym}
 use Rattle.arraystring.specs.Text.{cap}
 use Rattle.arraystring_run.specs.Runs.{view_of}
 use Rattle.arraystring_run.proofs.RunLemmas.{is_empty-none, of-none}
+use Rattle.arraystring_run.proofs.TightLemmas.{first_tight-at}
 use Rattle.arraystring_run.proofs.runs.run.Goals.{then-not-is_empty, else-not-is_empty}
 use Rattle.arraystring_run.proofs.runs.run.Goals as goal
 
@@ -28,6 +29,7 @@ returns-clause-text g c = elim c.if-not-is_empty.branch [
 
 pub returns-clause-first_tight : goal.returns-clause-first_tight
 returns-clause-first_tight g c = elim c.if-not-is_empty.branch [
-  | then-not-is_empty w ↦ w.first_tight-is ∙ w.fill-first_tight.ensures.first_tight
-  | else-not-is_empty w ↦ w.first_tight-is ∙ sym (of-none _ c.args.text.now.text (cap g.row.N) w.if-not-is_empty.ensures).2
+  | then-not-is_empty w ↦ first_tight-at _ _ _ _ (w.first_tight-is ∙ w.fill-first_tight.ensures.first_tight)
+  | else-not-is_empty w ↦
+      first_tight-at _ _ _ _ (w.first_tight-is ∙ sym (of-none _ c.args.text.now.text (cap g.row.N) w.if-not-is_empty.ensures).2)
 ]

@@ -7,6 +7,7 @@ use Rattle.arraystring_run.specs.Agreement.{commands_before, Agrees, AllAgree, I
 use Rattle.arraystring_run.specs.declared.commands.Command.{Command}
 use Rattle.arraystring_run.specs.declared.commands.Command.TheVariants as command
 use Rattle.arraystring_run.proofs.RunLemmas.{is_cut-larger, is_empty-none, of-none}
+use Rattle.arraystring_run.proofs.TightLemmas.{first_tight-only, first_tight-at}
 use Rattle.arraystring_run.proofs.runs.run_both.Goals.{then-not-is_empty, else-not-is_empty}
 use Rattle.arraystring_run.proofs.runs.run_both.Goals as goal
 
@@ -115,8 +116,9 @@ returns-clause-second_text g c = elim c.if-not-is_empty.branch [
 
 pub returns-clause-second_tight : goal.returns-clause-second_tight
 returns-clause-second_tight g c = elim c.if-not-is_empty.branch [
-  | then-not-is_empty w ↦ w.first_tight-is ∙ w.fill-first_tight.ensures.first_tight
-  | else-not-is_empty w ↦ w.first_tight-is ∙ sym (of-none _ c.args.second.now.text (cap g.row.M) w.if-not-is_empty.ensures).2
+  | then-not-is_empty w ↦ first_tight-at _ _ _ _ (w.first_tight-is ∙ w.fill-first_tight.ensures.first_tight)
+  | else-not-is_empty w ↦
+      first_tight-at _ _ _ _ (w.first_tight-is ∙ sym (of-none _ c.args.second.now.text (cap g.row.M) w.if-not-is_empty.ensures).2)
 ]
 
 pub returns-clause-one_each : goal.returns-clause-one_each
@@ -131,16 +133,20 @@ returns-clause-one_each g c = elim c.if-not-is_empty.branch [
 pub returns-clause-agree : goal.returns-clause-agree
 returns-clause-agree g c = λ same le.
     let first = c.in_ok-first_outcome.ensures in
-    rw (first.replies, first.first_tight, returns-clause-second_replies g c, ← same)
+    let at = first_tight-only _ _ _ _ first.first_tight in
+    rw (first.replies, at, returns-clause-second_replies g c, ← same)
     (alike c.args.commands.now c.args.first.now.text (cap g.row.N) (cap g.row.M) le).agree
 
 pub returns-clause-no_sooner : goal.returns-clause-no_sooner
 returns-clause-no_sooner g c = λ same le.
-    rw (c.in_ok-first_outcome.ensures.first_tight, returns-clause-second_tight g c, ← same)
+    let at = first_tight-only _ _ _ _ c.in_ok-first_outcome.ensures.first_tight in
+    let second_at = first_tight-only _ _ _ _ (returns-clause-second_tight g c) in
+    rw (at, second_at, ← same)
     (alike c.args.commands.now c.args.first.now.text (cap g.row.N) (cap g.row.M) le).no_sooner
 
 pub returns-clause-same_text : goal.returns-clause-same_text
 returns-clause-same_text g c = λ same le none.
     let cs = c.args.commands.now in let first = c.in_ok-first_outcome.ensures in
-    first.text ∙ (alike cs c.args.first.now.text (cap g.row.N) (cap g.row.M) le).same_text (sym first.first_tight ∙ none)
+    let at = first_tight-only _ _ _ _ first.first_tight in
+    first.text ∙ (alike cs c.args.first.now.text (cap g.row.N) (cap g.row.M) le).same_text (sym at ∙ none)
     ∙ ap (λ t. (after cs t (cap g.row.M)).text) same ∙ sym (returns-clause-second_text g c)

@@ -1,0 +1,47 @@
+-- Why an edit is refused: the tests that it makes in turn, and the cause of the first that holds.
+use Rattle.std.specs.Prelude.{ℕ, List, [], ◌∷◌, Bool, not, ◌&&◌, Option, Some, None, if◌then◌else◌, nat_lt, nat_le}
+use Rattle.arraystring_base.specs.Text.{size, boundary}
+use Rattle.arraystring_base.specs.declared.error.Error.{Error}
+use Rattle.arraystring_base.specs.declared.error.Error.TheVariants as error
+
+-- why an edit is refused: an index that is not in the text, a result that does not fit, an index inside a character
+pub data Cause : Type 0 where
+  Past : Cause
+  Room : Cause
+  Inside : Cause
+
+-- the error of a refusal: `Utf8` for an index inside a character, else `OutOfBounds`
+abbrev pub error_of : Cause → Error
+error_of Past = error.OutOfBounds
+error_of Room = error.OutOfBounds
+error_of Inside = error.Utf8
+
+-- a cause, and whether it holds
+pub record Test : Type 0 where
+  pub holds : Bool
+  pub cause : Cause
+
+-- i is greater than the size of t
+abbrev pub past : List ℕ → ℕ → Test
+past t i = record { holds = nat_lt (size t) i; cause = Past }
+
+-- a range that ends before it starts
+abbrev pub crossed : ℕ → ℕ → Test
+crossed start end = record { holds = nat_lt end start; cause = Past }
+
+-- no character of t begins at i or after it
+abbrev pub at_end : List ℕ → ℕ → Test
+at_end t i = record { holds = nat_le (size t) i; cause = Past }
+
+-- i is not past the text and no boundary of it
+abbrev pub inside : List ℕ → ℕ → Test
+inside t i = record { holds = nat_lt i (size t) && not (boundary t i); cause = Inside }
+
+-- a result of this size does not fit into n bytes
+abbrev pub no_room : ℕ → ℕ → Test
+no_room result_size n = record { holds = nat_lt n result_size; cause = Room }
+
+-- the cause of the first test that holds
+abbrev pub first_cause : List Test → Option Cause
+first_cause [] = None
+first_cause (test ∷ rest) = if test.holds then Some test.cause else first_cause rest

@@ -1,0 +1,13 @@
+-- What laws say of the tests that an edit makes: that none holds, or which is the first that does. No contract uses these words.
+use Rattle.std.specs.Prelude.{◌≡◌, ◌⊎◌, ⊤, List, [], ◌∷◌, true, false}
+use Rattle.arraystring_core.specs.Causes.{Cause, Test}
+
+-- none of the tests holds
+abbrev pub NoneHolds : List Test → Type 0
+NoneHolds [] = ⊤
+NoneHolds (test ∷ rest) = (test.holds ≡ false) × NoneHolds rest
+
+-- the cause is that of the first test that holds
+abbrev pub FirstHolds : List Test → Cause → Type 0
+FirstHolds [] found = ⊥
+FirstHolds (test ∷ rest) found = ((test.holds ≡ true) × (found ≡ test.cause)) ⊎ ((test.holds ≡ false) × FirstHolds rest found)
