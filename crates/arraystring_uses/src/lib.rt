@@ -4,6 +4,7 @@
 pub mod columns;
 pub mod commas;
 pub mod cursor;
+pub mod edges;
 pub mod entry;
 pub mod greeting;
 pub mod json;

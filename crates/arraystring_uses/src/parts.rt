@@ -1,5 +1,5 @@
 //! Parts of a string, by ranges of byte indices, and what is left of a part that is taken out.
-ghost use Rattle.std.specs.Prelude.{◌≡◌, ◌≤◌, MatchOption, None, Some, chars, true, false};
+ghost use Rattle.std.specs.Prelude.{◌≡◌, ◌≢◌, ◌≤◌, [], MatchOption, None, Some, chars, true, false};
 ghost use Rattle.arraystring.specs.Edits.{draining, first_cause, ok_unless, part_in, text_of};
 ghost use Rattle.arraystring.specs.Text.{boundary, cut, front};
 
@@ -41,6 +41,16 @@ pub fn drop_part<const N: usize>(text: &mut ArrayString<N>, start: u8, end: u8) 
 {
     text.drain(start..end)?;
     Ok(())
+}
+
+/// Takes the bytes from `start` to `end` out, and returns what was taken: nothing, if `drain` refuses that.
+#[tactic(auto, using(arraystring::proofs::Rules::splits))]
+pub fn taken_out(text: &mut ArrayString<16>, start: u8, end: u8) -> Drain<16>
+    ensures text { text.new.text ≡ text_of (draining text.old.text start end) text.old.text }
+    ensures refused { first_cause (draining text.old.text start end).tests ≢ None
+        → result.left ≡ [] }
+{
+    text.drain(start..end).unwrap_or_default()
 }
 
 /// Returns the longest prefix of whole characters of what is left of `drained` that fits into 8

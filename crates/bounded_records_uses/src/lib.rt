@@ -5,5 +5,6 @@
 pub mod entry;
 pub mod records;
 pub mod registry;
+pub mod roster;
 #[cfg(test)]
 mod tests;
