@@ -86,7 +86,8 @@ class Laws(TreeTest):
         places = ("src/lib.rt", "specs/Words.antt", "proofs/half/Answers.antt", "proofs/examples/Numbers.antt")
         for folder in (FOLDER, "crates/upper"):
             for path in (f"{folder}/{it}" for it in places):
-                self.assert_finds(laws, (fault(path), (path, text)), (fault(path), (path, "of = λ s. length s.spare\n")), ("", (path, "-- spare\n// spare\n")))
+                plants = ((fault(path), text), (fault(path), "of = λ s. length s.spare\n"), ("", "-- spare\n// spare\n"))
+                self.assert_finds(laws, *((wanted, (path, it)) for wanted, it in plants))
         for path in (f"crates/arraystring_core/{it}" for it in places):
             self.assert_finds(laws, ("", ("crates.txt", r"\A", "arraystring_core:\n"), (path, text)))
 

@@ -41,7 +41,7 @@ class Links(TreeTest):
             links,
             (FAULT("deep/er/OTHER.md", "../PAGE.md"), ("deep/er/OTHER.md", r"Back \[there\]\(../../", "[there](../")),
             (FAULT("deep/er/OTHER.md", "../../PAGE.md"), ("PAGE.md", None), ("deep/IN.md", "[up](er/OTHER.md)\n")),
-            (FAULT("PAGE.md", "deep/er/OTHER.md#two-words"), ("deep/er/OTHER.md", "^## Two words", "## Three words"), ("deep/er/OTHER.md", "^### Two", "### More")),
+            (FAULT("PAGE.md", "deep/er/OTHER.md#two-words"), ("deep/er/OTHER.md", "^(#+) Two words", r"\1 More words")),
         )
         with self.changed(("PAGE.md", "no link\n"), ("deep/er/OTHER.md", None)):
             self.assertTrue(self.told(links)[0])

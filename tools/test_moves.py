@@ -47,7 +47,8 @@ class Moves(TreeTest):
             *((by.format("pop_counted", it), (CORE, SOURCE.format(f"{it}(1)"))) for it in ("move_run", *sorted(moves.OF_STD))),
             (by.format("pop_counted", "move_new"), (moves.MODULE, END, "\npub fn move_new() {\n    1\n}\n"), (CORE, SOURCE.format("move_new(1)"))),
         )
-        for path in ("crates/arraystring_base/src/utf8.rt", "crates/arraystring/src/cache_string.rt", "crates/arraystring/src/cache_string/traits.rt"):
+        for path in ("arraystring_base/src/utf8.rt", "arraystring/src/cache_string.rt", "arraystring/src/cache_string/traits.rt"):
+            path = f"crates/{path}"
             self.assert_finds(
                 moves,
                 (f"{path}: hand_on is given a Steps and makes another\n", (path, given("shift(&mut Steps::new())"))),

@@ -26,5 +26,6 @@ class Run(TreeTest):
         self.assertEqual(self.status(), 0)
         for name, outcome in [*((it, "True") for it in COMMANDS), (COMMANDS[0], "'it is so'")]:
             self.assertEqual(self.status((f"tools/{name}.py", COMMAND(outcome))), 1, name)
-        for text in (ONE.replace("pass", "self.fail()"), ONE.replace("pass", "raise ValueError"), ONE.replace("test_one", "one"), None, "import none\n"):
+        without = (ONE.replace("pass", "self.fail()"), ONE.replace("pass", "raise ValueError"), ONE.replace("test_one", "one"), None, "import no\n")
+        for text in without:
             self.assertEqual(self.status((TEST, text)), 1, text)

@@ -214,8 +214,9 @@ class Trusted(TreeTest):
             self.assertFalse(self.told(trusted)[0])
 
     def test_each_kind_of_definition_is_told(self):
-        for kind in ("abbrev pub Kind : Text → Type 0\nKind t = limit < length t", "unfoldable pub Kind : Text → Type 0\nKind t = limit < length t",
-                     "pub record Kind : Type 0 where\n  pub most : limit", "pub data Kind : Type 0 where\n  Most : limit → Kind"):
+        claim = "pub Kind : Text → Type 0\nKind t = limit < length t"
+        for kind in (f"abbrev {claim}", f"unfoldable {claim}", "pub record Kind : Type 0 where\n  pub most : limit",
+                     "pub data Kind : Type 0 where\n  Most : limit → Kind"):
             definition = (FILE, END, f"\n-- of a kind\n{kind}\n")
             reached = (RUN, SOURCE.replace("Rows.{rest_of}", "Words.{Kind}").replace("rest_of", "Kind"))
             with self.changed((trusted.PAGE, ""), reached, definition):
