@@ -9,14 +9,15 @@ IMPORT = re.compile(r"(?m)^ *(?:unfoldable |pub |ghost )*use (Rattle[^\s{;]*?)(?
 
 
 def imports(text):
-    """What a file imports: by each name the path of a module, and a word of it or nothing."""
+    """What a file imports, but from std: by each name the path of a module, and a word of it or nothing. An impl may import for itself.
+    So it raises a ValueError where a name is brought from two places: which of them a word means is not looked up."""
     names = {}
     for path, listed, alias in IMPORT.findall(text):
-        if not listed:
-            names[alias or path.rpartition(".")[2]] = (path, "")
-        for word in re.findall(r"[^,\s][^,]*", listed):
-            word, _, other = word.strip().partition(" as ")
-            names[other or word] = (path, word)
+        words = [it.strip().partition(" as ") for it in re.findall(r"[^,\s][^,]*", listed)]
+        brought = {other or word: word for word, _, other in words} if listed else {alias or path.rpartition(".")[2]: ""}
+        for name, word in brought.items() if not path.startswith("Rattle.std.") else ():
+            if names.setdefault(name, (path, word)) != (path, word):
+                raise ValueError(f"two imports bring {name}: {path} has one, and {names[name][0]} another")
     return names
 
 

@@ -13,6 +13,11 @@ def read(path):
     return path.read_text(encoding="utf-8")
 
 
+def pages(root):
+    """The pages of the repository, which are at most two folders deep."""
+    return [page for depth in ("", "*/", "*/*/") for page in sorted(root.glob(f"{depth}*.md"))]
+
+
 def crates(root):
     """The names in crates.txt, in order."""
     return re.findall(r"(?m)^\w+", read(root / "crates.txt"))

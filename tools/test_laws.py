@@ -80,6 +80,17 @@ class Laws(TreeTest):
             with self.changed((FILE, END, ODD.replace("half-odd", "half_odd")), other):
                 self.assertIn(NOTHING("half_odd"), self.told(laws)[1])
 
+    def test_no_crate_but_the_core_names_what_lies_around_a_text(self):
+        fault = "{} names spare, as arraystring_core alone may\n".format
+        text = "stored : Stored\nstored = record { text = t; spare = [] }\n"
+        places = ("src/lib.rt", "specs/Words.antt", "proofs/half/Answers.antt", "proofs/examples/Numbers.antt")
+        for folder in (FOLDER, "crates/upper"):
+            for path in (f"{folder}/{it}" for it in places):
+                plants = ((fault(path), text), (fault(path), "of = λ s. length s.spare\n"), ("", "-- spare\n// spare\n"))
+                self.assert_finds(laws, *((wanted, (path, it)) for wanted, it in plants))
+        for path in (f"crates/arraystring_core/{it}" for it in places):
+            self.assert_finds(laws, ("", ("crates.txt", r"\A", "arraystring_core:\n"), (path, text)))
+
     def test_an_example_is_no_law_for_callers(self):
         example = (f"{FOLDER}/proofs/examples/Numbers.antt", "pub half-of_one : half 1 ≡ 0\nhalf-of_one = refl\n")
         self.assert_finds(laws, ("", example), (NAMED("half-of_one"), example, (PAGE, END, "`half-of_one`\n")))

@@ -47,6 +47,13 @@ class Moves(TreeTest):
             *((by.format("pop_counted", it), (CORE, SOURCE.format(f"{it}(1)"))) for it in ("move_run", *sorted(moves.OF_STD))),
             (by.format("pop_counted", "move_new"), (moves.MODULE, END, "\npub fn move_new() {\n    1\n}\n"), (CORE, SOURCE.format("move_new(1)"))),
         )
+        for path in ("arraystring_base/src/utf8.rt", "arraystring/src/cache_string.rt", "arraystring/src/cache_string/traits.rt"):
+            path = f"crates/{path}"
+            self.assert_finds(
+                moves,
+                (f"{path}: hand_on is given a Steps and makes another\n", (path, given("shift(&mut Steps::new())"))),
+                (f"{path}: Steps has another name\n", (path, "use a::Steps as Counter;\n")),
+            )
         for body in ("shift(array, 1, 0, 1, steps); // move_run, Steps::new()", "write_over(1)", "let [one, other] = all[1] == all[2];"):
             with self.changed((CORE, SOURCE.format(body))):
                 self.assertFalse(self.told(moves)[0])

@@ -213,6 +213,32 @@ class Trusted(TreeTest):
         with self.changed((FILE, END, long), ("crates/base/proofs/WordLaws.antt", "IsShort", "IsLong")):
             self.assertFalse(self.told(trusted)[0])
 
+    def test_each_kind_of_definition_is_told(self):
+        claim = "pub Kind : Text → Type 0\nKind t = limit < length t"
+        for kind in (f"abbrev {claim}", f"unfoldable {claim}", "pub record Kind : Type 0 where\n  pub most : limit",
+                     "pub data Kind : Type 0 where\n  Most : limit → Kind"):
+            definition = (FILE, END, f"\n-- of a kind\n{kind}\n")
+            reached = (RUN, SOURCE.replace("Rows.{rest_of}", "Words.{Kind}").replace("rest_of", "Kind"))
+            with self.changed((trusted.PAGE, ""), reached, definition):
+                self.assertEqual(self.reached(of_run=True), ["limit", "Kind"])
+                self.assertIn(f"{FILE}:13: Kind has no example in proofs/examples/Words.antt\n", self.told(trusted)[1])
+            self.assert_finds(
+                trusted,
+                (f"{FILE}:13: Kind is reached by no contract and no law\n", definition),
+                (f"{FILE}:12: Kind has no comment\n", (FILE, END, f"\n{kind}\n")),
+            )
+
+    def test_two_imports_bring_no_name(self):
+        self.write("crates/base/specs/Others.antt", "-- at most\nabbrev pub limit : ℕ\nlimit = 4\n")
+        line = LINE.replace("{IsShort}", "{limit}").replace("{ IsShort }", "{ λ t. limit }")
+        for other in ("Rattle.base.specs.Others.{limit}", "Rattle.base.specs.Others.{most as limit}", "Rattle.base.specs.Others as limit"):
+            for place in ("pub struct Line", "    ghost invariant"):
+                with self.changed((RUN, line.replace(place, f"ghost use {other};\n{place}"))):
+                    self.assertRaisesRegex(ValueError, "two imports bring limit", trusted.main, [], self.root)
+        for other in ("Rattle.base.specs.Words.{limit}", "Rattle.std.specs.Prelude.{limit}"):
+            with self.changed((RUN, line.replace("    ghost invariant", f"    ghost use {other};\n    ghost invariant"))):
+                self.assertEqual(self.reached(), ["limit"])
+
     def test_the_page_has_the_definitions_of_run_in_order(self):
         in_the_place = f"{trusted.PAGE} has {{}} in the place of {{}}\n".format
         self.assert_finds(

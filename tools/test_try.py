@@ -39,7 +39,7 @@ case $1 in
     *) answer 2 'usage: arraystring_run small or cache or max' ;;
 esac
 [ -f /dev/stdin ] || [ -p /dev/stdin ] || answer 4 'read failed'
-[ "$(ulimit -v)" = unlimited ] || [ "$(wc -c < /dev/stdin)" -lt 100000 ] || answer 3 'out of memory'
+[ "$(ulimit -v)" != 20000 ] || [ "$(wc -c < /dev/stdin)" -lt 100000 ] || answer 3 'out of memory'
 set -- "$1" $(awk 'NR == 1 {{ first = $1 }} !/^(len|capacity)$/ {{ bad = NR }} END {{ print NR, bad + 0, first }}')
 if [ "$4" = push_str ]; then
     answer 0 '' 'done

@@ -44,6 +44,9 @@ const LARGEST: usize = usize::MAX / 4;
 ///
 /// A read or a write that was interrupted is tried again.
 ///
+/// The clauses say which bytes are read and written where the contracts of `I` and `O` tell their bytes, as
+/// those of `&[u8]` and `Vec<u8>` do. Those of the system's streams do not, and tests show it of these.
+///
 /// # Errors
 ///
 /// The first of these that is met is returned:

@@ -4,7 +4,7 @@ ghost use Rattle.std.specs.Prelude.{◌≡◌, option_map};
 ghost use Rattle.arraystring_run.specs.Writing.{AppendsPrefix};
 ghost use Rattle.arraystring_run.specs.Program.{IsServed, IsOutcomeAt, bytes_of, capacity_named, status_at, report_at};
 
-pub use crate::arguments::{Arguments, given_word};
+pub use crate::arguments::given_word;
 use crate::player::{PlayFault, play};
 use crate::printing::write_line_of;
 use crate::writing::write_text;
@@ -41,6 +41,8 @@ fn capacity_of(word: Option<&str>) -> Option<Capacity>
 ///
 /// If the status is not 0, one line on `errors` says why. If a write to `errors` fails, only a prefix of
 /// that line is written, and the status is the same.
+///
+/// What is read and written is proved where the contracts of the streams tell their bytes, as for `play`.
 pub fn serve<I: Read, O: Write, E: Write>(
     alloc: Global,
     word: Option<&str>,

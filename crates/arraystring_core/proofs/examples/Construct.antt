@@ -1,5 +1,5 @@
 -- Examples of what a constructor makes of a text. `aé` takes three bytes.
-use Rattle.std.proofs.Common.{refl, arith, codes, Ok, Err}
+use Rattle.std.proofs.Common.{ℕ, List, refl, arith, codes, Ok, Err}
 use Rattle.arraystring_base.specs.Text.{width}
 use Rattle.arraystring_base.specs.declared.error.Error.TheVariants as error
 use Rattle.arraystring_core.specs.Stored.{string_of}
@@ -8,6 +8,10 @@ use Rattle.arraystring_core.specs.Construct.{IsWholeOrRefused}
 IsWholeOrRefused-fits_exactly : IsWholeOrRefused (codes "aé") 3 (Ok (string_of (codes "aé")))
 unfolding width
 IsWholeOrRefused-fits_exactly = (omega arith, refl)
+
+IsWholeOrRefused-whatever_lies_around_it : (spare : List ℕ) → IsWholeOrRefused (codes "aé") 3 (Ok (record { text = codes "aé"; spare = spare }))
+unfolding width
+IsWholeOrRefused-whatever_lies_around_it spare = (omega arith, refl)
 
 IsWholeOrRefused-one_byte_too_large : IsWholeOrRefused (codes "aé") 2 (Err error.OutOfBounds)
 unfolding width

@@ -1,6 +1,6 @@
 -- Examples of the table of edits. `Makes ROW t result new` says that an edit of the text t returns the result and leaves the text
 -- new. 'é' takes two bytes and '🤔' four; the last number of a row is the capacity, where it has one.
-use Rattle.std.proofs.Common.{◌≡◌, ℕ, [], ◌∷◌, refl, codes, Some, None, Ok, Err}
+use Rattle.std.proofs.Common.{◌≡◌, ℕ, List, [], ◌∷◌, refl, codes, Some, None, Ok, Err}
 use Rattle.std.specs.declared.fmt.Error.{Error as FmtError}
 use Rattle.arraystring_base.specs.Text.{width}
 use Rattle.arraystring_base.specs.declared.error.Error.TheVariants as error
@@ -59,6 +59,9 @@ from_utf8_error-of_each_result = (refl, λ e. refl)
 
 with_text-of_each_result : (with_text (Ok (string_of (codes "ab"))) ≡ Ok (codes "ab")) × (with_text (Err error.Utf8) ≡ Err error.Utf8)
 with_text-of_each_result = (refl, refl)
+
+with_text-whatever_lies_around_it : (spare : List ℕ) → with_text (Ok (record { text = codes "ab"; spare = spare })) ≡ Ok (codes "ab")
+with_text-whatever_lies_around_it spare = refl
 
 -- the table
 

@@ -1,6 +1,6 @@
 -- Examples of what the constructors from UTF-16 return, by where the reading stops: at its end, at a lone surrogate (a fault), or at a
 -- character that does not fit (full).
-use Rattle.std.proofs.Common.{◌≡◌, refl, arith, codes, Some, None, Ok, Err}
+use Rattle.std.proofs.Common.{◌≡◌, ℕ, List, refl, arith, codes, Some, None, Ok, Err}
 use Rattle.arraystring_base.specs.Utf16.{End, Fault, Full}
 use Rattle.arraystring_base.specs.declared.error.Error.TheVariants as error
 use Rattle.arraystring_base.specs.declared.error.Utf16.{Utf16}
@@ -10,6 +10,9 @@ use Rattle.arraystring_core.specs.FromUtf16.{GivesWhole, GivesPrefix, stop_at}
 
 GivesWhole-all : GivesWhole (End (codes "ab")) (Ok (string_of (codes "ab")))
 GivesWhole-all = refl
+
+GivesWhole-whatever_lies_around_it : (spare : List ℕ) → GivesWhole (End (codes "ab")) (Ok (record { text = codes "ab"; spare = spare }))
+GivesWhole-whatever_lies_around_it spare = refl
 
 GivesWhole-no_part : GivesWhole (End (codes "ab")) (Ok (string_of (codes "a"))) → ⊥
 GivesWhole-no_part gives = grind (arith, gives)
@@ -37,6 +40,9 @@ GivesWhole-no_string_without_room gives = gives
 
 GivesPrefix-all : GivesPrefix (End (codes "ab")) (Ok (string_of (codes "ab")))
 GivesPrefix-all = refl
+
+GivesPrefix-whatever_lies_around_it : (spare : List ℕ) → GivesPrefix (End (codes "ab")) (Ok (record { text = codes "ab"; spare = spare }))
+GivesPrefix-whatever_lies_around_it spare = refl
 
 GivesPrefix-no_part : GivesPrefix (End (codes "ab")) (Ok (string_of (codes "a"))) → ⊥
 GivesPrefix-no_part gives = grind (arith, gives)

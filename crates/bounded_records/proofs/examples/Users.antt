@@ -6,16 +6,12 @@ use Rattle.std.specs.Ordering.{nat_cmp, eq_by_cmp}
 use Rattle.std.proofs.lemmas.Bool.{cond_both}
 use Rattle.std.proofs.lemmas.Map.Lookups.{exact_bytes}
 use Rattle.std.proofs.lemmas.Map.Views.{tells_apart}
-use Rattle.arraystring.specs.Stored.{Stored}
+use Rattle.arraystring.specs.Stored.{string_of}
 use Rattle.bounded_records.specs.Users.{texts, names_of, by_text, AreUnderTheirNames}
 use Rattle.bounded_records.specs.declared.user.User.{User}
 
--- a string with this text, whatever lies around it
-abbrev string : List ℕ → Stored
-string t = record { text = t; spare = 7 ∷ [] }
-
 abbrev ann : User
-ann = record { username = string (codes "ann"); role = string (codes "admin") }
+ann = record { username = string_of (codes "ann"); role = string_of (codes "admin") }
 
 texts-username_first : texts ann ≡ (codes "ann", codes "admin")
 texts-username_first = refl
@@ -26,7 +22,7 @@ names_of-none = refl
 names_of-in_order : names_of ((codes "bob", codes "a") ∷ (codes "ann", codes "b") ∷ []) ≡ codes "bob" ∷ codes "ann" ∷ []
 names_of-in_order = refl
 
-by_text-key_and_user : by_text ((string (codes "key"), ann) ∷ []) ≡ (codes "key", (codes "ann", codes "admin")) ∷ []
+by_text-key_and_user : by_text ((string_of (codes "key"), ann) ∷ []) ≡ (codes "key", (codes "ann", codes "admin")) ∷ []
 by_text-key_and_user = refl
 
 AreUnderTheirNames-no_user : AreUnderTheirNames finite.empty

@@ -3,24 +3,20 @@
 use Rattle.std.proofs.Common.{◌≡◌, ℕ, ◌<◌, true, List, [], ◌∷◌, map, length, Some, refl, subst, ◌∙◌, Bor, codes, option_map, slice_index_or, lit<, ◌-◌}
 use Rattle.std.specs.Iterator.{YieldsFirstBy, YieldsLastBy}
 use Rattle.std.specs.Iterator.Runs.{Run}
-use Rattle.arraystring.specs.Stored.{Stored}
+use Rattle.arraystring.specs.Stored.{Stored, string_of}
 use Rattle.bounded_records.proofs.WalkLemmas.{in_order, in_reverse, copies_in_order}
 use Rattle.bounded_records.specs.Users.{texts}
 use Rattle.bounded_records.specs.Walks.{GivesInOrder, GivesInReverse, GivesCopiesInOrder, stored_text, name_text, user_texts}
 
--- a string with this text, whatever lies around it
-abbrev string : List ℕ → Stored
-string t = record { text = t; spare = 7 ∷ [] }
-
-stored_text-of_a_string : stored_text (string (codes "ann")) ≡ codes "ann"
+stored_text-of_a_string : stored_text (string_of (codes "ann")) ≡ codes "ann"
 stored_text-of_a_string = refl
 
-name_text-of_a_reference : name_text (record { ref_ptr = (0, 0); now = string (codes "ann") }) ≡ codes "ann"
+name_text-of_a_reference : name_text (record { ref_ptr = (0, 0); now = string_of (codes "ann") }) ≡ codes "ann"
 name_text-of_a_reference = refl
 
 user_texts-of_a_reference : user_texts (record {
   ref_ptr = (0, 0);
-  now = record { username = string (codes "ann"); role = string (codes "admin") };
+  now = record { username = string_of (codes "ann"); role = string_of (codes "admin") };
 }) ≡ (codes "ann", codes "admin")
 user_texts-of_a_reference = refl
 

@@ -78,7 +78,7 @@ fn a_string_of_each_length_is_copied() {
     }
 }
 
-/// As paths `a/` and `./a` are equal, since these are compared by their parts. So what is lent is compared byte by byte.
+/// As paths `a/` and `./a` are equal, since these are compared by their parts. So what is lent and what is owned is compared byte by byte.
 #[cfg(feature = "std")]
 #[test]
 fn a_path_has_each_byte_of_the_text() {
@@ -90,7 +90,9 @@ fn a_path_has_each_byte_of_the_text() {
                 let (string, key) = (behind::<16>(16, &text), CacheString::from(text.as_str()));
                 let (paths, names): ([&Path; 2], [&OsStr; 2]) =
                     ([string.as_ref(), key.as_ref()], [string.as_ref(), key.as_ref()]);
-                for name in paths.map(Path::as_os_str).into_iter().chain(names) {
+                let owned: [(PathBuf, OsString); 2] = [(string.into(), string.into()), (key.into(), key.into())];
+                let copies = owned.iter().flat_map(|(path, name)| [path.as_os_str(), name]);
+                for name in paths.map(Path::as_os_str).into_iter().chain(names).chain(copies) {
                     assert_eq!(name.as_encoded_bytes(), text.as_bytes());
                 }
             }
