@@ -22,6 +22,7 @@ impl<const N: usize> ArrayString<N> {
     /// - Both ends must be boundaries.
     ///
     /// If `has_bounds` holds, a `get` of the range that returned `Some` proves the rest.
+    #[inline]
     pub fn slice<R: RangeBounds<u8> + Drop>(&self, range: R) -> &str
         requires known { R.has_bounds range }
         requires order { start_index (R.start_bound range)
@@ -43,6 +44,7 @@ impl<const N: usize> ArrayString<N> {
     /// Returns the part of the text in the range, borrowed without a copy. Returns `None` if the
     /// range ends before it starts, or if its start or its end is not a boundary. The ends are
     /// read as in `slice`.
+    #[inline]
     pub fn get<R: RangeBounds<u8> + Drop>(&self, range: R) -> Option<&str>
         ensures { OfReturnedBounds R.has_bounds R.start_bound R.end_bound range (λ start end.
             let found = part_in self.now.text (start_index start)
