@@ -3,7 +3,8 @@
 //! has as its precondition what Rust would test. So the proof of a call says that the test can be left out.
 //!
 //! What is public here reads, lends or turns case. What writes or moves is for `moves` and `utf8`: a string writes by
-//! `encode` and `write_over`, and moves by `shift`, which counts. Callers of `arraystring` need none of this.
+//! `encode`, `write_over` and `write_by_call`, and moves by `shift`, which counts. Callers of `arraystring` need none
+//! of this.
 ghost use Rattle.std.specs.Prelude.{◌≡◌, ◌+◌, ◌-◌, ◌<◌, ◌≤◌, ◌++◌, ◌∷◌, [], IsCharBoundary, length, map, take, drop, slice_index};
 ghost use Rattle.std.specs.Char.{to_ascii_uppercase, to_ascii_lowercase};
 

@@ -5,7 +5,7 @@ ghost use Rattle.arraystring_core.specs.Edits.{Makes, addition_of_cut};
 ghost use Rattle.arraystring_core.specs.Layout.{stored, IsStored};
 
 use crate::ArrayString;
-use arraystring_base::utils::{Steps, encode, shift, truncate_str, write_over};
+use arraystring_base::utils::{Steps, encode, shift, truncate_str, write_by_call};
 
 impl<const N: usize> ArrayString<N> {
     /// Whether there is room for `ch` after `len` bytes. ASCII has a test of its own, which the
@@ -56,7 +56,7 @@ impl<const N: usize> ArrayString<N> {
         self.start = 0;
         self.size += string.len() as u8;
         shift(&mut self.array, from, 0, size, &mut Steps::new());
-        write_over(&mut self.array, size, string.as_bytes());
+        write_by_call(&mut self.array, size, string.as_bytes());
     }
 
     /// Appends what fits of `string` to a text that need not begin at the start of the array. It stands apart

@@ -10,7 +10,7 @@ ghost use Rattle.arraystring_core.specs.Taken.{Takes, Gives, joined, joined_piec
 use crate::ArrayString;
 use crate::well_formed::read_utf8;
 use arraystring_base::error::{Error, OutOfBounds, Utf8};
-use arraystring_base::utils::{truncate_str, write_over};
+use arraystring_base::utils::{truncate_str, write_by_call};
 use std::str;
 
 impl<const N: usize> ArrayString<N> {
@@ -27,7 +27,7 @@ impl<const N: usize> ArrayString<N> {
             return Err(OutOfBounds);
         }
         let mut array = [0; N];
-        write_over(&mut array, 0, string.as_bytes());
+        write_by_call(&mut array, 0, string.as_bytes());
         Ok(ArrayString {
             array,
             start: 0,

@@ -8,7 +8,7 @@ ghost use Rattle.arraystring_core.specs.Taken.{Takes, Gives, joined, joined_piec
 
 use crate::ArrayString;
 use arraystring_base::error::OutOfBounds;
-use arraystring_base::utils::{encode, truncate_str, write_over};
+use arraystring_base::utils::{encode, truncate_str, write_by_call, write_over};
 
 impl<const N: usize> ArrayString<N> {
     /// Appends `ch`.
@@ -83,7 +83,7 @@ impl<const N: usize> ArrayString<N> {
         }
         let part = truncate_str(string, room);
         self.size += part.len() as u8;
-        write_over(&mut self.array, end, part.as_bytes());
+        write_by_call(&mut self.array, end, part.as_bytes());
     }
 
     /// Appends the longest prefix of the characters that fits.

@@ -7,7 +7,7 @@ ghost use Rattle.arraystring_base.specs.Text.{size, width, bytes, cap, front, ba
 ghost use Rattle.arraystring_core.specs.Taken.{TakesAll, Fits, Gives, joined, joined_pieces, piece_text};
 
 use crate::ArrayString;
-use arraystring_base::utils::{Steps, write_over};
+use arraystring_base::utils::{Steps, write_by_call, write_over};
 use std::str;
 
 impl<const N: usize> ArrayString<N> {
@@ -22,7 +22,7 @@ impl<const N: usize> ArrayString<N> {
         ensures { result.text ≡ chars string.now }
     {
         let mut array = [0; N];
-        write_over(&mut array, 0, string.as_bytes());
+        write_by_call(&mut array, 0, string.as_bytes());
         ArrayString {
             array,
             start: 0,
