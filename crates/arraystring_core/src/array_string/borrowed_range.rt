@@ -7,6 +7,7 @@ ghost use Rattle.arraystring_core.specs.Edits.{part, part_in};
 
 use crate::ArrayString;
 use crate::range_ends::plain_ends;
+use arraystring_base::leaf::{text_from, text_to};
 use std::ops::RangeBounds;
 
 impl<const N: usize> ArrayString<N> {
@@ -59,6 +60,7 @@ impl<const N: usize> ArrayString<N> {
     }
 
     /// The part between two boundaries, which are not tested here.
+    #[inline]
     fn slice_unchecked(&self, start: usize, end: usize) -> &str
         requires order { start ≤ end }
         requires start { IsTrue (boundary self.now.text start) }
@@ -66,6 +68,6 @@ impl<const N: usize> ArrayString<N> {
         ensures bytes { result.now ≡ bytes (part self.now.text start end) }
         ensures chars { chars result.now ≡ part self.now.text start end }
     {
-        &self.as_str()[start..end]
+        text_from(text_to(self.as_str(), end), start)
     }
 }
