@@ -2,7 +2,9 @@
 //! not fit is refused or cut, as the call's name says.
 //!
 //! Callers name this crate alone: it has each public path of `arraystring_base` and
-//! `arraystring_core`, where the code is. Its tests are in `crates/arraystring_tests`.
+//! `arraystring_core`, where the code is, but for what only these two crates call. That is the
+//! module `leaf` of `arraystring_base`, and of its `utils` `first_char`, `last_char`, `write_over`
+//! and `write_by_call`. The tests are in `crates/arraystring_tests`.
 #![tactic(auto)]
 
 mod cache_string;

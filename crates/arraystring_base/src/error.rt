@@ -26,6 +26,7 @@ pub enum Error {
 
 impl Error {
     /// The name of the variant.
+    #[inline]
     fn name(&self) -> &'static str
         ensures { result.now ≡ error_name self.now }
     {
@@ -41,6 +42,7 @@ impl Error {
 impl fmt::Debug for Error {
     ghost debug_output = { λ e. Some (codes "Error::" ++ error_name e) };
 
+    #[inline]
     fn fmt<W: fmt::Write>(&self, f: &mut fmt::Formatter<W>) -> fmt::Result {
         f.write_str("Error::")?;
         f.write_str(self.name())
@@ -53,6 +55,7 @@ impl fmt::Display for Error {
 
     ghost styled_output = { λ e _. Some (error_name e) };
 
+    #[inline]
     fn fmt<W: fmt::Write>(&self, f: &mut fmt::Formatter<W>) -> fmt::Result {
         f.write_str(self.name())
     }
@@ -65,6 +68,7 @@ impl StdError for Error {}
 impl From<OutOfBounds> for Error {
     ghost from_gives = { λ _ error. error ≡ cases.OutOfBounds };
 
+    #[inline]
     fn from(_error: OutOfBounds) -> Self {
         Error::OutOfBounds
     }
@@ -74,6 +78,7 @@ impl From<OutOfBounds> for Error {
 impl From<Utf16> for Error {
     ghost from_gives = { λ _ error. error ≡ cases.Utf16 };
 
+    #[inline]
     fn from(_error: Utf16) -> Self {
         Error::Utf16
     }
@@ -83,6 +88,7 @@ impl From<Utf16> for Error {
 impl From<Utf8> for Error {
     ghost from_gives = { λ _ error. error ≡ cases.Utf8 };
 
+    #[inline]
     fn from(_error: Utf8) -> Self {
         Error::Utf8
     }
@@ -92,6 +98,7 @@ impl From<Utf8> for Error {
 impl From<Utf8Error> for Error {
     ghost from_gives = { λ _ error. error ≡ cases.Utf8 };
 
+    #[inline]
     fn from(error: Utf8Error) -> Self {
         Error::from(Utf8::from(error))
     }
@@ -103,6 +110,7 @@ impl Hash for Error {
 
     ghost respects_eq = { λ x y h. ap fed.str (same_names x y h) };
 
+    #[inline]
     fn hash<H: Hasher>(&self, state: &mut H) {
         self.name().hash(state);
     }
@@ -117,6 +125,7 @@ pub struct Utf8;
 impl fmt::Debug for Utf8 {
     ghost debug_output = { λ _. Some (codes "Utf8") };
 
+    #[inline]
     fn fmt<W: fmt::Write>(&self, f: &mut fmt::Formatter<W>) -> fmt::Result {
         f.write_str("Utf8")
     }
@@ -128,6 +137,7 @@ impl fmt::Display for Utf8 {
 
     ghost styled_output = { λ _ _. Some (codes "Utf8") };
 
+    #[inline]
     fn fmt<W: fmt::Write>(&self, f: &mut fmt::Formatter<W>) -> fmt::Result {
         f.write_str("Utf8")
     }
@@ -138,6 +148,7 @@ impl StdError for Utf8 {}
 
 /// The error of `std` for bytes that are not UTF-8 becomes `Utf8`.
 impl From<Utf8Error> for Utf8 {
+    #[inline]
     fn from(_error: Utf8Error) -> Self {
         Utf8
     }
@@ -151,6 +162,7 @@ pub struct Utf16;
 impl fmt::Debug for Utf16 {
     ghost debug_output = { λ _. Some (codes "Utf16") };
 
+    #[inline]
     fn fmt<W: fmt::Write>(&self, f: &mut fmt::Formatter<W>) -> fmt::Result {
         f.write_str("Utf16")
     }
@@ -162,6 +174,7 @@ impl fmt::Display for Utf16 {
 
     ghost styled_output = { λ _ _. Some (codes "Utf16") };
 
+    #[inline]
     fn fmt<W: fmt::Write>(&self, f: &mut fmt::Formatter<W>) -> fmt::Result {
         f.write_str("Utf16")
     }
@@ -178,6 +191,7 @@ pub struct OutOfBounds;
 impl fmt::Debug for OutOfBounds {
     ghost debug_output = { λ _. Some (codes "OutOfBounds") };
 
+    #[inline]
     fn fmt<W: fmt::Write>(&self, f: &mut fmt::Formatter<W>) -> fmt::Result {
         f.write_str("OutOfBounds")
     }
@@ -189,6 +203,7 @@ impl fmt::Display for OutOfBounds {
 
     ghost styled_output = { λ _ _. Some (codes "OutOfBounds") };
 
+    #[inline]
     fn fmt<W: fmt::Write>(&self, f: &mut fmt::Formatter<W>) -> fmt::Result {
         f.write_str("OutOfBounds")
     }

@@ -5,6 +5,7 @@
 
 pub mod error;
 pub mod laws;
+pub mod leaf;
 mod moves;
 mod steps;
 pub mod utf16;

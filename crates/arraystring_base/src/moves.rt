@@ -1,5 +1,5 @@
-//! The two moves of bytes: `shift`, inside an array, and `write_over`, of a given run into it. All that makes them
-//! fast is in this file.
+//! The two moves of bytes: `shift`, inside an array, and `write_over`, of a given run into it, which has a second form,
+//! `write_by_call`. All that makes them fast is in this file.
 //!
 //! A run moves as its first `K` bytes and its last `K`, which may overlap, and both are read before the first is
 //! written. `memmove` moves short runs in this way too. A byte that both have is written twice, to one offset, and
@@ -8,8 +8,8 @@
 //! writes 16 bytes or more by a call, of `write_bytes`, which takes a slice and so stands once in a program.
 ghost use Rattle.std.specs.Prelude.{◌≡◌, ◌+◌, ◌-◌, ◌^◌, ◌==◌, if◌then◌else◌, ◌≤◌, ◌<◌, ◌++◌, length, take, drop};
 
+use crate::leaf::{bytes_of, move_long_run, put_bytes, write_bytes};
 use crate::steps::Steps;
-use std::simd::Simd;
 
 /// Moves `len` bytes of the array from the offset `from` to the offset `to`; the two runs may
 /// overlap. Each byte counts as one move, also if it is written twice on the way. If `from` is `to`,
@@ -51,31 +51,8 @@ fn move_run<const N: usize>(array: &mut [u8; N], from: usize, to: usize, len: us
     let all = &mut array[..];
     if N < 16 || len < 16 {
         move_short_run::<N>(all, from, to, len);
-    } else if N <= 32 || len <= 32 {
-        move_ends::<16>(all, from, to, len);
     } else {
         move_long_run::<N>(all, from, to, len);
-    }
-}
-
-/// Moves `len` bytes: more than 32, and at most `N`. The branches for sizes above `N` are left out.
-#[inline(always)]
-fn move_long_run<const N: usize>(all: &mut [u8], from: usize, to: usize, len: usize)
-    requires source { from + len ≤ length all.old }
-    requires target { to + len ≤ length all.old }
-    requires most { len ≤ N }
-    requires long { 32 < len }
-    ensures { all.new
-        ≡ take to all.old ++ (take len (drop from all.old) ++ drop (to + len) all.old) }
-{
-    if N <= 64 || len <= 64 {
-        move_ends::<32>(all, from, to, len);
-    } else if N <= 128 || len <= 128 {
-        move_ends::<64>(all, from, to, len);
-    } else if N <= 256 || len <= 256 {
-        move_pairs::<64>(all, from, to, len);
-    } else {
-        all.copy_within(from..from + len, to);
     }
 }
 
@@ -104,7 +81,7 @@ fn move_short_run<const N: usize>(all: &mut [u8], from: usize, to: usize, len: u
 
 /// Moves `len` bytes, from `K` to `2 * K` of them: the first `K` and the last `K`, which may overlap.
 #[inline(always)]
-fn move_ends<const K: usize>(all: &mut [u8], from: usize, to: usize, len: usize)
+pub(crate) fn move_ends<const K: usize>(all: &mut [u8], from: usize, to: usize, len: usize)
     requires source { from + len ≤ length all.old }
     requires target { to + len ≤ length all.old }
     requires least { K ≤ len }
@@ -117,25 +94,6 @@ fn move_ends<const K: usize>(all: &mut [u8], from: usize, to: usize, len: usize)
     let last = bytes_of::<K>(all, from + rest);
     put_bytes(all, to, first);
     put_bytes(all, to + rest, last);
-}
-
-/// Moves `len` bytes, from `2 * K` to `4 * K` of them: two times `K` at each end, which may overlap.
-#[inline(always)]
-fn move_pairs<const K: usize>(all: &mut [u8], from: usize, to: usize, len: usize)
-    requires source { from + len ≤ length all.old }
-    requires target { to + len ≤ length all.old }
-    requires least { K + K ≤ len }
-    requires most { len - (K + K) ≤ K + K }
-    ensures { all.new
-        ≡ take to all.old ++ (take len (drop from all.old) ++ drop (to + len) all.old) }
-{
-    let rest = len - (K + K);
-    let front = bytes_of::<K>(all, from);
-    let after_front = bytes_of::<K>(all, from + K);
-    let before_end = bytes_of::<K>(all, from + rest);
-    let end = bytes_of::<K>(all, from + rest + K);
-    put_pair(all, to, front, after_front);
-    put_pair(all, to + rest, before_end, end);
 }
 
 /// Writes `given` over the bytes of the array from the offset `at` on. No other byte changes.
@@ -157,14 +115,19 @@ pub fn write_over<const N: usize>(array: &mut [u8; N], at: usize, given: &[u8])
     }
 }
 
-/// Writes any number of bytes. The proved build never inlines it, so its code stands there once. The parameters are in
-/// the order of those of a call that appends, so that no register is moved for it.
-#[inline(never)]
-fn write_bytes(all: &mut [u8], given: &[u8], at: usize)
-    requires { at + length given.now ≤ length all.old }
-    ensures { all.new ≡ take at all.old ++ (given.now ++ drop (at + length given.now) all.old) }
+/// Writes as `write_over` does, by one call at any length. It is for new strings and for what runs seldom, where the
+/// tests of the length would only be more code.
+///
+/// # Precondition
+///
+/// `given` must fit into the array from there.
+#[inline(always)]
+pub fn write_by_call<const N: usize>(array: &mut [u8; N], at: usize, given: &[u8])
+    requires { at + length given.now ≤ N }
+    ensures { array.new
+        ≡ take at array.old ++ (given.now ++ drop (at + length given.now) array.old) }
 {
-    all[at..at + given.len()].copy_from_slice(given);
+    write_bytes(&mut array[..], given, at);
 }
 
 /// Writes `given`: fewer than 16 bytes, and at most `N`. The branches for sizes above `N` are left out.
@@ -202,34 +165,4 @@ fn copy_ends<const K: usize>(all: &mut [u8], at: usize, given: &[u8])
     let last = bytes_of::<K>(given, rest);
     put_bytes(all, at, first);
     put_bytes(all, at + rest, last);
-}
-
-/// The `K` bytes of `given` from `at` on.
-#[inline(always)]
-fn bytes_of<const K: usize>(given: &[u8], at: usize) -> Simd<u8, K>
-    requires { at + K ≤ length given.now }
-    ensures { result ≡ take K (drop at given.now) }
-{
-    Simd::<u8, K>::from_slice(&given[at..at + K])
-}
-
-/// Writes `K` bytes from `at` on.
-#[inline(always)]
-fn put_bytes<const K: usize>(all: &mut [u8], at: usize, bytes: Simd<u8, K>)
-    requires { at + K ≤ length all.old }
-    ensures { all.new ≡ take at all.old ++ (bytes.entry ++ drop (at + K) all.old) }
-{
-    bytes.copy_to_slice(&mut all[at..at + K]);
-}
-
-/// Writes `2 * K` bytes from `at` on.
-#[tactic(auto, using(crate::proofs::MoveLemmas::written_as_one))]
-#[inline(always)]
-fn put_pair<const K: usize>(all: &mut [u8], at: usize, first: Simd<u8, K>, second: Simd<u8, K>)
-    requires { at + (K + K) ≤ length all.old }
-    ensures { all.new
-        ≡ take at all.old ++ ((first.entry ++ second.entry) ++ drop (at + (K + K)) all.old) }
-{
-    put_bytes(all, at, first);
-    put_bytes(all, at + K, second);
 }

@@ -82,6 +82,15 @@ impl Steps {
         self.moved
     }
 
+    /// Counts one look.
+    pub(crate) fn count_look(&mut self)
+        requires { self.old.looked < 2 ^ 64 - 1 }
+        ensures looked { self.new.looked ≡ self.old.looked + 1 }
+        ensures moved { self.new.moved ≡ self.old.moved }
+    {
+        self.looked += 1;
+    }
+
     /// Counts `len` moves.
     pub(crate) fn count_moves(&mut self, len: usize)
         requires { self.old.moved + len < 2 ^ 64 }
@@ -90,29 +99,4 @@ impl Steps {
     {
         self.moved += len as u64;
     }
-}
-
-/// Most programs need no count, and write `bytes[at]`. This call returns that byte, and counts one look
-/// in `steps`.
-///
-/// # Precondition
-///
-/// The index must be below the length, and the count of looks of `steps` must be below 2^64 - 1.
-///
-/// # Examples
-///
-/// ```
-/// let mut steps = Steps::new();
-/// assert_eq!(utils::look(b"ab", 1, &mut steps), b'b');
-/// assert_eq!((steps.looked(), steps.moved()), (1, 0));
-/// ```
-pub fn look(bytes: &[u8], at: usize, steps: &mut Steps) -> u8
-    requires in_bounds { at < length bytes.now }
-    requires countable { steps.old.looked < 2 ^ 64 - 1 }
-    ensures value { result ≡ slice_index bytes.now at }
-    ensures looked { steps.new.looked ≡ steps.old.looked + 1 }
-    ensures moved { steps.new.moved ≡ steps.old.moved }
-{
-    steps.looked += 1;
-    bytes[at]
 }

@@ -38,6 +38,7 @@ impl<'a> Model for Units<'a> {
 
 impl<'a> Units<'a> {
     /// Returns an iterator over the characters and lone surrogates of `units`.
+    #[inline]
     pub fn new(units: &'a [u16]) -> Self
         ensures { IsReading units.now result }
     {
@@ -54,6 +55,7 @@ impl<'a> Iterator for Units<'a> {
     ghost remaining = { item_count (λ items. items) };
 
     /// Returns the next character or lone surrogate. Once none is left, it always returns `None`.
+    #[inline]
     fn next(&mut self) -> Option<Unit16> {
         let (first, rest) = self.rest.split_first()?;
         let unit = *first;
@@ -74,6 +76,7 @@ impl<'a> Iterator for Units<'a> {
 impl<'a> FusedIterator for Units<'a> {}
 
 /// The character of the pair that `high` begins, and the units after the pair.
+#[inline]
 fn pair(high: u16, rest: &[u16]) -> Option<(char, &[u16])>
     ensures some { IfSome result (λ p. (low : ℕ)
         × IsHigh high × IsLow low × (p.0 ≡ pair_character high low) × (rest.now ≡ low ∷ p.1.now)) }
@@ -93,6 +96,7 @@ fn pair(high: u16, rest: &[u16]) -> Option<(char, &[u16])>
 }
 
 /// Whether a unit is a surrogate that begins a pair.
+#[inline]
 fn is_high(unit: u16) -> bool
     ensures { IsTrue result ↔ IsHigh unit }
 {
@@ -100,6 +104,7 @@ fn is_high(unit: u16) -> bool
 }
 
 /// Whether a unit is a surrogate that ends a pair.
+#[inline]
 fn is_low(unit: u16) -> bool
     ensures { IsTrue result ↔ IsLow unit }
 {

@@ -1,13 +1,15 @@
 //! The UTF-8 of texts and characters: boundaries, cuts, the first and the last character of a text, and the
 //! bytes of a character. Sizes and indices count bytes of UTF-8.
-ghost use Rattle.std.specs.Prelude.{◌≡◌, ◌+◌, ◌^◌, ◌≤◌, ◌<◌, ◌↔◌, ◌++◌, ◌∷◌, [], ℕ, List, length, take, drop, chars, IsTrue, IfSome, IfNone, IsCharBoundary};
+ghost use Rattle.std.specs.Prelude.{◌≡◌, ◌+◌, ◌-◌, ◌^◌, ◌≤◌, ◌<◌, ◌↔◌, ◌++◌, ◌∷◌, [], ℕ, List, length, slice_index, take, drop, chars, IsTrue, IfSome, IfNone, IsCharBoundary};
 ghost use Rattle.arraystring_base.specs.Text.{bytes, cut, utf8, width, size, boundary};
 
-use crate::steps::{Steps, look};
+use crate::leaf::{byte, put_array, put_byte, text_to};
+use crate::steps::Steps;
 use std::char;
 
 /// Returns whether `at` is a boundary of `text`: the size of one of its prefixes of whole characters.
 /// Returns false if `at` is past the length of the text.
+#[inline]
 pub fn is_boundary(text: &str, at: usize) -> bool
     ensures { result ≡ boundary (chars text.now) at }
 {
@@ -16,6 +18,7 @@ pub fn is_boundary(text: &str, at: usize) -> bool
 
 /// Returns the longest prefix of whole characters of `text` that takes at most `size` bytes,
 /// borrowed from the text.
+#[inline]
 pub fn truncate_str(text: &str, size: u8) -> &str
     ensures { result.now ≡ bytes (cut (chars text.now) size) }
 {
@@ -37,6 +40,7 @@ pub fn truncate_str(text: &str, size: u8) -> &str
 /// assert_eq!(utils::truncate_str_counted("aéb", 2, &mut steps), "a");
 /// assert!((1..=4).contains(&steps.looked()) && steps.moved() == 0);
 /// ```
+#[inline]
 pub fn truncate_str_counted<'a>(text: &'a str, size: u8, steps: &mut Steps) -> &'a str
     requires { steps.old.looked ≤ 2 ^ 63 }
     ensures value { result.now ≡ bytes (cut (chars text.now) size) }
@@ -50,10 +54,11 @@ pub fn truncate_str_counted<'a>(text: &'a str, size: u8, steps: &mut Steps) -> &
         return text;
     }
     let end = last_boundary(text, limit, steps);
-    &text[..end]
+    text_to(text, end)
 }
 
 /// The last boundary that is not past `limit`. It looks once at each byte from `limit` back to it.
+#[inline]
 fn last_boundary(text: &str, limit: usize, steps: &mut Steps) -> usize
     requires within { limit < length text.now }
     requires countable { steps.old.looked ≤ 2 ^ 63 }
@@ -74,7 +79,34 @@ fn last_boundary(text: &str, limit: usize, steps: &mut Steps) -> usize
     end
 }
 
+/// Most programs need no count, and write `bytes[at]`. This call returns that byte, and counts one look
+/// in `steps`.
+///
+/// # Precondition
+///
+/// The index must be below the length, and the count of looks of `steps` must be below 2^64 - 1.
+///
+/// # Examples
+///
+/// ```
+/// let mut steps = Steps::new();
+/// assert_eq!(utils::look(b"ab", 1, &mut steps), b'b');
+/// assert_eq!((steps.looked(), steps.moved()), (1, 0));
+/// ```
+#[inline]
+pub fn look(bytes: &[u8], at: usize, steps: &mut Steps) -> u8
+    requires in_bounds { at < length bytes.now }
+    requires countable { steps.old.looked < 2 ^ 64 - 1 }
+    ensures value { result ≡ slice_index bytes.now at }
+    ensures looked { steps.new.looked ≡ steps.old.looked + 1 }
+    ensures moved { steps.new.moved ≡ steps.old.moved }
+{
+    steps.count_look();
+    byte(bytes, at)
+}
+
 /// Whether a byte continues a character that began before it.
+#[inline]
 fn continues(byte: u8) -> bool
     ensures { IsTrue result ↔ ((128 ≤ byte) × (byte < 192)) }
 {
@@ -87,6 +119,7 @@ fn continues(byte: u8) -> bool
 ///
 /// The text must not be empty.
 #[tactic(auto, using(crate::proofs::FirstLemmas::first_bytes), unfolding(crate::specs::Text::width))]
+#[inline]
 pub fn first_char(text: &str) -> (char, usize)
     requires { 0 < length text.now }
     ensures first { (rest : List ℕ) × (text.now ≡ utf8 result.0 ++ rest) }
@@ -95,26 +128,26 @@ pub fn first_char(text: &str) -> (char, usize)
     ensures within { result.1 ≤ length text.now }
 {
     let all = text.as_bytes();
-    let first = all[0] as u32;
+    let first = byte(all, 0) as u32;
     if first < 0x80 {
         // SAFETY: a number below 0x80 is a scalar value.
         return (unsafe { char::from_u32_unchecked(first) }, 1);
     }
-    let second = all[1] as u32;
+    let second = byte(all, 1) as u32;
     if first < 0xE0 {
         let code = (first - 0xC0) * 64 + (second - 0x80);
         // SAFETY: the bytes of a `&str` are UTF-8. `first` begins a character of two bytes and `second` continues it,
         // so `code` is its number, a scalar value.
         return (unsafe { char::from_u32_unchecked(code) }, 2);
     }
-    let third = all[2] as u32;
+    let third = byte(all, 2) as u32;
     if first < 0xF0 {
         let code = (first - 0xE0) * 4096 + (second - 0x80) * 64 + (third - 0x80);
         // SAFETY: the bytes of a `&str` are UTF-8. `first` begins a character of three bytes and the two behind it
         // continue it, so `code` is its number, a scalar value.
         return (unsafe { char::from_u32_unchecked(code) }, 3);
     }
-    let fourth = all[3] as u32;
+    let fourth = byte(all, 3) as u32;
     let front = (first - 0xF0) * 262_144 + (second - 0x80) * 4096;
     let code = front + (third - 0x80) * 64 + (fourth - 0x80);
     // SAFETY: the bytes of a `&str` are UTF-8. `first` begins a character of four bytes and the three behind it
@@ -129,6 +162,7 @@ pub fn first_char(text: &str) -> (char, usize)
 ///
 /// The count of looks plus four must be below 2^64.
 #[tactic(auto, using(crate::proofs::LastLemmas::chars_empty))]
+#[inline]
 pub fn last_char(text: &str, steps: &mut Steps) -> Option<(usize, char)>
     requires { steps.old.looked + 4 < 2 ^ 64 }
     ensures some { IfSome result (λ last. (front : List ℕ)
@@ -148,6 +182,7 @@ pub fn last_char(text: &str, steps: &mut Steps) -> Option<(usize, char)>
 
 /// The last character of a text that has one, and where it begins. The bytes are read from the end
 /// back to the one that does not continue a character.
+#[inline]
 fn char_before_end(text: &str, steps: &mut Steps) -> (usize, char)
     requires some { 0 < length text.now }
     requires countable { steps.old.looked + 4 < 2 ^ 64 }
@@ -203,7 +238,7 @@ pub fn encode<const N: usize>(ch: char, array: &mut [u8; N], at: usize) -> usize
     let code = ch as u32;
     let all = &mut array[..];
     if code < 0x80 {
-        all[at] = code as u8;
+        put_byte(all, at, code as u8);
         return 1;
     }
     encode_wide(ch, all, at)
@@ -222,17 +257,17 @@ fn encode_wide(ch: char, all: &mut [u8], at: usize) -> usize
     let last = (0x80 + code % 64) as u8;
     if code < 0x800 {
         let first = (0xC0 + code / 64) as u8;
-        all[at..at + 2].copy_from_slice(&[first, last]);
+        put_array(all, at, [first, last]);
         return 2;
     }
     let before_last = (0x80 + code / 64 % 64) as u8;
     if code < 0x1_0000 {
         let first = (0xE0 + code / 4096) as u8;
-        all[at..at + 3].copy_from_slice(&[first, before_last, last]);
+        put_array(all, at, [first, before_last, last]);
         return 3;
     }
     let first = (0xF0 + code / 262_144) as u8;
     let second = (0x80 + code / 4096 % 64) as u8;
-    all[at..at + 4].copy_from_slice(&[first, second, before_last, last]);
+    put_array(all, at, [first, second, before_last, last]);
     4
 }

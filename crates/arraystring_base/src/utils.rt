@@ -3,10 +3,10 @@
 ghost use Rattle.std.specs.Prelude.{◌≤◌, ◌↔◌, IsOk};
 
 use crate::error::OutOfBounds;
-pub use crate::moves::{shift, write_over};
-pub use crate::steps::{Steps, look};
+pub use crate::moves::{shift, write_by_call, write_over};
+pub use crate::steps::Steps;
 pub use crate::utf8::{
-    encode, first_char, is_boundary, last_char, truncate_str, truncate_str_counted,
+    encode, first_char, is_boundary, last_char, look, truncate_str, truncate_str_counted,
 };
 
 /// Tests that `size` is at most `limit`.
@@ -14,6 +14,7 @@ pub use crate::utf8::{
 /// # Errors
 ///
 /// Returns `Err(OutOfBounds)` if `size` is greater.
+#[inline]
 pub fn is_inside_boundary(size: usize, limit: usize) -> Result<(), OutOfBounds>
     ensures { IsOk result ↔ (size ≤ limit) }
 {

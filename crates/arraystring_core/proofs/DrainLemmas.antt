@@ -32,16 +32,12 @@ module _ {array_size : ℕ} {array : List ℕ} {p n i : ℕ} (is : IsDrained arr
   left_stored : StoredAt array_size array (p + i) (n - i) (back removed i)
   left_stored = dropped is.in_array refl i is.at
 
-  -- the bytes of what is left are those of the array from f to t
-  module _ (f t : ℕ) (from : f ≡ p + i) (to : t ≡ p + n) where
-    long : t - f ≡ n - i
-    long = omega (arith, given-within)
+  -- the bytes of what is left
+  pub borrowed-utf8 : IsUtf8 (take (n - i) (drop (p + i) array))
+  borrowed-utf8 = stored-utf8 left_stored.in_array
 
-    pub borrowed-utf8 : IsUtf8 (take (t - f) (drop f array))
-    borrowed-utf8 = rw (long, from) (stored-utf8 left_stored.in_array)
-
-    pub borrowed-bytes : {v : Drained} → drained (stored array p n) i ≡ v → take (t - f) (drop f array) ≡ bytes v.left
-    borrowed-bytes e = rw (long, from) (sym (stored-bytes left_stored.in_array) ∙ ap bytes (left_stored.shown ∙ ap (λ d. d.left) e))
+  pub borrowed-bytes : {v : Drained} → drained (stored array p n) i ≡ v → take (n - i) (drop (p + i) array) ≡ bytes v.left
+  borrowed-bytes e = sym (stored-bytes left_stored.in_array) ∙ ap bytes (left_stored.shown ∙ ap (λ d. d.left) e)
 
   -- the value that a contract sees
   module _ {v : Drained} (e : drained (stored array p n) i ≡ v) where
@@ -83,16 +79,16 @@ module _ {array_size : ℕ} {array : List ℕ} {p n i : ℕ} (is : IsDrained arr
       decoded = let next : i + width c ≡ n - length rest = omega (arith, stepped) in rw next at (front-given c (chars rest) begun)
 
     -- if it is ASCII
-    module _ (some : i < n) (low : get_or array (p + i) 0 < 128) where
-      first-is : (rest : List ℕ) × (v.left ≡ get_or array (p + i) 0 ∷ rest)
+    module _ (some : i < n) {first : ℕ} (there : first ≡ get_or array (p + i) 0) (low : first < 128) where
+      first-is : (rest : List ℕ) × (v.left ≡ first ∷ rest)
       first-is =
           let bs = take n (drop p array) in
           let long = length-take-le n (drop p array) (omega (arith, length-drop p array, is.in_array)) in
-          let more = rw (get_or-take n (drop p array) i 0 some, get_or-drop p array i 0) at (drop_more bs i 0 (omega arith)) in
+          let more = rw (get_or-take n (drop p array) i 0 some, get_or-drop p array i 0, ← there) at (drop_more bs i 0 (omega arith)) in
           first-low v.left (left-bytes ∙ more) low
 
-      pub first-given : GivesFirst array_size array p n (i + 1) v.left (get_or array (p + i) 0)
-      first-given = rw (low-width _ low) at (front-given (get_or array (p + i) 0) first-is.0 first-is.1)
+      pub first-given : GivesFirst array_size array p n (i + 1) v.left first
+      first-given = rw (low-width _ low) at (front-given first first-is.0 first-is.1)
 
     -- the last character is given
     module _ (c : ℕ) (rest : List ℕ) (ends : v.left ≡ rest ++ c ∷ []) where

@@ -1,5 +1,5 @@
 -- Laws of edits: when a cause holds, and what an edit then does.
-use Rattle.std.proofs.Common.{◌≡◌, ℕ, ◌+◌, ◌<◌, ◌≤◌, List, [], ◌∷◌, ◌++◌, ap, arith, suc, true, false, refl, Some, None, Ok, Err}
+use Rattle.std.proofs.Common.{◌≡◌, ℕ, ◌+◌, ◌<◌, ◌≤◌, List, [], ◌∷◌, ◌++◌, ap, arith, suc, true, false, refl, Some, None, Result, Ok, Err}
 use Rattle.std.proofs.lemmas.Bool.{lt-ltb, le-ltb, and_right}
 use Rattle.std.proofs.Math.Bool.{or_assoc, or-false}
 use Rattle.std.proofs.lemmas.Bool.Decides.{nat_tests}
@@ -67,6 +67,11 @@ module _ {t : List ℕ} (given : List ℕ) (n : ℕ) {new : List ℕ} where
   pub addition-refused : {error : Error} → Makes (addition t given n) t (Err error) new
       → (n < size t + size given) × (error ≡ OutOfBounds) × (new ≡ t)
   addition-refused {error} m = grind (arith, nat_tests)
+
+  -- where it fits, it was made
+  pub addition-fits : (result : Result (Unit {0}) Error) → size t + size given ≤ n → Makes (addition t given n) t result new → new ≡ t ++ given
+  addition-fits (Ok _) fits m = m.ok
+  addition-fits (Err _) fits m = absurd (omega (arith, (addition-refused m).0))
 
 -- the ranges of white space are those of `char::is_whitespace`, which names the number before a range and the one behind it;
 -- of a range of two it names both, and of a range of one that one

@@ -36,21 +36,20 @@ pub record BeginsWith (bytes : List ℕ) (c : ℕ) : Type 0 where
 
 -- if it is decoded
 pub char-begins : (array : List ℕ) (offset read size : ℕ) {text : List ℕ} (c : ℕ) (rest : List ℕ)
-    → text ≡ take (offset + size - (offset + read)) (drop (offset + read) array) → IsScalar c → text ≡ utf8 c ++ rest
+    → text ≡ unread array offset read size → IsScalar c → text ≡ utf8 c ++ rest
     → BeginsWith (unread array offset read size) c
 char-begins array offset read size c rest shown scalar starts =
-    let wide : offset + size - (offset + read) ≡ size - read = omega arith in
-    record { rest = rest; scalar = scalar; starts = ap (λ k. take k (drop (offset + read) array)) (sym wide) ∙ sym shown ∙ starts }
+    record { rest = rest; scalar = scalar; starts = sym shown ∙ starts }
 
 -- if it is ASCII
-pub ascii-begins : (array : List ℕ) (offset read size : ℕ) → read < size → offset + size ≤ length array → get_or array (offset + read) 0 < 0x80
-    → BeginsWith (unread array offset read size) (get_or array (offset + read) 0)
-ascii-begins array offset read size some within small =
+pub ascii-begins : (array : List ℕ) (offset read size : ℕ) {first : ℕ} → first ≡ get_or array (offset + read) 0 → read < size → offset + size ≤ length array
+    → first < 0x80 → BeginsWith (unread array offset read size) first
+ascii-begins array offset read size {first} is some within small =
     let more : size - read ≡ suc (size - (read + 1)) = omega arith in
     record {
       rest = take (size - (read + 1)) (drop (offset + read + 1) array);
-      scalar = scalar-is (get_or array (offset + read) 0) (inl (omega arith));
-      starts = rw (more, drop_more array (offset + read) 0 (omega arith), utf8-one _ small) refl;
+      scalar = scalar-is first (inl (omega arith));
+      starts = rw (more, drop_more array (offset + read) 0 (omega arith), utf8-one first small, is) refl;
     }
 
 -- the next character is c

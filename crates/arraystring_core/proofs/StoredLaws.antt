@@ -1,16 +1,12 @@
 -- Laws of what is stored.
 use Rattle.std.proofs.lemmas.Str.{chars-nil}
-use Rattle.std.proofs.Common.{◌≡◌, ℕ, ◌+◌, ◌-◌, ◌≤◌, List, take, drop, refl, subst, sym, ap, ◌∙◌, arith, true, chars}
+use Rattle.std.proofs.Common.{◌≡◌, ℕ, ◌+◌, ◌≤◌, List, take, drop, refl, subst, sym, ap, ◌∙◌, arith, true, chars}
 use Rattle.arraystring_base.specs.Text.{size, bytes, boundary, IsText}
 use Rattle.arraystring_base.proofs.TextLaws.{text-chars, chars-bytes, bytes-utf8}
 use Rattle.arraystring_base.proofs.BoundaryLaws.{boundary-within}
 use Rattle.arraystring_core.specs.Stored.{Stored}
 use Rattle.arraystring_core.specs.Layout.{stored, IsStored, start_of}
 use Rattle.arraystring_core.specs.GhostProofs as ghost_proof
-
--- how long the range is that is borrowed
-pub borrowed-range : (start n : ℕ) → (start + n) - start ≡ n
-borrowed-range start n = omega arith
 
 -- the value that a contract sees
 module _ {array_size : ℕ} {array : List ℕ} {start n : ℕ} (is : IsStored array_size array start n) {v : Stored} (e : stored array start n ≡ v) where

@@ -43,6 +43,7 @@ ghost use Rattle.std.specs.Prelude.{◌≡◌, ◌+◌, ◌≤◌, ◌↔◌, []
 ghost use Rattle.arraystring_base.specs.Text.{size, bytes, cap, IsText};
 ghost use Rattle.arraystring_core.specs.Layout.{start_of};
 
+use arraystring_base::leaf::part;
 use std::marker::Model;
 use std::str;
 
@@ -144,8 +145,8 @@ impl<const N: usize> ArrayString<N> {
 
     /// Returns the length of the text in bytes, which is at most the capacity.
     ///
-    /// It is a `u8`, and so is a sum of such lengths. In a release build of Rust two lengths of 150
-    /// add to 44. Add `usize::from(string.len())`.
+    /// It is a `u8`, and so is a sum of such lengths. Add `usize::from(string.len())`, which does not
+    /// overflow.
     #[tactic(auto, using(crate::proofs::StoredLaws::opened_size))]
     #[inline]
     pub const fn len(&self) -> u8
@@ -173,9 +174,8 @@ impl<const N: usize> ArrayString<N> {
         ensures fits { size self.now.text ≤ cap N }
     {
         let (size, start) = (self.size as usize, self.start as usize);
-        let all = &self.array[..];
         // SAFETY: the `size` bytes from `start` on are UTF-8, as the fields of the type say.
-        unsafe { str::from_utf8_unchecked(&all[start..start + size]) }
+        unsafe { str::from_utf8_unchecked(part(&self.array, start, size)) }
     }
 
     /// Returns the bytes of the text, borrowed without a copy. There are as many as `len` returns.
@@ -187,9 +187,7 @@ impl<const N: usize> ArrayString<N> {
         ensures text { IsText self.now.text }
         ensures fits { size self.now.text ≤ cap N }
     {
-        let start = self.start as usize;
-        let all = &self.array[..];
-        &all[start..start + self.size as usize]
+        part(&self.array, self.start as usize, self.size as usize)
     }
 
     /// The offset at which the text ends.

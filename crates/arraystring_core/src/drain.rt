@@ -3,6 +3,7 @@ ghost use Rattle.std.specs.Prelude.{◌≡◌, ◌≤◌, chars};
 ghost use Rattle.arraystring_base.specs.Text.{bytes, cap, size, IsText};
 ghost use Rattle.arraystring_core.specs.Layout.{stored, IsStored};
 
+use arraystring_base::leaf::part;
 use std::marker::Model;
 use std::str;
 
@@ -79,10 +80,9 @@ impl<const N: usize> Drain<N> {
         ensures text { IsText self.now.left }
         ensures fits { size self.now.left ≤ cap N }
     {
-        let all = &self.array[..];
-        let start = self.start as usize;
-        let (front, end) = (start + self.front as usize, start + self.size as usize);
+        let front = self.front as usize;
+        let (start, len) = (self.start as usize + front, self.size as usize - front);
         // SAFETY: the removed text is UTF-8, and `front` is a boundary of it, as the fields of the type say.
-        unsafe { str::from_utf8_unchecked(&all[front..end]) }
+        unsafe { str::from_utf8_unchecked(part(&self.array, start, len)) }
     }
 }

@@ -7,6 +7,7 @@ ghost use Rattle.arraystring_core.specs.RangeEnds.{OfReturnedBounds, saturated_s
 use std::ops::{Bound, RangeBounds};
 
 /// The ends in a text of `len` bytes. An excluded start and an included end add 1, and stop at 255.
+#[inline]
 pub(crate) fn saturating_ends<R: RangeBounds<u8> + Drop>(range: R, len: u8) -> (u8, u8)
     ensures { OfReturnedBounds R.has_bounds R.start_bound R.end_bound range (λ start end.
         (result.0 ≡ saturated_start start) × (result.1 ≡ saturated_end end len)) }
@@ -25,6 +26,7 @@ pub(crate) fn saturating_ends<R: RangeBounds<u8> + Drop>(range: R, len: u8) -> (
 }
 
 /// The ends in a text of `len` bytes. An excluded start and an included end add 1, also to 255.
+#[inline]
 pub(crate) fn plain_ends<R: RangeBounds<u8> + Drop>(range: R, len: u8) -> (usize, usize)
     ensures { OfReturnedBounds R.has_bounds R.start_bound R.end_bound range (λ start end.
         (result.0 ≡ start_index start) × (result.1 ≡ end_index end len)) }

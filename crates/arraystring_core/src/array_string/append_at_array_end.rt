@@ -2,13 +2,14 @@
 ghost use Rattle.std.specs.Prelude.{◌≡◌, ◌+◌, ◌≤◌, ◌↔◌, [], ◌∷◌, ◌++◌, IsTrue, chars, Ok};
 ghost use Rattle.arraystring_base.specs.Text.{size, width, cap};
 ghost use Rattle.arraystring_core.specs.Edits.{Makes, addition_of_cut};
+ghost use Rattle.arraystring_core.specs.Layout.{stored, IsStored};
 
 use crate::ArrayString;
-use arraystring_base::utils::{Steps, encode, shift, truncate_str, write_over};
+use arraystring_base::utils::{Steps, encode, shift, truncate_str, write_by_call};
 
 impl<const N: usize> ArrayString<N> {
-    /// Whether there is room for `ch` after `len` bytes. The last test alone would do. With those
-    /// before it `try_push` takes 12 instructions, and not 22.
+    /// Whether there is room for `ch` after `len` bytes. ASCII has a test of its own, which the
+    /// compiler joins with that of `encode`. The width of others is not tested if four more fit.
     #[inline(always)]
     pub(super) fn has_room(len: usize, ch: char) -> bool
         requires { len ≤ 255 }
@@ -21,19 +22,26 @@ impl<const N: usize> ArrayString<N> {
         len + 4 <= capacity || len + ch.len_utf8() <= capacity
     }
 
-    /// Moves the text to the start of the array, and appends `ch`. It stands apart from `try_push`, each of
-    /// whose calls would be longer.
+    /// Moves the text, which is the `size` bytes from `start` on, to the start of the array, writes `ch` behind it, and
+    /// returns the size of both. It stands apart from `try_push`, each of whose calls would be longer. It is given the
+    /// numbers and not the string, so that a loop of pushes keeps them in registers. They come last, because no register
+    /// is then moved for a push.
     #[cold]
     #[inline(never)]
-    pub(super) fn compact_and_push(&mut self, ch: char)
-        requires { size self.old.text + width ch ≤ cap N }
-        ensures { self.new.text ≡ self.old.text ++ (ch ∷ []) }
+    pub(super) fn compact_and_push(
+        array: &mut [u8; N],
+        ch: char,
+        start: usize,
+        size: usize,
+    ) -> usize
+        requires in_array { IsStored N array.old start size }
+        requires room { size + width ch ≤ cap N }
+        ensures in_array { IsStored N array.new 0 result }
+        ensures text { (stored array.new 0 result).text
+            ≡ (stored array.old start size).text ++ (ch ∷ []) }
     {
-        let (start, size) = (self.start as usize, self.size as usize);
-        shift(&mut self.array, start, 0, size, &mut Steps::new());
-        let width = encode(ch, &mut self.array, size);
-        self.start = 0;
-        self.size += width as u8;
+        shift(array, start, 0, size, &mut Steps::new());
+        size + encode(ch, array, size)
     }
 
     /// Moves the text to the start of the array, and appends `string`. It stands apart from `try_push_str`, as
@@ -48,7 +56,7 @@ impl<const N: usize> ArrayString<N> {
         self.start = 0;
         self.size += string.len() as u8;
         shift(&mut self.array, from, 0, size, &mut Steps::new());
-        write_over(&mut self.array, size, string.as_bytes());
+        write_by_call(&mut self.array, size, string.as_bytes());
     }
 
     /// Appends what fits of `string` to a text that need not begin at the start of the array. It stands apart
@@ -59,6 +67,6 @@ impl<const N: usize> ArrayString<N> {
             self.old.text (Ok result) self.new.text }
     {
         let room = Self::capacity() - self.len();
-        self.push_str_unchecked(truncate_str(string, room));
+        let _ = self.try_push_str(truncate_str(string, room));
     }
 }

@@ -6,10 +6,12 @@ ghost use Rattle.std.specs.Iterator.{IsFiniteIterable};
 ghost use Rattle.arraystring_core.specs.Taken.{Takes, joined_pieces};
 
 use crate::ArrayString;
+use crate::laws::text_fits;
 use arraystring_base::error::OutOfBounds;
 
 impl<const N: usize> ArrayString<N> {
     /// Appends the characters before the first that does not fit. Returns `Err` if there is such a one: what fitted stays.
+    #[inline]
     pub(super) fn add_chars<I: IntoIterator<Item = char> + Drop>(
         &mut self,
         characters: I,
@@ -23,7 +25,7 @@ impl<const N: usize> ArrayString<N> {
             (λ _. cap N - size self.old.text < size taken)
             × (self.new.text ≡ self.old.text ++ cut taken (cap N - size self.old.text)) }
     {
-        let _ = &self.array; // gives the prover that the text fits
+        text_fits(self); // gives the prover that the text fits
         for ch in characters {
             match self.try_push(ch) {
                 Ok(()) => {}
@@ -35,6 +37,7 @@ impl<const N: usize> ArrayString<N> {
 
     /// Appends the pieces before the first that does not fit, and of that one what fits. Returns `Err`
     /// if there is such a one: what fitted stays.
+    #[inline]
     pub(super) fn add_strs<'a, I: IntoIterator<Item = &'a str> + Drop>(
         &mut self,
         pieces: I,
@@ -50,7 +53,7 @@ impl<const N: usize> ArrayString<N> {
             × (self.new.text
             ≡ self.old.text ++ cut (joined_pieces taken) (cap N - size self.old.text)) }
     {
-        let _ = &self.array; // gives the prover that the text fits
+        text_fits(self); // gives the prover that the text fits
         for piece in pieces {
             match self.try_push_str(piece) {
                 Ok(()) => {}

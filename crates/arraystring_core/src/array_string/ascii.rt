@@ -8,6 +8,7 @@ ghost use Rattle.arraystring_core.specs.Ascii.{in_case};
 
 use crate::ArrayString;
 use crate::range_ends::plain_ends;
+use arraystring_base::leaf::{make_lower, make_upper};
 use std::ops::RangeBounds;
 
 /// The case that ASCII letters are put into.
@@ -20,6 +21,7 @@ enum Case {
 impl<const N: usize> ArrayString<N> {
     /// Changes a..z to A..Z. All other characters stay as they are.
     #[tactic(auto, using(crate::proofs::AsciiLemmas::whole))]
+    #[inline]
     pub fn make_ascii_uppercase(&mut self)
         ensures { Makes (uppercase self.old.text) self.old.text (Ok result) self.new.text }
     {
@@ -28,6 +30,7 @@ impl<const N: usize> ArrayString<N> {
 
     /// Changes A..Z to a..z. All other characters stay as they are.
     #[tactic(auto, using(crate::proofs::AsciiLemmas::whole))]
+    #[inline]
     pub fn make_ascii_lowercase(&mut self)
         ensures { Makes (lowercase self.old.text) self.old.text (Ok result) self.new.text }
     {
@@ -42,6 +45,7 @@ impl<const N: usize> ArrayString<N> {
     ///   `RangeInclusive` that was iterated to its end.
     /// - The range must not end before it starts.
     /// - Both ends, read as in `slice`, must be boundaries.
+    #[inline]
     pub fn make_ascii_uppercase_in<R: RangeBounds<u8> + Drop>(&mut self, range: R)
         requires known { R.has_bounds range }
         requires order { start_index (R.start_bound range)
@@ -67,6 +71,7 @@ impl<const N: usize> ArrayString<N> {
     ///   `RangeInclusive` that was iterated to its end.
     /// - The range must not end before it starts.
     /// - Both ends, read as in `slice`, must be boundaries.
+    #[inline]
     pub fn make_ascii_lowercase_in<R: RangeBounds<u8> + Drop>(&mut self, range: R)
         requires known { R.has_bounds range }
         requires order { start_index (R.start_bound range)
@@ -85,6 +90,7 @@ impl<const N: usize> ArrayString<N> {
     }
 
     /// Puts the ASCII letters between two boundaries into a case.
+    #[inline]
     fn change_case(&mut self, start: usize, end: usize, case: Case)
         requires order { start ≤ end }
         requires start { IsTrue (boundary self.old.text start) }
@@ -98,6 +104,7 @@ impl<const N: usize> ArrayString<N> {
 }
 
 /// Puts the ASCII letters among the bytes from `start` to `end` into a case.
+#[inline]
 fn change_bytes<const N: usize>(array: &mut [u8; N], start: usize, end: usize, case: Case)
     requires order { start ≤ end }
     requires within { end ≤ N }
@@ -106,7 +113,7 @@ fn change_bytes<const N: usize>(array: &mut [u8; N], start: usize, end: usize, c
 {
     let all = &mut array[..];
     match case {
-        Case::Upper => all[start..end].make_ascii_uppercase(),
-        Case::Lower => all[start..end].make_ascii_lowercase(),
+        Case::Upper => make_upper(all, start, end),
+        Case::Lower => make_lower(all, start, end),
     }
 }

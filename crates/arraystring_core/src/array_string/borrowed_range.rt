@@ -7,6 +7,7 @@ ghost use Rattle.arraystring_core.specs.Edits.{part, part_in};
 
 use crate::ArrayString;
 use crate::range_ends::plain_ends;
+use arraystring_base::leaf::{text_from, text_to};
 use std::ops::RangeBounds;
 
 impl<const N: usize> ArrayString<N> {
@@ -22,6 +23,7 @@ impl<const N: usize> ArrayString<N> {
     /// - Both ends must be boundaries.
     ///
     /// If `has_bounds` holds, a `get` of the range that returned `Some` proves the rest.
+    #[inline]
     pub fn slice<R: RangeBounds<u8> + Drop>(&self, range: R) -> &str
         requires known { R.has_bounds range }
         requires order { start_index (R.start_bound range)
@@ -43,6 +45,7 @@ impl<const N: usize> ArrayString<N> {
     /// Returns the part of the text in the range, borrowed without a copy. Returns `None` if the
     /// range ends before it starts, or if its start or its end is not a boundary. The ends are
     /// read as in `slice`.
+    #[inline]
     pub fn get<R: RangeBounds<u8> + Drop>(&self, range: R) -> Option<&str>
         ensures { OfReturnedBounds R.has_bounds R.start_bound R.end_bound range (λ start end.
             let found = part_in self.now.text (start_index start)
@@ -57,6 +60,7 @@ impl<const N: usize> ArrayString<N> {
     }
 
     /// The part between two boundaries, which are not tested here.
+    #[inline]
     fn slice_unchecked(&self, start: usize, end: usize) -> &str
         requires order { start ≤ end }
         requires start { IsTrue (boundary self.now.text start) }
@@ -64,6 +68,6 @@ impl<const N: usize> ArrayString<N> {
         ensures bytes { result.now ≡ bytes (part self.now.text start end) }
         ensures chars { chars result.now ≡ part self.now.text start end }
     {
-        &self.as_str()[start..end]
+        text_from(text_to(self.as_str(), end), start)
     }
 }

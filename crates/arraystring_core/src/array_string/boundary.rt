@@ -8,6 +8,7 @@ use arraystring_base::utils::is_boundary;
 
 impl<const N: usize> ArrayString<N> {
     /// Whether a character begins at the index `at`, or the text ends there.
+    #[inline]
     pub(super) fn is_boundary(&self, at: usize) -> bool
         ensures { result ≡ boundary self.now.text at }
     {
@@ -20,6 +21,7 @@ impl<const N: usize> ArrayString<N> {
 /// # Errors
 ///
 /// Returns `Err(Utf8)` if `idx` is not a boundary. An index past the length is not a boundary.
+#[inline]
 pub fn is_char_boundary<const N: usize>(s: &ArrayString<N>, idx: u8) -> Result<(), Utf8>
     ensures { IsOk result ↔ IsTrue (boundary s.now.text idx) }
 {

@@ -10,7 +10,7 @@ ghost use Rattle.arraystring_core.specs.Taken.{Takes, Gives, joined, joined_piec
 use crate::ArrayString;
 use crate::well_formed::read_utf8;
 use arraystring_base::error::{Error, OutOfBounds, Utf8};
-use arraystring_base::utils::{truncate_str, write_over};
+use arraystring_base::utils::{truncate_str, write_by_call};
 use std::str;
 
 impl<const N: usize> ArrayString<N> {
@@ -19,6 +19,7 @@ impl<const N: usize> ArrayString<N> {
     /// # Errors
     ///
     /// Returns `Err(OutOfBounds)` if `string` is larger than the capacity.
+    #[inline]
     pub fn try_from_str(string: &str) -> Result<Self, OutOfBounds>
         ensures { IsWholeOrRefused (chars string.now) (cap N) (from_out_of_bounds result) }
     {
@@ -26,7 +27,7 @@ impl<const N: usize> ArrayString<N> {
             return Err(OutOfBounds);
         }
         let mut array = [0; N];
-        write_over(&mut array, 0, string.as_bytes());
+        write_by_call(&mut array, 0, string.as_bytes());
         Ok(ArrayString {
             array,
             start: 0,
@@ -36,6 +37,7 @@ impl<const N: usize> ArrayString<N> {
 
     /// Creates a string from the longest prefix of whole characters of `string` that fits.
     /// `try_from_str` refuses what does not fit.
+    #[inline]
     pub fn from_str_truncate(string: &str) -> Self
         ensures { result.text ≡ cut (chars string.now) (cap N) }
     {
@@ -51,6 +53,7 @@ impl<const N: usize> ArrayString<N> {
     /// # Precondition
     ///
     /// The iterator must end, and until then the precondition of its `next` must hold.
+    #[inline]
     pub fn try_from_iterator<'a, I: IntoIterator<Item = &'a str> + Drop>(
         pieces: I,
     ) -> Result<Self, OutOfBounds>
@@ -74,6 +77,7 @@ impl<const N: usize> ArrayString<N> {
     /// # Precondition
     ///
     /// The iterator must end, and until then the precondition of its `next` must hold.
+    #[inline]
     pub fn from_iterator<'a, I: IntoIterator<Item = &'a str> + Drop>(pieces: I) -> Self
         requires { IsFiniteIterable I.into_iter_gives I.IntoIter.can_next
             I.IntoIter.remaining pieces }
@@ -98,6 +102,7 @@ impl<const N: usize> ArrayString<N> {
     /// # Precondition
     ///
     /// The iterator must end, and until then the precondition of its `next` must hold.
+    #[inline]
     pub fn try_from_chars<I: IntoIterator<Item = char> + Drop>(
         characters: I,
     ) -> Result<Self, OutOfBounds>
@@ -121,6 +126,7 @@ impl<const N: usize> ArrayString<N> {
     /// # Precondition
     ///
     /// The iterator must end, and until then the precondition of its `next` must hold.
+    #[inline]
     pub fn from_chars<I: IntoIterator<Item = char> + Drop>(characters: I) -> Self
         requires { IsFiniteIterable I.into_iter_gives I.IntoIter.can_next
             I.IntoIter.remaining characters }
@@ -145,6 +151,7 @@ impl<const N: usize> ArrayString<N> {
     /// - `Err(Error::Utf8)` if `given` is not well-formed UTF-8 (the Unicode Standard, section
     ///   3.9);
     /// - `Err(Error::OutOfBounds)` if the text is larger than the capacity.
+    #[inline]
     pub fn try_from_utf8(given: &[u8]) -> Result<Self, Error>
         ensures malformed { ¬ (IsWellFormed given.now) → result ≡ Err Error.Utf8 }
         ensures too_large { result ≡ Err Error.OutOfBounds → IsWellFormed given.now }
@@ -170,6 +177,7 @@ impl<const N: usize> ArrayString<N> {
     ///
     /// Returns `Err(Utf8)` if `given` is not well-formed UTF-8 (the Unicode Standard, section
     /// 3.9), even if only bytes that would be cut off are malformed.
+    #[inline]
     pub fn from_utf8(given: &[u8]) -> Result<Self, Utf8>
         ensures well_formed { IsOk result ↔ IsWellFormed given.now }
         ensures cut { (t : List ℕ) → IsText t → bytes t ≡ given.now

@@ -17,6 +17,7 @@ impl<const N: usize> ArrayString<N> {
     /// - `Err(Error::OutOfBounds)` if the index is past the text;
     /// - `Err(Error::OutOfBounds)` if `ch` does not fit;
     /// - `Err(Error::Utf8)` if the index is inside a character.
+    #[inline]
     pub fn try_insert(&mut self, index: u8, ch: char) -> Result<(), Error>
         ensures { Makes (insertion self.old.text index (ch ∷ []) (cap N))
             self.old.text result self.new.text }
@@ -35,6 +36,7 @@ impl<const N: usize> ArrayString<N> {
     /// - `Err(Error::OutOfBounds)` if the index is past the text;
     /// - `Err(Error::OutOfBounds)` if not all of `string` fits;
     /// - `Err(Error::Utf8)` if the index is inside a character.
+    #[inline]
     pub fn try_insert_str(&mut self, index: u8, string: &str) -> Result<(), Error>
         ensures { Makes (insertion self.old.text index (chars string.now) (cap N))
             self.old.text result self.new.text }
@@ -65,6 +67,7 @@ impl<const N: usize> ArrayString<N> {
     /// assert_eq!(string.as_str(), "abcéd");
     /// assert!((1..=4).contains(&steps.moved()));
     /// ```
+    #[inline]
     pub fn try_insert_str_counted(
         &mut self,
         index: u8,
@@ -97,6 +100,7 @@ impl<const N: usize> ArrayString<N> {
     ///
     /// - `Err(Error::OutOfBounds)` if the index is past the text;
     /// - `Err(Error::Utf8)` if the index is inside a character.
+    #[inline]
     pub fn insert_str(&mut self, index: u8, string: &str) -> Result<(), Error>
         ensures { Makes (insertion_of_cut self.old.text index (chars string.now) (cap N))
             self.old.text result self.new.text }

@@ -8,7 +8,7 @@ ghost use Rattle.arraystring_core.specs.Taken.{Takes, Gives, joined, joined_piec
 
 use crate::ArrayString;
 use arraystring_base::error::OutOfBounds;
-use arraystring_base::utils::{encode, truncate_str, write_over};
+use arraystring_base::utils::{encode, truncate_str, write_by_call, write_over};
 
 impl<const N: usize> ArrayString<N> {
     /// Appends `ch`.
@@ -23,19 +23,22 @@ impl<const N: usize> ArrayString<N> {
     {
         let end = self.end();
         if Self::has_room(end, ch) {
-            // With one sum for all widths, a loop of pushes takes one instruction more for each character.
+            // One sum for all widths would make a loop of pushes longer.
             if ch.is_ascii() {
-                encode(ch, &mut self.array, end);
                 self.size += 1;
+                encode(ch, &mut self.array, end);
             } else {
                 self.size += encode(ch, &mut self.array, end) as u8;
             }
             return Ok(());
         }
-        if !Self::has_room(self.size as usize, ch) {
+        let (start, size) = (self.start as usize, self.size as usize);
+        if !Self::has_room(size, ch) {
             return Err(OutOfBounds);
         }
-        self.compact_and_push(ch);
+        let size = Self::compact_and_push(&mut self.array, ch, start, size);
+        self.start = 0;
+        self.size = size as u8;
         Ok(())
     }
 
@@ -63,6 +66,7 @@ impl<const N: usize> ArrayString<N> {
     }
 
     /// Appends the longest prefix of whole characters of `string` that fits.
+    #[inline]
     pub fn push_str(&mut self, string: &str)
         ensures { Makes (addition_of_cut self.old.text (chars string.now) (cap N))
             self.old.text (Ok result) self.new.text }
@@ -79,7 +83,7 @@ impl<const N: usize> ArrayString<N> {
         }
         let part = truncate_str(string, room);
         self.size += part.len() as u8;
-        write_over(&mut self.array, end, part.as_bytes());
+        write_by_call(&mut self.array, end, part.as_bytes());
     }
 
     /// Appends the longest prefix of the characters that fits.
@@ -87,6 +91,7 @@ impl<const N: usize> ArrayString<N> {
     /// # Precondition
     ///
     /// The iterator must end, and until then the precondition of its `next` must hold.
+    #[inline]
     pub fn extend_chars<I: IntoIterator<Item = char> + Drop>(&mut self, characters: I)
         requires { IsFiniteIterable I.into_iter_gives I.IntoIter.can_next
             I.IntoIter.remaining characters }
@@ -108,6 +113,7 @@ impl<const N: usize> ArrayString<N> {
     /// # Precondition
     ///
     /// The iterator must end, and until then the precondition of its `next` must hold.
+    #[inline]
     pub fn extend_strs<'a, I: IntoIterator<Item = &'a str> + Drop>(&mut self, pieces: I)
         requires { IsFiniteIterable I.into_iter_gives I.IntoIter.can_next
             I.IntoIter.remaining pieces }

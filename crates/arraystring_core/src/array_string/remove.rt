@@ -5,7 +5,9 @@ ghost use Rattle.arraystring_base.specs.Text.{size, width, front, back, boundary
 ghost use Rattle.arraystring_core.specs.Edits.{Makes, popping, from_utf8_error, with_text, truncation, removal, clearing, split};
 
 use crate::ArrayString;
+use crate::laws::text_fits;
 use arraystring_base::error::{Error, Utf8};
+use arraystring_base::leaf::text_from;
 use arraystring_base::utils::{Steps, first_char, last_char};
 
 impl<const N: usize> ArrayString<N> {
@@ -14,6 +16,7 @@ impl<const N: usize> ArrayString<N> {
     /// # Errors
     ///
     /// Returns `Err(Utf8)` if the index `size` is inside a character. The text is then unchanged.
+    #[inline]
     pub fn truncate(&mut self, size: u8) -> Result<(), Utf8>
         ensures { Makes (truncation self.old.text size)
             self.old.text (from_utf8_error result) self.new.text }
@@ -29,6 +32,7 @@ impl<const N: usize> ArrayString<N> {
     }
 
     /// Removes the last character and returns it. Returns `None` if the text is empty.
+    #[inline]
     pub fn pop(&mut self) -> Option<char>
         ensures { Makes (popping self.old.text) self.old.text (Ok result) self.new.text }
     {
@@ -50,6 +54,7 @@ impl<const N: usize> ArrayString<N> {
     /// assert_eq!(string.pop_counted(&mut steps), Some('é'));
     /// assert!((1..=4).contains(&steps.looked()) && steps.moved() == 0);
     /// ```
+    #[inline]
     pub fn pop_counted(&mut self, steps: &mut Steps) -> Option<char>
         requires looks { steps.old.looked ≤ 2 ^ 63 }
         requires moves { steps.old.moved ≤ 2 ^ 63 }
@@ -134,16 +139,18 @@ impl<const N: usize> ArrayString<N> {
     ///
     /// - `Err(Error::OutOfBounds)` if `at` is past the text;
     /// - `Err(Error::Utf8)` if `at` is inside a character.
+    #[inline]
     pub fn split_off(&mut self, at: u8) -> Result<Self, Error>
         ensures { Makes (split self.old.text at) self.old.text (with_text result) self.new.text }
     {
         self.check_index(at)?;
-        let rest = Self::from_str_unchecked(&self.as_str()[at as usize..]);
+        let rest = Self::from_str_unchecked(text_from(self.as_str(), at as usize));
         self.set_len(at);
         Ok(rest)
     }
 
     /// Removes all characters.
+    #[inline]
     pub fn clear(&mut self)
         ensures { Makes clearing self.old.text (Ok result) self.new.text }
     {
@@ -151,6 +158,7 @@ impl<const N: usize> ArrayString<N> {
     }
 
     /// Removes the text between two boundaries, without a move if it begins at index 0.
+    #[inline]
     pub(super) fn remove_range(&mut self, start: usize, end: usize, steps: &mut Steps)
         requires order { start ≤ end }
         requires start { IsTrue (boundary self.old.text start) }
@@ -167,11 +175,12 @@ impl<const N: usize> ArrayString<N> {
         if start == 0 {
             return self.drop_front(end);
         }
-        let _ = &self.array; // gives the prover that the text fits
+        text_fits(self); // gives the prover that the text fits
         self.splice(start, end, "", steps);
     }
 
     /// Drops the part before a boundary, without a move.
+    #[inline]
     pub(super) fn drop_front(&mut self, end: usize)
         requires { IsTrue (boundary self.old.text end) }
         ensures { self.new.text ≡ back self.old.text end }
@@ -181,6 +190,7 @@ impl<const N: usize> ArrayString<N> {
     }
 
     /// Shortens the text to the part before a boundary.
+    #[inline]
     pub(super) fn set_len(&mut self, size: u8)
         requires { IsTrue (boundary self.old.text size) }
         ensures { self.new.text ≡ front self.old.text size }
@@ -189,6 +199,7 @@ impl<const N: usize> ArrayString<N> {
     }
 
     /// The character that begins at a boundary before the end, and how many bytes it takes.
+    #[inline]
     fn char_at(&self, at: usize) -> (char, usize)
         requires boundary { IsTrue (boundary self.now.text at) }
         requires before_end { at < size self.now.text }
@@ -197,6 +208,6 @@ impl<const N: usize> ArrayString<N> {
         ensures next { IsTrue (boundary self.now.text (at + width result.0)) }
         ensures rest { back self.now.text (at + width result.0) ≡ drop 1 (back self.now.text at) }
     {
-        first_char(&self.as_str()[at..])
+        first_char(text_from(self.as_str(), at))
     }
 }

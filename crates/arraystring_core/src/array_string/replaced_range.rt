@@ -22,6 +22,7 @@ impl<const N: usize> ArrayString<N> {
     /// - `Err(Error::OutOfBounds)` if the text with `with` in it does not fit;
     /// - `Err(Error::Utf8)` if the start of the range is inside a character;
     /// - `Err(Error::Utf8)` if the end of the range is inside a character.
+    #[inline]
     pub fn replace_range<R: RangeBounds<u8> + Drop>(
         &mut self,
         range: R,
@@ -59,6 +60,7 @@ impl<const N: usize> ArrayString<N> {
     /// assert_eq!(string.replace_range_counted(1..2, "x", &mut steps), Ok(()));
     /// assert_eq!((string.as_str(), steps.moved()), ("axcd", 0)); // as long as what it replaces
     /// ```
+    #[inline]
     pub fn replace_range_counted<R: RangeBounds<u8> + Drop>(
         &mut self,
         range: R,
@@ -87,6 +89,7 @@ impl<const N: usize> ArrayString<N> {
     }
 
     /// Replaces the bytes from `start` to `end`.
+    #[inline]
     fn replace_between(
         &mut self,
         start: u8,

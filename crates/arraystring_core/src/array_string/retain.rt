@@ -4,6 +4,7 @@ ghost use Rattle.std.specs.List.Retain.{IsFiltered};
 ghost use Rattle.arraystring_core.specs.Retain.{IsCallableInTurn};
 
 use crate::ArrayString;
+use arraystring_base::leaf::{byte, part};
 use arraystring_base::utils::{Steps, first_char, shift};
 use std::str;
 
@@ -14,6 +15,7 @@ impl<const N: usize> ArrayString<N> {
     /// # Precondition
     ///
     /// `f` must be callable with each character, in each state that its earlier calls leave.
+    #[inline]
     pub fn retain<F: FnMut(char) -> bool + Drop>(&mut self, f: F)
         requires { IsCallableInTurn F.pre F.step f self.old.text }
         ensures { IsFiltered F.step f self.old.text self.new.text }
@@ -28,6 +30,7 @@ impl<const N: usize> ArrayString<N> {
 /// its offset; `kept` becomes the size of what is kept. Each kept character is moved on its own, and
 /// only to the left. At each call of `f` the `kept` bytes from `offset` on are those of the
 /// characters that were kept so far. If `f` panics, the text is those bytes.
+#[inline]
 fn retain_at<const N: usize, F: FnMut(char) -> bool + Drop>(
     array: &mut [u8; N],
     kept: &mut u8,
@@ -52,7 +55,7 @@ fn retain_at<const N: usize, F: FnMut(char) -> bool + Drop>(
     // At the start of each turn no byte from `read` on was written over.
     while read < size {
         // A byte of ASCII is its character; `first_char` reads the others.
-        let first = array[offset + read];
+        let first = byte(array, offset + read);
         if first < 0x80 {
             if f(first as char) {
                 let to = offset + *kept as usize;
@@ -61,11 +64,10 @@ fn retain_at<const N: usize, F: FnMut(char) -> bool + Drop>(
             }
             read += 1;
         } else {
-            let all = &array[..];
             // SAFETY: the `size` bytes from `offset` on were UTF-8 at the start. No byte from `read` on was
             // written over, since `*kept <= read`: each turn adds to it at most what it adds to `read`. `read` goes on by whole
             // characters, so one begins there, whatever the closure answers.
-            let text = unsafe { str::from_utf8_unchecked(&all[offset + read..offset + size]) };
+            let text = unsafe { str::from_utf8_unchecked(part(array, offset + read, size - read)) };
             let (ch, width) = first_char(text);
             if f(ch) {
                 let to = offset + *kept as usize;

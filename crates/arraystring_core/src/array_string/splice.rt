@@ -6,6 +6,7 @@ ghost use Rattle.arraystring_base.specs.Text.{size, width, cap, front, back, bou
 ghost use Rattle.arraystring_core.specs.Splice.{ReplacesPart};
 
 use crate::ArrayString;
+use arraystring_base::leaf::part;
 use arraystring_base::utils::{Steps, encode, shift, write_over};
 use std::str;
 
@@ -63,7 +64,7 @@ impl<const N: usize> ArrayString<N> {
     }
 
     /// Puts `ch` at a boundary, as `splice` does with a text. The new text must fit. If there is room behind the
-    /// text, the UTF-8 of `ch` is written straight into the array, which takes ten instructions less than `splice`.
+    /// text, the UTF-8 of `ch` is written straight into the array, without a text of it for `splice`.
     #[tactic(auto, using(crate::proofs::StoredLaws::within))]
     pub(super) fn splice_char(&mut self, at: usize, ch: char)
         requires boundary { IsTrue (boundary self.old.text at) }
@@ -76,7 +77,7 @@ impl<const N: usize> ArrayString<N> {
             let mut utf8 = [0; 4];
             encode(ch, &mut utf8, 0);
             // SAFETY: `encode` wrote the `len` bytes of the UTF-8 of `ch` at the start of `utf8`.
-            let given = unsafe { str::from_utf8_unchecked(&utf8[..len]) };
+            let given = unsafe { str::from_utf8_unchecked(part(&utf8, 0, len)) };
             return self.compact_and_splice(at, at, given, &mut Steps::new());
         }
         self.size = (at + (len + tail)) as u8;

@@ -24,6 +24,7 @@ impl<'a, const N: usize> Add<&'a str> for ArrayString<N> {
     ghost add_gives = { λ s given sum.
         Makes (addition_of_cut s.text (chars given.now) (cap N)) s.text (Ok tt) sum.text };
 
+    #[inline]
     fn add(mut self, given: &'a str) -> Self {
         self.push_str(given);
         self
@@ -32,6 +33,7 @@ impl<'a, const N: usize> Add<&'a str> for ArrayString<N> {
 
 /// `ArrayString { array: "abc", size: 3 }` for the text `abc`; the size counts bytes of UTF-8.
 impl<const N: usize> fmt::Debug for ArrayString<N> {
+    #[inline]
     fn fmt<W: fmt::Write>(&self, f: &mut fmt::Formatter<W>) -> fmt::Result {
         f.debug_struct("ArrayString")
             .field("array", &self.as_str())
@@ -44,6 +46,7 @@ impl<const N: usize> fmt::Debug for ArrayString<N> {
 impl<const N: usize> Default for ArrayString<N> {
     ghost is_default = { λ s. s.text ≡ [] };
 
+    #[inline]
     fn default() -> Self {
         Self::new()
     }
@@ -56,6 +59,7 @@ impl<const N: usize> fmt::Display for ArrayString<N> {
 
     ghost styled_output = { λ s _. Some (bytes s.text) };
 
+    #[inline]
     fn fmt<W: fmt::Write>(&self, f: &mut fmt::Formatter<W>) -> fmt::Result {
         f.write_str(self.as_str())
     }
@@ -71,6 +75,7 @@ impl<const N: usize> Eq for ArrayString<N> {
 impl<'a, const N: usize> From<&'a str> for ArrayString<N> {
     ghost from_gives = { λ string made. made.text ≡ cut (chars string.now) (cap N) };
 
+    #[inline]
     fn from(string: &'a str) -> Self {
         Self::from_str_truncate(string)
     }
@@ -88,6 +93,7 @@ impl<const N: usize> FromStr for ArrayString<N> {
     /// # Errors
     ///
     /// Returns `Err(OutOfBounds)` if `string` is larger than the capacity.
+    #[inline]
     fn from_str(string: &str) -> Result<Self, OutOfBounds> {
         Self::try_from_str(string)
     }
@@ -100,6 +106,7 @@ impl<const N: usize> Hash for ArrayString<N> {
     ghost respects_eq = { (fed.on_Alike (λ s. s.text)
         (fed.same_Alike (λ t. fed.str (bytes t)) bytes_decides)).fed };
 
+    #[inline]
     fn hash<H: Hasher>(&self, state: &mut H) {
         self.as_str().hash(state);
     }
@@ -136,6 +143,7 @@ impl<const N: usize> PartialEq for ArrayString<N> {
 
     ghost laws = { on_per (λ s. s.text) (partial_equiv_from_equiv nat_list_eq_equiv) };
 
+    #[inline]
     fn eq(&self, other: &Self) -> bool {
         self.as_str() == other.as_str()
     }
@@ -163,6 +171,7 @@ impl<const N: usize> fmt::Write for ArrayString<N> {
     ///
     /// Returns `Err(fmt::Error)` if not all of `string` fits. The text is then unchanged. A
     /// `write!` of several pieces keeps those before the one that is refused.
+    #[inline]
     fn write_str(&mut self, string: &str) -> fmt::Result
         ensures ok { IsOk result → bytes self.new.text ≡ bytes self.old.text ++ string.now }
         ensures made { Makes (addition self.old.text (chars string.now) (cap N))

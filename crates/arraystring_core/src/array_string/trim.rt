@@ -11,6 +11,7 @@ impl<const N: usize> ArrayString<N> {
     /// Removes all white space at both ends, and nothing else. As in `str::trim`, white space is
     /// what has the property White_Space of the Unicode Standard: the characters for which
     /// `char::is_whitespace` returns true.
+    #[inline]
     pub fn trim(&mut self)
         ensures { Makes (trimming is_white_space self.old.text)
             self.old.text (Ok result) self.new.text }
@@ -37,6 +38,7 @@ impl<const N: usize> ArrayString<N> {
     /// assert_eq!((string.as_str(), steps.moved()), ("a", 0));
     /// assert!((2..=8).contains(&steps.looked())); // the space at the end, and `a`
     /// ```
+    #[inline]
     pub fn trim_counted(&mut self, steps: &mut Steps)
         requires looks { steps.old.looked ≤ 2 ^ 63 }
         requires moves { steps.old.moved ≤ 2 ^ 63 }
@@ -55,6 +57,7 @@ impl<const N: usize> ArrayString<N> {
     }
 
     /// Removes all spaces (U+0020) at both ends, and nothing else.
+    #[inline]
     pub fn trim_spaces(&mut self)
         ensures { Makes (trimming is_space self.old.text) self.old.text (Ok result) self.new.text }
     {
@@ -65,6 +68,7 @@ impl<const N: usize> ArrayString<N> {
     /// Drops the characters at the end for which `drops` returns true, back to the last for which
     /// it does not. It moves no byte. It looks at each character that it drops and at the one before
     /// them: at each at least once, and at most four times.
+    #[inline]
     fn drop_trailing<F: Fn(char) -> bool + Drop>(&mut self, drops: F, steps: &mut Steps)
         requires callable { F.IsAlwaysCallable drops }
         requires looks { steps.old.looked ≤ 2 ^ 63 }
@@ -89,6 +93,7 @@ impl<const N: usize> ArrayString<N> {
 
     /// Drops the characters at the start for which `drops` returns true, up to the first for which
     /// it does not.
+    #[inline]
     fn drop_leading<F: Fn(char) -> bool + Drop>(&mut self, drops: F)
         requires callable { F.IsAlwaysCallable drops }
         ensures { (passes : ℕ → Bool) → ReturnsAs F.post drops passes
@@ -105,6 +110,7 @@ impl<const N: usize> ArrayString<N> {
 
 /// Whether `ch` has the property White_Space.
 #[tactic(auto, using(crate::proofs::EditLaws::is_white_space_std))]
+#[inline]
 fn is_white_space(ch: char) -> bool
     ensures { result ≡ is_white_space ch }
 {
@@ -112,6 +118,7 @@ fn is_white_space(ch: char) -> bool
 }
 
 /// Whether `ch` is the space, U+0020.
+#[inline]
 fn is_space(ch: char) -> bool
     ensures { result ≡ is_space ch }
 {

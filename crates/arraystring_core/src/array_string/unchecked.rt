@@ -7,7 +7,7 @@ ghost use Rattle.arraystring_base.specs.Text.{size, width, bytes, cap, front, ba
 ghost use Rattle.arraystring_core.specs.Taken.{TakesAll, Fits, Gives, joined, joined_pieces, piece_text};
 
 use crate::ArrayString;
-use arraystring_base::utils::{Steps, write_over};
+use arraystring_base::utils::{Steps, write_by_call, write_over};
 use std::str;
 
 impl<const N: usize> ArrayString<N> {
@@ -22,7 +22,7 @@ impl<const N: usize> ArrayString<N> {
         ensures { result.text ≡ chars string.now }
     {
         let mut array = [0; N];
-        write_over(&mut array, 0, string.as_bytes());
+        write_by_call(&mut array, 0, string.as_bytes());
         ArrayString {
             array,
             start: 0,
@@ -36,6 +36,7 @@ impl<const N: usize> ArrayString<N> {
     ///
     /// All pieces that the iterator returns must fit together. The iterator must end, and until then
     /// the precondition of its `next` must hold.
+    #[inline]
     pub fn from_iterator_unchecked<'a, I: IntoIterator<Item = &'a str> + Drop>(pieces: I) -> Self
         requires ends { IsFiniteIterable I.into_iter_gives I.IntoIter.can_next
             I.IntoIter.remaining pieces }
@@ -66,6 +67,7 @@ impl<const N: usize> ArrayString<N> {
     ///
     /// The characters that the iterator returns must fit. The iterator must end, and until then the
     /// precondition of its `next` must hold.
+    #[inline]
     pub fn from_chars_unchecked<I: IntoIterator<Item = char> + Drop>(characters: I) -> Self
         requires ends { IsFiniteIterable I.into_iter_gives I.IntoIter.can_next
             I.IntoIter.remaining characters }
@@ -86,6 +88,7 @@ impl<const N: usize> ArrayString<N> {
     ///
     /// `given` must be well-formed UTF-8 (the Unicode Standard, section 3.9), and all of it must
     /// fit.
+    #[inline]
     pub fn from_utf8_unchecked(given: &[u8]) -> Self
         requires well_formed { IsWellFormed given.now }
         requires fits { length given.now ≤ cap N }
@@ -131,6 +134,7 @@ impl<const N: usize> ArrayString<N> {
     /// # Precondition
     ///
     /// The index must be a boundary, and `ch` must fit.
+    #[inline]
     pub fn insert_unchecked(&mut self, index: u8, ch: char)
         requires boundary { IsTrue (boundary self.old.text index) }
         requires room { size self.old.text + width ch ≤ cap N }
@@ -144,6 +148,7 @@ impl<const N: usize> ArrayString<N> {
     /// # Precondition
     ///
     /// The index must be a boundary, and all of `string` must fit.
+    #[inline]
     pub fn insert_str_unchecked(&mut self, index: u8, string: &str)
         requires boundary { IsTrue (boundary self.old.text index) }
         requires room { size self.old.text + size (chars string.now) ≤ cap N }

@@ -21,6 +21,7 @@ impl<const N: usize> ArrayString<N> {
     ///
     /// - `Err(Error::Utf16)` if it is a lone surrogate;
     /// - `Err(Error::OutOfBounds)` if it is a character that does not fit.
+    #[inline]
     pub fn try_from_utf16(units: &[u16]) -> Result<Self, Error>
         ensures whole { (items : List Unit16) → IsReading units.now items
             → GivesWhole (first_stop items (cap N)) result }
@@ -42,6 +43,7 @@ impl<const N: usize> ArrayString<N> {
     ///
     /// Returns `Err(Utf16)` if a lone surrogate comes right after that prefix, even if the string
     /// is full.
+    #[inline]
     pub fn from_utf16(units: &[u16]) -> Result<Self, Utf16>
         ensures { (items : List Unit16) → IsReading units.now items
             → GivesPrefix (first_stop items (cap N)) result }
@@ -55,6 +57,7 @@ impl<const N: usize> ArrayString<N> {
 
     /// Creates a string from the longest prefix of the characters of `units` that fits. Each lone
     /// surrogate is read as U+FFFD, which takes three bytes.
+    #[inline]
     pub fn from_utf16_lossy(units: &[u16]) -> Self
         ensures { (items : List Unit16) → IsReading units.now items
             → result.text ≡ cut (lossy_text items) (cap N) }
@@ -72,6 +75,7 @@ impl<const N: usize> ArrayString<N> {
 
     /// Appends to the empty text the longest prefix of characters of `units` that fits. Returns the item
     /// right after it.
+    #[inline]
     fn add_units(&mut self, units: &[u16]) -> Option<Unit16>
         requires { self.old.text ≡ [] }
         ensures { (items : List Unit16) → IsReading units.now items
@@ -92,6 +96,7 @@ impl<const N: usize> ArrayString<N> {
 }
 
 /// An item as a character, with U+FFFD for a lone surrogate.
+#[inline]
 fn shown(item: Unit16) -> char
     ensures { result ≡ shown item }
 {

@@ -8,6 +8,7 @@ ghost use Rattle.std.specs.Hash as fed;
 ghost use Rattle.std.specs.Ordering.{nat_cmp, MatchOrdering};
 
 use crate::Drain;
+use arraystring_base::leaf::byte;
 use arraystring_base::utils::{Steps, last_char};
 use std::cmp::Ordering;
 use std::fmt;
@@ -16,6 +17,7 @@ use std::iter::FusedIterator;
 
 /// `Drain("bc")` if `bc` is left.
 impl<const N: usize> fmt::Debug for Drain<N> {
+    #[inline]
     fn fmt<W: fmt::Write>(&self, f: &mut fmt::Formatter<W>) -> fmt::Result {
         f.debug_tuple("Drain").field(&self.as_str()).finish()
     }
@@ -26,6 +28,7 @@ impl<const N: usize> Default for Drain<N> {
     ghost is_default = { λ d. d.left ≡ [] };
 
     #[tactic(auto, using(crate::proofs::StoredLaws::chars_nil))]
+    #[inline]
     fn default() -> Self {
         Drain::new([0; N], 0, 0)
     }
@@ -60,6 +63,7 @@ impl<const N: usize> Hash for Drain<N> {
     ghost respects_eq = { (fed.on_Alike (λ s. s.left)
         (fed.same_Alike (λ t. fed.str (bytes t)) bytes_decides)).fed };
 
+    #[inline]
     fn hash<H: Hasher>(&self, state: &mut H) {
         self.as_str().hash(state);
     }
@@ -81,7 +85,7 @@ impl<const N: usize> Iterator for Drain<N> {
             return None;
         }
         // A byte of ASCII is its character; `chars` reads the others.
-        let first = self.array[self.start as usize + self.front as usize];
+        let first = byte(&self.array, self.start as usize + self.front as usize);
         if first < 0x80 {
             self.front += 1;
             return Some(first as char);
@@ -124,6 +128,7 @@ impl<const N: usize> PartialEq for Drain<N> {
 
     ghost laws = { on_per (λ s. s.left) (partial_equiv_from_equiv nat_list_eq_equiv) };
 
+    #[inline]
     fn eq(&self, other: &Self) -> bool {
         self.as_str() == other.as_str()
     }

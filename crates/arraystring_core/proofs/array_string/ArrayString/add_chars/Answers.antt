@@ -2,7 +2,6 @@ use Rattle.std.proofs.Common.{◌++◌, ◌∷◌, [], sym, arith, inl, inr, app
 use Rattle.std.proofs.iter.Next.{Yields-more}
 use Rattle.arraystring_base.specs.Text.{cap}
 use Rattle.arraystring_base.proofs.TextLaws.{width-bounds}
-use Rattle.arraystring_core.proofs.StoredLaws.{opened-size}
 use Rattle.arraystring_core.proofs.EditLaws.{addition-made, addition-refused}
 use Rattle.arraystring_core.proofs.TakenLemmas.{cut-none, of_characters, added-all, added-more, added-past, added-none}
 use Rattle.arraystring_core.proofs.array_string.ArrayString.add_chars.Goals as goal
@@ -14,7 +13,7 @@ loop-ch-init g c =
     record {
       can = on.0;
       ends = on.1;
-      added = record { text = sym (append-nil old); fits = omega (arith, opened-size c.self.invariant c.self.view_is) };
+      added = record { text = sym (append-nil old); fits = omega (arith, c.text_fits.ensures) };
     }
 
 pub loop-ch-preserved : goal.loop-ch-preserved

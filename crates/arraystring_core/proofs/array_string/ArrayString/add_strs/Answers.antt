@@ -1,7 +1,6 @@
 use Rattle.std.proofs.Common.{◌++◌, ◌∷◌, [], sym, arith, inl, inr, append-nil, chars}
 use Rattle.std.proofs.iter.Next.{Yields-more}
 use Rattle.arraystring_base.specs.Text.{cap}
-use Rattle.arraystring_core.proofs.StoredLaws.{opened-size}
 use Rattle.arraystring_core.proofs.EditLaws.{addition-made, addition-refused}
 use Rattle.arraystring_core.proofs.TakenLemmas.{of_pieces, added-all, added-more, added-past, added-part}
 use Rattle.arraystring_core.proofs.array_string.ArrayString.add_strs.Goals as goal
@@ -13,7 +12,7 @@ loop-piece-init g c =
     record {
       can = on.0;
       ends = on.1;
-      added = record { text = sym (append-nil old); fits = omega (arith, opened-size c.self.invariant c.self.view_is) };
+      added = record { text = sym (append-nil old); fits = omega (arith, c.text_fits.ensures) };
     }
 
 pub loop-piece-preserved : goal.loop-piece-preserved

@@ -1,11 +1,11 @@
 use Rattle.std.proofs.Common.{sym, ◌∙◌, ap, arith, length}
 use Rattle.arraystring_base.proofs.TextLaws.{size-is}
-use Rattle.arraystring_core.proofs.StoredLaws.{borrowed-range, opened-bytes, opened-size, opened-text}
+use Rattle.arraystring_core.proofs.StoredLaws.{opened-bytes, opened-size, opened-text}
 use Rattle.arraystring_core.proofs.array_string.ArrayString.as_bytes.Goals as goal
 
 pub returns-clause-bytes : goal.returns-clause-bytes
 returns-clause-bytes g c =
-    rw borrowed-range (sym (opened-bytes c.self.invariant c.self.view_is))
+    c.part.ensures ∙ sym (opened-bytes c.self.invariant c.self.view_is)
 
 pub returns-clause-len : goal.returns-clause-len
 returns-clause-len g c = ap length (returns-clause-bytes g c) ∙ sym (size-is c.args.self.now.text)

@@ -1,16 +1,15 @@
 use Rattle.std.proofs.Common.{sym, ap, ◌∙◌, arith, chars}
 use Rattle.arraystring_core.specs.GhostProofs.{stored-utf8}
-use Rattle.arraystring_core.proofs.StoredLaws.{borrowed-range, opened-bytes, opened-size, opened-text, text_spelled}
+use Rattle.arraystring_core.proofs.StoredLaws.{opened-bytes, opened-size, opened-text, text_spelled}
 use Rattle.arraystring_core.proofs.array_string.ArrayString.as_str.Goals as goal
 
 pub from_utf8_unchecked-requires : goal.from_utf8_unchecked-requires
 from_utf8_unchecked-requires g c =
-    rw borrowed-range (stored-utf8 c.self.invariant)
+    rw c.part.ensures (stored-utf8 c.self.invariant)
 
 pub returns : goal.returns
 returns g c =
-    let borrowed = rw borrowed-range at c.from_utf8_unchecked.ensures in
-    let all = borrowed ∙ sym (opened-bytes c.self.invariant c.self.view_is) in
+    let all = c.from_utf8_unchecked.ensures ∙ c.part.ensures ∙ sym (opened-bytes c.self.invariant c.self.view_is) in
     let text = opened-text c.self.invariant c.self.view_is in
     record {
       bytes = all;

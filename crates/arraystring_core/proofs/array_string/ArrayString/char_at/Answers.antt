@@ -1,4 +1,4 @@
-use Rattle.std.proofs.Common.{◌≡◌, ℕ, List, ◌∷◌, length, drop, arith, sym, ap, ◌∙◌}
+use Rattle.std.proofs.Common.{◌≡◌, ℕ, List, ◌∷◌, length, drop, length-drop, arith, sym, ap, ◌∙◌}
 use Rattle.std.specs.Prelude.{slice_index}
 use Rattle.arraystring_base.specs.Text.{back}
 use Rattle.arraystring_base.proofs.TextLaws.{size-is}
@@ -6,19 +6,19 @@ use Rattle.arraystring_base.proofs.BoundaryLaws.{boundary-to_bytes, first-char, 
 use Rattle.arraystring_core.proofs.array_string.ArrayString.char_at.Given as given
 use Rattle.arraystring_core.proofs.array_string.ArrayString.char_at.Goals as goal
 
-pub range_from-requires : goal.range_from-requires
-range_from-requires g c _ =
+pub text_from-requires : goal.text_from-requires
+text_from-requires g c =
     boundary-to_bytes c.args.self.now.text c.as_str.result.now c.args.at c.as_str.utf8 (sym c.as_str.ensures.bytes) c.requires.boundary
 
 pub first_char-requires : goal.first_char-requires
 first_char-requires g c =
-    omega (arith, size-is c.args.self.now.text, ap length c.as_str.ensures.bytes)
+    omega (arith, size-is c.args.self.now.text, ap length c.as_str.ensures.bytes, ap length c.text_from.ensures, length-drop c.args.at c.as_str.result.now)
 
 -- the text goes on from there with the character
 goes_on : (g : given.Over) (c : goal.After-first_char g)
     → (rest : List ℕ) × (back c.args.self.now.text c.args.at ≡ c.first_char.result.0 ∷ rest)
 goes_on g c =
-    let shown = ap (drop c.args.at) (sym c.as_str.ensures.bytes) ∙ sym c.range_from.ensures.value ∙ c.first_char.ensures.first.1 in
+    let shown = ap (drop c.args.at) (sym c.as_str.ensures.bytes) ∙ sym c.text_from.ensures ∙ c.first_char.ensures.first.1 in
     first-char c.args.self.now.text c.args.at c.requires.boundary c.first_char.result.0 c.first_char.ensures.first.0 shown
 
 pub returns-clause-first : goal.returns-clause-first

@@ -12,19 +12,19 @@ overflow_cast-self g c = omega (arith, c.requires, size-borrowed c.utf8.string)
 pub overflow_add-self : goal.overflow_add-self
 overflow_add-self g c = omega (arith, c.requires, opened-size c.self.invariant c.self.view_is, size-borrowed c.utf8.string)
 
-pub write_over-requires : goal.write_over-requires
-write_over-requires g c =
+pub write_by_call-requires : goal.write_by_call-requires
+write_by_call-requires g c =
     let at_end = opened-size c.self.invariant c.self.view_is in
     (search rules, omega (arith, c.requires, at_end, size-borrowed c.utf8.string))
 
 -- what is then in the array
-written : (g : given.Over) (c : goal.After-write_over g)
-    → StoredAt g.row.N c.write_over.new.array 0 (c.self.inside.size + length c.args.string.now) (c.args.self.now.text ++ chars c.args.string.now)
+written : (g : given.Over) (c : goal.After-write_by_call g)
+    → StoredAt g.row.N c.write_by_call.new.array 0 (c.self.inside.size + length c.args.string.now) (c.args.self.now.text ++ chars c.args.string.now)
 written g c =
     let room : c.self.inside.size + length c.args.string.now ≤ cap g.row.N =
     omega (arith, c.requires, opened-size c.self.invariant c.self.view_is, size-borrowed c.utf8.string) in
     appended_at_front c.self.invariant c.self.view_is c.utf8.string room c.shift.ensures.bytes
-    (rw c.as_bytes.ensures.value at c.write_over.ensures)
+    (rw c.as_bytes.ensures.value at c.write_by_call.ensures)
 
 pub invariant_of-self : goal.invariant_of-self
 invariant_of-self g c = (written g c).in_array

@@ -3,8 +3,8 @@ use Rattle.arraystring_base.proofs.TextLaws.{size-borrowed}
 use Rattle.arraystring_core.proofs.SpanLemmas.{made}
 use Rattle.arraystring_core.proofs.array_string.ArrayString.from_str_unchecked.Goals as goal
 
-pub write_over-requires : goal.write_over-requires
-write_over-requires g c =
+pub write_by_call-requires : goal.write_by_call-requires
+write_by_call-requires g c =
     (search rules, omega (arith, size-borrowed c.utf8.string, ap length c.as_bytes.ensures.value))
 
 pub overflow_cast-result : goal.overflow_cast-result
@@ -12,8 +12,8 @@ overflow_cast-result g c = omega (arith, size-borrowed c.utf8.string)
 
 pub invariant_of-result : goal.invariant_of-result
 invariant_of-result g c =
-    (made c.utf8.string (omega (arith, size-borrowed c.utf8.string)) (rw c.as_bytes.ensures.value at c.write_over.ensures)).in_array
+    (made c.utf8.string (omega (arith, size-borrowed c.utf8.string)) (rw c.as_bytes.ensures.value at c.write_by_call.ensures)).in_array
 
 pub returns : goal.returns
 returns g c =
-    (made c.utf8.string (omega (arith, size-borrowed c.utf8.string)) (rw c.as_bytes.ensures.value at c.write_over.ensures)).shown
+    (made c.utf8.string (omega (arith, size-borrowed c.utf8.string)) (rw c.as_bytes.ensures.value at c.write_by_call.ensures)).shown

@@ -41,16 +41,16 @@ overflow_cast-self-2 g c = omega (arith, fits c.args.string.now (c.capacity.resu
 pub overflow_add-self-2 : goal.overflow_add-self-2
 overflow_add-self-2 g c = omega (arith, opened-size c.self.invariant c.self.view_is, fits c.args.string.now (c.capacity.result - c.len.result) c.truncate_str-part.utf8 c.truncate_str-part.ensures)
 
-pub write_over-requires-2 : goal.write_over-requires-2
-write_over-requires-2 g c = (search rules, omega (arith, fits c.args.string.now (c.capacity.result - c.len.result) c.truncate_str-part.utf8 c.truncate_str-part.ensures, c.end-end.ensures.value ∙ opened-end c.self.invariant c.self.view_is, opened-size c.self.invariant c.self.view_is))
+pub write_by_call-requires : goal.write_by_call-requires
+write_by_call-requires g c = (search rules, omega (arith, fits c.args.string.now (c.capacity.result - c.len.result) c.truncate_str-part.utf8 c.truncate_str-part.ensures, c.end-end.ensures.value ∙ opened-end c.self.invariant c.self.view_is, opened-size c.self.invariant c.self.view_is))
 
-begun : (g : given.Over) (c : goal.After-write_over-2 g)
-    → StoredAt g.row.N c.write_over-2.new.array c.self.inside.start (c.self.inside.size + length c.truncate_str-part.result.now) (c.args.self.now.text ++ chars c.truncate_str-part.result.now)
+begun : (g : given.Over) (c : goal.After-write_by_call g)
+    → StoredAt g.row.N c.write_by_call.new.array c.self.inside.start (c.self.inside.size + length c.truncate_str-part.result.now) (c.args.self.now.text ++ chars c.truncate_str-part.result.now)
 begun g c =
     let ended : c.end-end.result ≡ c.self.inside.start + c.self.inside.size = c.end-end.ensures.value ∙ opened-end c.self.invariant c.self.view_is in
     let room : c.self.inside.start + c.self.inside.size + length c.truncate_str-part.result.now ≤ cap g.row.N
     = omega (arith, opened-size c.self.invariant c.self.view_is, fits c.args.string.now (c.capacity.result - c.len.result) c.truncate_str-part.utf8 c.truncate_str-part.ensures) in
-    appended c.self.invariant c.self.view_is c.truncate_str-part.utf8 room (rw (ended, c.as_bytes.ensures.value) at c.write_over-2.ensures)
+    appended c.self.invariant c.self.view_is c.truncate_str-part.utf8 room (rw (ended, c.as_bytes.ensures.value) at c.write_by_call.ensures)
 
 pub invariant_of-self-2 : goal.invariant_of-self-2
 invariant_of-self-2 g c = (begun g c).in_array

@@ -2,7 +2,6 @@ use Rattle.std.proofs.Common.{◌++◌, arith, rules, ap, sym, ◌∙◌}
 use Rattle.std.proofs.lemmas.Str.{chars-nil}
 use Rattle.arraystring_base.specs.Text.{front, back}
 use Rattle.arraystring_base.proofs.BoundaryLaws.{front-start}
-use Rattle.arraystring_core.proofs.StoredLaws.{opened-size}
 use Rattle.arraystring_core.proofs.array_string.ArrayString.remove_range.Goals as goal
 
 pub returns-then-start-eq0-clause-text : goal.returns-then-start-eq0-clause-text
@@ -12,7 +11,7 @@ returns-then-start-eq0-clause-text g c =
 
 pub splice-requires : goal.splice-requires
 splice-requires g c =
-    let fits = opened-size c.self.invariant c.self.view_is in
+    let fits = c.text_fits.ensures in
     rw chars-nil (search rules, (c.requires.order, (c.requires.start, (c.requires.end, (omega arith, c.requires.countable)))))
 
 pub returns-clause-text : goal.returns-clause-text

@@ -17,14 +17,14 @@ encode-requires g c = (search rules, omega (arith, width-bounds c.args.ch))
 pub from_utf8_unchecked-given-requires : goal.from_utf8_unchecked-given-requires
 from_utf8_unchecked-given-requires g c =
     let wide = c.len_utf8-len.ensures.value ∙ sym (width-is c.args.ch) in
-    rw (char-in_front c.args.ch (search rules) _ wide c.encode.ensures.bytes) (char-utf8 c.args.ch (search rules))
+    rw (c.part.ensures, char-in_front c.args.ch (search rules) _ wide c.encode.ensures.bytes) (char-utf8 c.args.ch (search rules))
 
 pub compact_and_splice-requires : goal.compact_and_splice-requires
 compact_and_splice-requires g c =
     let t = c.args.self.now.text in
     let given = c.from_utf8_unchecked-given in
     let wide = c.len_utf8-len.ensures.value ∙ sym (width-is c.args.ch) in
-    let spelled = char-spelled c.args.ch (search rules) _ wide c.encode.ensures.bytes given.ensures in
+    let spelled = char-spelled c.args.ch (search rules) _ wide c.encode.ensures.bytes (given.ensures ∙ c.part.ensures) in
     let fits : size t - (c.args.at - c.args.at) + size (chars given.result.now) ≤ cap g.row.N = omega (arith, ap size spelled) in
     (search rules, (omega arith, (c.requires.boundary, (c.requires.boundary, (fits, omega arith)))))
 
@@ -32,7 +32,7 @@ pub returns-then-offset-size : goal.returns-then-offset-size
 returns-then-offset-size g c =
     let t = c.args.self.now.text in
     let wide = c.len_utf8-len.ensures.value ∙ sym (width-is c.args.ch) in
-    let spelled = char-spelled c.args.ch (search rules) _ wide c.encode.ensures.bytes c.from_utf8_unchecked-given.ensures in
+    let spelled = char-spelled c.args.ch (search rules) _ wide c.encode.ensures.bytes (c.from_utf8_unchecked-given.ensures ∙ c.part.ensures) in
     c.compact_and_splice.ensures.text ∙ ap (λ l. front t c.args.at ++ (l ++ back t c.args.at)) spelled
 
 pub overflow_add-self-2 : goal.overflow_add-self-2

@@ -15,7 +15,7 @@ overflow_add-self g c =
     omega (arith, ended, c.if-has_room.ensures.0 refl, width-bounds c.args.ch)
 
 -- what is then in the array
-written : (g : given.Over) (c : goal.After-self-1 g)
+written : (g : given.Over) (c : goal.After-encode g)
     → StoredAt g.row.N c.encode.new.array c.self.inside.start (c.self.inside.size + 1) (c.args.self.now.text ++ c.args.ch ∷ [])
 written g c =
     let ended : c.end-end.result ≡ c.self.inside.start + c.self.inside.size = c.end-end.ensures.value ∙ opened-end c.self.invariant c.self.view_is in
@@ -58,11 +58,16 @@ returns-then-not-has_room g c =
     let over : cap g.row.N < c.self.inside.size + width c.args.ch = search rules in
     refuses-addition _ (omega (arith, over, opened-size c.self.invariant c.self.view_is))
 
-pub compact_and_push-requires : goal.compact_and_push-requires
-compact_and_push-requires g c =
-    let at_end = opened-size c.self.invariant c.self.view_is in
-    omega (arith, c.if-not-has_room.ensures.0 refl, at_end)
+pub compact_and_push-size-requires : goal.compact_and_push-size-requires
+compact_and_push-size-requires g c = (search rules, (c.self.invariant, omega (arith, c.if-not-has_room.ensures.0 refl)))
+
+pub overflow_cast-self-2 : goal.overflow_cast-self-2
+overflow_cast-self-2 g c = omega (arith, c.compact_and_push-size.ensures.in_array.within)
+
+pub invariant_of-self-2 : goal.invariant_of-self-2
+invariant_of-self-2 g c = c.compact_and_push-size.ensures.in_array
 
 pub returns : goal.returns
 returns g c =
-    makes-addition _ (omega (arith, c.if-not-has_room.ensures.0 refl, opened-size c.self.invariant c.self.view_is)) c.compact_and_push.ensures
+    let text = c.compact_and_push-size.ensures.text ∙ ap (λ s. s.text ++ c.args.ch ∷ []) c.self.view_is in
+    makes-addition _ (omega (arith, c.if-not-has_room.ensures.0 refl, opened-size c.self.invariant c.self.view_is)) text

@@ -1,4 +1,4 @@
-use Rattle.std.proofs.Common.{◌≡◌, ◌+◌, ◌-◌, [], take, drop, chars, get_or, ap, ◌∙◌, arith, rules, refl}
+use Rattle.std.proofs.Common.{◌≡◌, ◌+◌, ◌-◌, [], take, drop, chars, ap, ◌∙◌, arith, rules, refl}
 use Rattle.std.proofs.lemmas.List.{append-nil}
 use Rattle.std.proofs.lemmas.Str.{IsUtf8-nil, chars-nil}
 use Rattle.arraystring_base.specs.Text.{width}
@@ -24,13 +24,13 @@ loop-read-init g c =
 pub f-requires : goal.f-requires
 f-requires g c =
     let l = c.loop-read in
-    callable-next l.invariant (omega arith) (ascii-begins l.array c.args.offset l.read c.args.size c.loop-read-test.true (omega arith) c.if-first-lt128.true)
+    callable-next l.invariant (omega arith) (ascii-begins l.array c.args.offset l.read c.args.size c.byte-first.ensures c.loop-read-test.true (omega arith) c.if-first-lt128.true)
 
 pub loop-read-preserved-then-first-lt128 : goal.loop-read-preserved-then-first-lt128
 loop-read-preserved-then-first-lt128 g c =
     let l = c.loop-read in
-    let begins = ascii-begins l.array c.args.offset l.read c.args.size c.loop-read-test.true (omega arith) c.if-first-lt128.true in
-    let one : width (get_or l.array (c.args.offset + l.read) 0) ≡ 1 =
+    let begins = ascii-begins l.array c.args.offset l.read c.args.size c.byte-first.ensures c.loop-read-test.true (omega arith) c.if-first-lt128.true in
+    let one : width c.byte-first.result ≡ 1 =
     low-width _ c.if-first-lt128.true in
     elim c.if-f.branch [
       | then-f w ↦
@@ -43,13 +43,13 @@ loop-read-preserved-then-first-lt128 g c =
 pub f-requires-else-first-lt128 : goal.f-requires-else-first-lt128
 f-requires-else-first-lt128 g c =
     let l = c.loop-read in
-    let begins = char-begins l.array c.args.offset l.read c.args.size c.first_char-ch.result.0 c.first_char-ch.ensures.first.0 c.from_utf8_unchecked-text.ensures (search rules) c.first_char-ch.ensures.first.1 in
+    let begins = char-begins l.array c.args.offset l.read c.args.size c.first_char-ch.result.0 c.first_char-ch.ensures.first.0 (c.from_utf8_unchecked-text.ensures ∙ c.part.ensures) (search rules) c.first_char-ch.ensures.first.1 in
     callable-next l.invariant (omega arith) begins
 
 pub loop-read-preserved : goal.loop-read-preserved
 loop-read-preserved g c =
     let l = c.loop-read in
-    let begins = char-begins l.array c.args.offset l.read c.args.size c.first_char-ch.result.0 c.first_char-ch.ensures.first.0 c.from_utf8_unchecked-text.ensures (search rules) c.first_char-ch.ensures.first.1 in
+    let begins = char-begins l.array c.args.offset l.read c.args.size c.first_char-ch.result.0 c.first_char-ch.ensures.first.0 (c.from_utf8_unchecked-text.ensures ∙ c.part.ensures) (search rules) c.first_char-ch.ensures.first.1 in
     let next : c.first_char-ch.result.1 ≡ width c.first_char-ch.result.0 = c.first_char-ch.ensures.width in
     elim c.if-f-2.branch [
       | then-f-2 w ↦

@@ -5,24 +5,24 @@ use Rattle.arraystring_core.proofs.StoredLaws.{opened-text, text_spelled}
 use Rattle.arraystring_core.proofs.DrainLemmas.{given-within, borrowed-utf8, borrowed-bytes, left-fits}
 use Rattle.arraystring_core.proofs.drain.Drain.as_str.Goals as goal
 
-pub slice_bounds-from_utf8_unchecked-start : goal.slice_bounds-from_utf8_unchecked-start
-slice_bounds-from_utf8_unchecked-start g c = omega (arith, given-within c.self.invariant)
+pub overflow_sub-len : goal.overflow_sub-len
+overflow_sub-len g c = given-within c.self.invariant
 
-pub slice_bounds-from_utf8_unchecked-count : goal.slice_bounds-from_utf8_unchecked-count
-slice_bounds-from_utf8_unchecked-count g c = omega (arith, given-within c.self.invariant)
+pub part-requires : goal.part-requires
+part-requires g c = omega (arith, given-within c.self.invariant)
 
 pub from_utf8_unchecked-requires : goal.from_utf8_unchecked-requires
-from_utf8_unchecked-requires g c = borrowed-utf8 c.self.invariant _ _ (omega arith) (omega arith)
+from_utf8_unchecked-requires g c = rw c.part.ensures (borrowed-utf8 c.self.invariant)
 
 pub returns-clause-bytes : goal.returns-clause-bytes
 returns-clause-bytes g c =
-    c.from_utf8_unchecked.ensures ∙ borrowed-bytes c.self.invariant _ _ (omega arith) (omega arith) c.self.view_is
+    c.from_utf8_unchecked.ensures ∙ c.part.ensures ∙ borrowed-bytes c.self.invariant c.self.view_is
 
 pub returns-clause-chars : goal.returns-clause-chars
 returns-clause-chars g c =
     let removed = opened-text c.self.invariant.in_array refl in
     let text = subst (λ d. IsText d.left) c.self.view_is (back-text _ c.self.inside.front removed) in
-    let all = c.from_utf8_unchecked.ensures ∙ borrowed-bytes c.self.invariant _ _ (omega arith) (omega arith) c.self.view_is in
+    let all = c.from_utf8_unchecked.ensures ∙ c.part.ensures ∙ borrowed-bytes c.self.invariant c.self.view_is in
     ap chars all ∙ text_spelled _ text
 
 pub returns-clause-text : goal.returns-clause-text

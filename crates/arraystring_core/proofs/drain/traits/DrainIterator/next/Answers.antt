@@ -11,18 +11,18 @@ returns-then-self-clause-steps g c =
     let none = none-left c.self.invariant c.self.view_is (omega arith) in
     (none, none)
 
-pub bounds-self-inside-self-inside : goal.bounds-self-inside-self-inside
-bounds-self-inside-self-inside g c = omega (arith, given-within c.self.invariant)
+pub byte-first-requires : goal.byte-first-requires
+byte-first-requires g c = omega (arith, given-within c.self.invariant)
 
 pub overflow_add-self : goal.overflow_add-self
 overflow_add-self g c = omega (arith, given-within c.self.invariant)
 
 pub invariant_of-self : goal.invariant_of-self
-invariant_of-self g c = (first-given c.self.invariant c.self.view_is (omega (arith, given-within c.self.invariant)) c.if-first-lt128.true).in_array
+invariant_of-self g c = (first-given c.self.invariant c.self.view_is (omega (arith, given-within c.self.invariant)) c.byte-first.ensures c.if-first-lt128.true).in_array
 
 pub returns-then-first-lt128 : goal.returns-then-first-lt128
 returns-then-first-lt128 g c =
-    let given = first-given c.self.invariant c.self.view_is (omega (arith, given-within c.self.invariant)) c.if-first-lt128.true in
+    let given = first-given c.self.invariant c.self.view_is (omega (arith, given-within c.self.invariant)) c.byte-first.ensures c.if-first-lt128.true in
     record { steps = given.rest; goes = record { on = λ _. (tt, tt, omega (arith, ap length given.rest)); keeps = tt; rests = λ _. tt } }
 
 pub returns-in_err-ch-clause-steps : goal.returns-in_err-ch-clause-steps

@@ -1,6 +1,6 @@
 use Rattle.std.proofs.Common.{◌+◌, ◌-◌, arith}
 use Rattle.arraystring_base.proofs.MoveLemmas.{moved-by-ends, read-as-one}
-use Rattle.arraystring_base.proofs.moves.move_pairs.Goals as goal
+use Rattle.arraystring_base.proofs.leaf.move_pairs.Goals as goal
 
 pub returns : goal.returns
 returns g c =

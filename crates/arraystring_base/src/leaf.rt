@@ -1,0 +1,195 @@
+//! What the Rust crate does without a test of bounds: one byte, a few bytes, a part, a copy, a long move, and a text
+//! to and from a boundary. All other code of this crate and of `arraystring_core` calls these functions, because each
+//! has as its precondition what Rust would test. So the proof of a call says that the test can be left out.
+//!
+//! What is public here reads, lends or turns case. What writes or moves is for `moves` and `utf8`: a string writes by
+//! `encode`, `write_over` and `write_by_call`, and moves by `shift`, which counts. Callers of `arraystring` need none
+//! of this.
+ghost use Rattle.std.specs.Prelude.{◌≡◌, ◌+◌, ◌-◌, ◌<◌, ◌≤◌, ◌++◌, ◌∷◌, [], IsCharBoundary, length, map, take, drop, slice_index};
+ghost use Rattle.std.specs.Char.{to_ascii_uppercase, to_ascii_lowercase};
+
+use crate::moves::move_ends;
+use std::simd::Simd;
+
+/// The byte at an index. It counts no look: what has to be counted calls `look`.
+///
+/// # Precondition
+///
+/// The index must be below the length.
+#[inline(always)]
+pub fn byte(bytes: &[u8], at: usize) -> u8
+    requires { at < length bytes.now }
+    ensures { result ≡ slice_index bytes.now at }
+{
+    bytes[at]
+}
+
+/// Writes one byte.
+#[inline(always)]
+pub(crate) fn put_byte(all: &mut [u8], at: usize, byte: u8)
+    requires { at < length all.old }
+    ensures { all.new ≡ take at all.old ++ (byte ∷ drop (at + 1) all.old) }
+{
+    all[at] = byte;
+}
+
+/// Writes `K` bytes, which are no vector, from `at` on.
+#[inline(always)]
+pub(crate) fn put_array<const K: usize>(all: &mut [u8], at: usize, bytes: [u8; K])
+    requires { at + K ≤ length all.old }
+    ensures { all.new ≡ take at all.old ++ (bytes.entry ++ drop (at + K) all.old) }
+{
+    all[at..at + K].copy_from_slice(&bytes);
+}
+
+/// The `len` bytes from `start` on, borrowed without a copy.
+///
+/// # Precondition
+///
+/// The slice must have that many bytes from there.
+#[inline(always)]
+pub fn part(bytes: &[u8], start: usize, len: usize) -> &[u8]
+    requires { start + len ≤ length bytes.now }
+    ensures { result.now ≡ take len (drop start bytes.now) }
+{
+    &bytes[start..start + len]
+}
+
+/// Makes a..z among the bytes from `start` to `end` A..Z. No other byte changes.
+///
+/// # Precondition
+///
+/// `start` must be at most `end`, and `end` at most the length.
+#[inline(always)]
+pub fn make_upper(all: &mut [u8], start: usize, end: usize)
+    requires order { start ≤ end }
+    requires within { end ≤ length all.old }
+    ensures { all.new ≡ take start all.old
+        ++ (map to_ascii_uppercase (take (end - start) (drop start all.old)) ++ drop end all.old) }
+{
+    all[start..end].make_ascii_uppercase();
+}
+
+/// Makes A..Z among the bytes from `start` to `end` a..z. No other byte changes.
+///
+/// # Precondition
+///
+/// `start` must be at most `end`, and `end` at most the length.
+#[inline(always)]
+pub fn make_lower(all: &mut [u8], start: usize, end: usize)
+    requires order { start ≤ end }
+    requires within { end ≤ length all.old }
+    ensures { all.new ≡ take start all.old
+        ++ (map to_ascii_lowercase (take (end - start) (drop start all.old)) ++ drop end all.old) }
+{
+    all[start..end].make_ascii_lowercase();
+}
+
+/// The text before a boundary, borrowed without a copy.
+///
+/// # Precondition
+///
+/// `end` must be a boundary of the text.
+#[inline(always)]
+pub fn text_to(text: &str, end: usize) -> &str
+    requires { IsCharBoundary text.now end }
+    ensures { result.now ≡ take end text.now }
+{
+    &text[..end]
+}
+
+/// The text from a boundary on, borrowed without a copy.
+///
+/// # Precondition
+///
+/// `start` must be a boundary of the text.
+#[inline(always)]
+pub fn text_from(text: &str, start: usize) -> &str
+    requires { IsCharBoundary text.now start }
+    ensures { result.now ≡ drop start text.now }
+{
+    &text[start..]
+}
+
+/// Moves `len` bytes: 16 or more, and at most `N`. The branches for sizes above `N` are left out. (In Rust this is one
+/// `memmove`. The kit has none that is fast, so here the bytes go through vectors.)
+#[inline(always)]
+pub(crate) fn move_long_run<const N: usize>(all: &mut [u8], from: usize, to: usize, len: usize)
+    requires source { from + len ≤ length all.old }
+    requires target { to + len ≤ length all.old }
+    requires most { len ≤ N }
+    requires long { 16 ≤ len }
+    ensures { all.new
+        ≡ take to all.old ++ (take len (drop from all.old) ++ drop (to + len) all.old) }
+{
+    if N <= 32 || len <= 32 {
+        move_ends::<16>(all, from, to, len);
+    } else if N <= 64 || len <= 64 {
+        move_ends::<32>(all, from, to, len);
+    } else if N <= 128 || len <= 128 {
+        move_ends::<64>(all, from, to, len);
+    } else if N <= 256 || len <= 256 {
+        move_pairs::<64>(all, from, to, len);
+    } else {
+        all.copy_within(from..from + len, to);
+    }
+}
+
+/// Moves `len` bytes, from `2 * K` to `4 * K` of them: two times `K` at each end, which may overlap.
+#[inline(always)]
+fn move_pairs<const K: usize>(all: &mut [u8], from: usize, to: usize, len: usize)
+    requires source { from + len ≤ length all.old }
+    requires target { to + len ≤ length all.old }
+    requires least { K + K ≤ len }
+    requires most { len - (K + K) ≤ K + K }
+    ensures { all.new
+        ≡ take to all.old ++ (take len (drop from all.old) ++ drop (to + len) all.old) }
+{
+    let rest = len - (K + K);
+    let front = bytes_of::<K>(all, from);
+    let after_front = bytes_of::<K>(all, from + K);
+    let before_end = bytes_of::<K>(all, from + rest);
+    let end = bytes_of::<K>(all, from + rest + K);
+    put_pair(all, to, front, after_front);
+    put_pair(all, to + rest, before_end, end);
+}
+
+/// Writes any number of bytes. The proved build never inlines it, so its code stands there once. The parameters are in
+/// the order of those of a call that appends, because no register is then moved for it.
+#[inline(never)]
+pub(crate) fn write_bytes(all: &mut [u8], given: &[u8], at: usize)
+    requires { at + length given.now ≤ length all.old }
+    ensures { all.new ≡ take at all.old ++ (given.now ++ drop (at + length given.now) all.old) }
+{
+    all[at..at + given.len()].copy_from_slice(given);
+}
+
+/// The `K` bytes of `given` from `at` on.
+#[inline(always)]
+pub(crate) fn bytes_of<const K: usize>(given: &[u8], at: usize) -> Simd<u8, K>
+    requires { at + K ≤ length given.now }
+    ensures { result ≡ take K (drop at given.now) }
+{
+    Simd::<u8, K>::from_slice(&given[at..at + K])
+}
+
+/// Writes `K` bytes from `at` on.
+#[inline(always)]
+pub(crate) fn put_bytes<const K: usize>(all: &mut [u8], at: usize, bytes: Simd<u8, K>)
+    requires { at + K ≤ length all.old }
+    ensures { all.new ≡ take at all.old ++ (bytes.entry ++ drop (at + K) all.old) }
+{
+    bytes.copy_to_slice(&mut all[at..at + K]);
+}
+
+/// Writes `2 * K` bytes from `at` on.
+#[tactic(auto, using(crate::proofs::MoveLemmas::written_as_one))]
+#[inline(always)]
+fn put_pair<const K: usize>(all: &mut [u8], at: usize, first: Simd<u8, K>, second: Simd<u8, K>)
+    requires { at + (K + K) ≤ length all.old }
+    ensures { all.new
+        ≡ take at all.old ++ ((first.entry ++ second.entry) ++ drop (at + (K + K)) all.old) }
+{
+    put_bytes(all, at, first);
+    put_bytes(all, at + K, second);
+}
