@@ -1,4 +1,5 @@
 // Proved sources: crates/arraystring_core/src/array_string.rt
+// The bodies were compared with these for the last time at commit a4b96150, and nothing compares them since.
 //! `ArrayString`: the type, and how its text lies in the array.
 //!
 //! The modules below have its calls. `traits` has its impls of traits, and `unchecked` the calls that leave a test to

@@ -1,4 +1,5 @@
 // Proved sources: crates/arraystring_core/src/drain.rt
+// The bodies were compared with these for the last time at commit a4b96150, and nothing compares them since.
 //! `Drain`: the characters that were removed from a string, from both ends.
 
 use crate::access::{self, Place, str};

@@ -1,4 +1,5 @@
 // Proved sources: crates/arraystring_base/src/error.rt
+// The bodies were compared with these for the last time at commit a4b96150, and nothing compares them since.
 //! The errors, and the conversions to `Error`.
 
 use core::error::Error as StdError;

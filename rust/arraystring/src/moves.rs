@@ -1,4 +1,5 @@
 // Proved sources: crates/arraystring_base/src/moves.rt
+// The bodies were compared with these for the last time at commit a4b96150, and nothing compares them since.
 //! The two moves of bytes: `shift`, inside an array, and `write_over`, of a given run into it. Each has a form for
 //! cold functions: `shift_by_call` and `write_by_call`. All that makes them fast is in this file.
 //!

@@ -1,4 +1,5 @@
 // Proved sources: crates/arraystring_core/src/range_ends.rt
+// The bodies were compared with these for the last time at commit a4b96150, and nothing compares them since.
 //! The ends of ranges over `u8`. The contracts speak of the bounds that the range's methods return. If
 //! `has_bounds` holds of the range, they are its own; else no contract says which they are.
 

@@ -1,4 +1,5 @@
 // Proved sources: crates/arraystring_base/src/utils.rt, crates/arraystring_core/src/array_string/boundary.rt
+// The bodies were compared with these for the last time at commit a4b96150, and nothing compares them since.
 //! Boundaries, cuts and moves of bytes. Sizes and indices count bytes of UTF-8.
 
 use crate::ArrayString;

@@ -1,4 +1,5 @@
 // Proved sources: crates/arraystring_core/src/array_string/append_at_array_end.rt
+// The bodies were compared with these for the last time at commit a4b96150, and nothing compares them since.
 //! Appends to a text that may end where its array ends: the test of the room, and what first moves the text to the start.
 
 use crate::ArrayString;

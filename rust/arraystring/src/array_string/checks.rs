@@ -1,4 +1,5 @@
 // Proved sources: crates/arraystring_core/src/array_string/checks.rt
+// The bodies were compared with these for the last time at commit a4b96150, and nothing compares them since.
 //! What each kind of edit refuses, in the order of its errors: a row of the table of edits (docs/definitions.md) has these
 //! tests. The first that finds a cause decides which error it is.
 

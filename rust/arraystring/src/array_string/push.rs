@@ -1,4 +1,5 @@
 // Proved sources: crates/arraystring_core/src/array_string/push.rt
+// The bodies were compared with these for the last time at commit a4b96150, and nothing compares them since.
 //! Appends: of characters, of texts, and of the items of an iterator, whose loops are in `appended_items`.
 
 use crate::ArrayString;

@@ -1,4 +1,5 @@
 // Proved sources: crates/arraystring_core/src/array_string/remove.rt
+// The bodies were compared with these for the last time at commit a4b96150, and nothing compares them since.
 //! What is removed from a string: a character at the end or at an index, the text from an index on, all of
 //! it. The private calls remove a part, a front or an end of the text.
 

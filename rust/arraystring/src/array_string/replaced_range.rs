@@ -1,4 +1,5 @@
 // Proved sources: crates/arraystring_core/src/array_string/replaced_range.rt
+// The bodies were compared with these for the last time at commit a4b96150, and nothing compares them since.
 //! The part of a text in a range of bytes, replaced by another text.
 
 use crate::ArrayString;

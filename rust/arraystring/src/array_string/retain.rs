@@ -1,4 +1,5 @@
 // Proved sources: crates/arraystring_core/src/array_string/retain.rt
+// The bodies were compared with these for the last time at commit a4b96150, and nothing compares them since.
 //! The characters of a text that a closure keeps.
 
 use crate::ArrayString;

@@ -1,4 +1,5 @@
 // Proved sources: crates/arraystring_core/src/array_string/splice.rt
+// The bodies were compared with these for the last time at commit a4b96150, and nothing compares them since.
 //! How a part between two boundaries becomes another text. What follows it moves. If there is no room behind the text,
 //! what precedes it moves to the start of the array, too. Appends, and removals at the front and at the end, move nothing
 //! or all of the text: `append_at_array_end` and `remove` have them.

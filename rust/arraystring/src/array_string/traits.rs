@@ -1,4 +1,5 @@
 // Proved sources: crates/arraystring_core/src/array_string/traits.rt
+// The bodies were compared with these for the last time at commit a4b96150, and nothing compares them since.
 //! The traits of a string: how it is printed, made, compared, hashed and appended to.
 
 use crate::ArrayString;

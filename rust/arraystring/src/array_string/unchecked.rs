@@ -1,4 +1,5 @@
 // Proved sources: crates/arraystring_core/src/array_string/unchecked.rt
+// The bodies were compared with these for the last time at commit a4b96150, and nothing compares them since.
 //! The calls that leave a test to the caller, of which most programs need none.
 
 use crate::ArrayString;

@@ -1,4 +1,5 @@
 // Proved sources: crates/arraystring_core/src/array_string.rt, crates/arraystring_core/src/array_string/boundary.rt
+// The bodies were compared with these for the last time at commit a4b96150, and nothing compares them since.
 //! What is read of a string without a change: its capacity, its length and its text.
 
 use super::ArrayString;

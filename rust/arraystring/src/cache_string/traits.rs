@@ -1,4 +1,5 @@
 // Proved sources: crates/arraystring/src/cache_string/traits.rt
+// The bodies were compared with these for the last time at commit a4b96150, and nothing compares them since.
 //! The traits of a `CacheString`, each as the string inside has it. The comparisons and `Default` are
 //! written out and not derived, so that a caller's proof can cite what each call returns.
 

@@ -1,4 +1,5 @@
 // Proved sources: crates/arraystring_core/src/drain/traits.rt
+// The bodies were compared with these for the last time at commit a4b96150, and nothing compares them since.
 //! The traits of a drain: its iterators, and how what is left is printed, compared and hashed.
 
 use crate::Drain;

@@ -21,6 +21,10 @@ use arraystring::{ArrayString, MaxString};
 use crate::at_capacity;
 use crate::rows::{Table, column, hash_of, parsed, returned, rows};
 
+/// The calls of the tables that Rust does not have yet, since its copy of the bodies is frozen. Nothing makes them here:
+/// each leaves the text that its row has behind it.
+const NOT_IN_RUST: &[&str] = &[];
+
 /// The calls that rows have made.
 static MADE: Mutex<BTreeSet<String>> = Mutex::new(BTreeSet::new());
 
@@ -94,6 +98,10 @@ fn hold_from<const N: usize>(table: &str, string: impl Fn(&str) -> ArrayString<N
 /// Makes a call, and asserts what it returns.
 fn make<const N: usize>(text: &mut ArrayString<N>, call: &str, row: &str) {
     let call = plain(call);
+    if NOT_IN_RUST.contains(&call) {
+        *text = ArrayString::from(column(row, 5));
+        return;
+    }
     let is_made =
         whole(text, call, row) || compared(text, call, row) || at_index(text, call, row) || in_range(text, call, row);
     assert!(is_made, "nothing makes {call} in {row}");
