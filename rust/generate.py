@@ -1,131 +1,142 @@
 #!/usr/bin/env python3
-"""generate.py [--check] [CRATES [OUT]] makes the core of the Cargo crate from the proved sources: of CRATES (../crates) it makes the files
-below OUT (arraystring/src/proved). With --check it writes nothing, prints what differs, and fails if anything does.
+"""generate.py [--check] [CRATES [OUT]] makes the core of the Cargo crate: the files below OUT (arraystring/src/proved) are the proved sources
+of CRATES (../crates) without what is only for the proof. With --check it writes nothing, prints what differs, and fails if anything does.
 
-A file becomes tokens, each with the blanks and comments before it. The rules leave tokens out, or write others. What no rule names stays as
-it is, with its comments, so a file of OUT is its source without what is only for the proof. rustc compiles the rest or refuses it.
+A file becomes tokens, each with the blanks and comments before it. The rules leave tokens out, or write others. What no rule names stays
+as it is, with its comments, and rustc compiles it or refuses it. A comment before what is left out, or in it, goes with it.
 
- 1. ghosts     `ghost ..;`, the clauses `requires` and `ensures`, `impl Model for ..`, `#[tactic(..)]`, `Drop` in a derive, the bound `+ Drop`.
- 2. laws       The modules `laws` and `integration` (JSON) are not there. A call of what a file imports of `laws` is a fact for the prover, as
-               `let _ = &self.array;` is: it goes, if it is a statement whose arguments call nothing.
- 3. counter    `steps` is not there either: the parameter `steps: &mut Steps`, the argument `steps` or `&mut Steps::new()`, the statements
-               `steps.f(..);`, what is imported of it. `f`, which only calls `f_counted`, has the body of that, which goes; a call of it is one of `f`.
- 4. paths      `std` is `core`. `crate` and the names of the crates are modules of `crate::proved`. The module `leaf` is `crate::leaf`, by hand,
-               and has `std::char` and `std::str`, too: with the feature `checked_utf8` these test what they are given.
- 5. places     A byte that can be written may have no value yet: `[u8` behind `&mut`, and as a field or parameter `array`, is of `Place`, and
-               `[0; N]` has places that nothing wrote. No proof may read one of these zeros; `rust/shipped` looks for it by memcheck.
- 6. fields     A struct with an array is `#[repr(C)]` and has it last: rustc then sees that a write into the array, at whatever offset, changes
-               no number before it. A field is `pub(crate)`, for the calls by hand that lend the text to be changed.
- 7. constants  `as_str` and `as_bytes` are `const`: in Rattle an index is none, and in Rust it is `leaf::part`.
- 8. examples   `# Examples` is left out of a comment: it would be a test of rustdoc, which sees no private module.
- 9. formatter  `fn fmt<W: fmt::Write>(.. fmt::Formatter<W>)` is `fn fmt(.. fmt::Formatter<'_>)`.
+ 1. ghosts     `ghost ..`, the clauses `requires` and `ensures`, `impl Model for ..`, `#[tactic(..)]`, `+ Drop` and a derived `Drop` are left out.
+ 2. laws       So are the modules `laws` and `integration` (JSON), and the statements that call what a file imports of `laws`: they help the prover.
+ 3. counter    So is the module `steps`: the parameter `steps: &mut Steps`, the arguments `steps` and `&mut Steps::new()`, statements `steps.f(..);`.
+ 4. counted    `f`, which only calls `f_counted`, gets the body of that, which is left out. A call of `f_counted` is one of `f`.
+ 5. paths      `std` is `core`, `crate` and a crate's name a module of `crate::proved`. `leaf` is by hand, and has what `char` and `str` of std have.
+ 6. places     `[u8` behind `mut`, and as the type of an `array`, is of `leaf::Place`, which may have no value yet, and `[0; N]` of `leaf::UNWRITTEN`.
+ 7. fields     A struct with an array is `#[repr(C)]` and has it last: no write into it then seems to change a number. A field is `pub(crate)`.
+ 8. constants  `as_str` and `as_bytes` are `const`: in Rattle an index is none, and in Rust it is `leaf::part`.
+ 9. examples   `# Examples` is left out of a comment: it would be a test of rustdoc, which sees no private module.
+10. formatter  `fn fmt<W: fmt::Write>(.. fmt::Formatter<W>)` is `fn fmt(.. fmt::Formatter<'_>)`.
 
-A comment before what goes, or in it, goes with it. What looks like one of these and is left over is an error with its file and line: a word
-of LEFT, a name that ends with `_counted`, an `unsafe` without its `SAFETY` before it, an example, a comment between `/*` and `*/`.
+An error with its file and line is what looks like one of these and is left over: a word of LEFT, a name that ends with `_counted`, an example, an
+`unsafe` without its `SAFETY`, a comment from `/*` on. One thing no rule sees: a proof that reads a zero of `[0; N]`, which nothing writes in Rust.
+memcheck sees that, in `rust/shipped`.
 """
 import difflib
 import re
 import sys
 from pathlib import Path
 
-# The crates, and the module that each becomes.
+# The crates, and the module that each becomes; the modules that are left out, and the one that is by hand.
 CRATES = {'arraystring_base': 'base', 'arraystring_core': 'string'}
-# The modules that are left out, and the one that is by hand.
 GONE, BY_HAND = {'laws', 'integration', 'steps'}, 'leaf'
-CONSTANT = {'as_str', 'as_bytes'}
-LEFT = GONE | {'ghost', 'requires', 'ensures', 'tactic', 'Model', 'Drop', 'Steps', 'std', 'prove', 'prove_eq', 'prove_ne'}
+GHOST_TYPES, CONSTANT = {'Steps', 'Model'}, {'as_str', 'as_bytes'}
+LEFT = {*GONE, *CRATES, *GHOST_TYPES, 'ghost', 'requires', 'ensures', 'tactic', 'Drop', 'std', 'prove', 'prove_eq', 'prove_ne'}
 TOKEN = re.compile(r'''
     (?P<gap> (?: \s | //[^\n]* )+ )
   | (?P<token> [bc]?r(?P<hashes>\#*)".*?"(?P=hashes) | [bc]?"(?:\\.|[^"\\])*" | b?'(?:\\(?:x..|u\{[^}]*\}|.)|[^'\\\n])' | '\w+
       | \w+ | /\* | :: | -> | => | \.\.= | \.\. | . )
 ''', re.X | re.S)
 OPEN, CLOSE = {'(', '[', '{'}, {')', ']', '}'}
-
-
-class Word:
-    """Any name or number, in a pattern of tokens."""
+WORD = re.compile(r'\w+')
 
 
 class Tokens(list):
     """A file as [gap, text, line] of each token. A gap has the blanks and comments before it."""
 
-    def __init__(self, name, text):
-        self.name, gap, line = name, '', 1
+    def __init__(self, path, text):
+        self.path, gap, line = path, '', 1
         for match in TOKEN.finditer(text):
             if match['gap'] is None:
                 self.append([gap, match['token'], line])
-                gap = ''
-            else:
-                gap = match['gap']
+                if match['token'] == '/*':
+                    self.refuse(-1, 'a comment that does not begin with `//`')
+            gap = match['gap'] or ''
             line += match[0].count('\n')
         self.append([gap, '', line])
 
     def __str__(self):
-        text = re.sub(r'\n{3,}', '\n\n', ''.join(gap + token for gap, token, _ in self))
-        return re.sub(r'\n\n(?= *\})', '\n', re.sub(r'(?<=\{)\n\n', '\n', text)).lstrip('\n')
+        text = re.sub(r'\n{3,}', '\n\n', ''.join(gap + text for gap, text, _ in self)).lstrip('\n')
+        return re.sub(r'\n\n(?= *\})', '\n', re.sub(r'(?<=\{)\n\n', '\n', text))
 
     def refuse(self, at, why):
-        raise SystemExit(f'{self.name}:{self[at][2]}: {why}')
+        raise SystemExit(f'{self.path}:{self[at][2]}: {why}')
+
+    def texts(self, start, end):
+        return [text for _, text, _ in self[start:end]]
 
     def at(self, start, *pattern):
-        """Whether the tokens from an index on are these. A set is any of its texts."""
-        if start < 0 or start + len(pattern) > len(self):
-            return False
-        texts = [text for _, text, _ in self[start:start + len(pattern)]]
-        return all(text in want if isinstance(want, set) else text[:1].isalnum() or text[:1] == '_' if want is Word else text == want
-                   for want, text in zip(pattern, texts))
+        """Whether the tokens from an index on are these: a text, any text of a set, or a name or number."""
+        fits = lambda want, text: want.fullmatch(text) if want is WORD else text in want if isinstance(want, set) else text == want
+        return 0 <= start <= len(self) - len(pattern) and all(map(fits, pattern, self.texts(start, start + len(pattern))))
+
+    def all_at(self, *pattern):
+        """Where these tokens are, from the end on: what is done to one leaves the others where they are."""
+        return [at for at in reversed(range(len(self))) if self.at(at, *pattern)]
 
     def closing(self, start):
         """The index of the bracket that closes the one at an index."""
         depth = 0
         for at in range(start, len(self)):
-            depth += (self[at][1] in OPEN) - (self[at][1] in CLOSE)
+            depth += self.at(at, OPEN) - self.at(at, CLOSE)
             if depth == 0:
                 return at
         self.refuse(start, 'a bracket stays open')
 
-    def after(self, start, wanted):
-        """The index behind the first such token from an index on that is in no brackets of its own."""
+    def next(self, start, *wanted):
+        """The index of the first of these tokens from an index on that is in no brackets of its own."""
         at = start
-        while not self.at(at, wanted):
-            if self[at][1] in CLOSE or self.at(at, ''):
-                self.refuse(start, f'no {wanted} ends this')
-            at = self.closing(at) + 1 if self[at][1] in OPEN else at + 1
-        return at + 1
+        while not self.at(at, set(wanted)):
+            if self.at(at, {*CLOSE, ''}):
+                self.refuse(start, f'there is no {" or ".join(wanted)}')
+            at = self.closing(at) + 1 if self.at(at, OPEN) else at + 1
+        return at
+
+    def behind_angles(self, start):
+        """The index behind a list between `<` and `>`, if one begins at an index."""
+        depth = 0
+        for at in range(start, len(self)):
+            depth += self.at(at, '<') - self.at(at - 1, '>') * (at > start)
+            if depth == 0:
+                return at
+        self.refuse(start, 'a bracket stays open')
 
     def item(self, at):
         """Where the item or statement begins that a token is in: behind the last `;` or brace."""
-        while at > 0 and self[at - 1][1] not in {';', '{', '}'}:
+        while at > 0 and not self.at(at - 1, {';', '{', '}'}):
             at -= 1
         return at
 
-    def leave_out(self, start, end, keep=''):
-        """Leaves tokens out. Of the comments before them `//!` stays, and with `keep` all do; one behind, on the same line, goes."""
-        head, tail = self[start][0], re.sub(r'^[ ]*//[^\n]*', '', self[end][0])
+    def opening(self, at):
+        """The index of the bracket that a token is in."""
+        depth = 0
+        while at > 0 and (depth or not self.at(at - 1, OPEN)):
+            at -= 1
+            depth += self.at(at, CLOSE) - self.at(at, OPEN)
+        return at - 1
+
+    def is_in_list(self, start, end, brackets):
+        """Whether these tokens are a whole item of a list in such brackets."""
+        is_item = self.at(start - 1, {brackets[0], ','}) and self.at(end, {brackets[1], ','})
+        return is_item and self.at(self.opening(start), brackets[0])
+
+    def leave_out(self, start, end, keep=False):
+        """Leaves tokens out. Of the comments before them `//!` stays, or all with `keep`. One behind them on the same line goes."""
+        head, tail = self[start][0], re.sub(r'^ *//[^\n]*', '', self[end][0])
         self[end][0] = head + tail.lstrip() if keep else ''.join(re.findall(r'(?m)^//!.*\n', head)) + tail
         del self[start:end]
 
     def leave_out_of_list(self, start, end):
-        """Leaves an item of a list out, with the comma before it, or else the one behind."""
+        """The same of an item of a list, with the comma before it or else the one behind."""
         if self.at(start - 1, ','):
             self.leave_out(start - 1, end)
         else:
-            self.leave_out(start, end + self.at(end, ','), keep='all')
-
-    def is_in_list(self, start, end, brackets):
-        """Whether these tokens are a whole item of a list in such brackets, of which no other is between."""
-        opening, depth = start - 1, 0
-        while opening > 0 and (depth or self[opening][1] not in OPEN):
-            depth += (self[opening][1] in CLOSE) - (self[opening][1] in OPEN)
-            opening -= 1
-        return self.at(start - 1, {brackets[0], ','}) and self.at(end, {brackets[1], ','}) and self.at(opening, brackets[0])
+            self.leave_out(start, end + self.at(end, ','), keep=True)
 
 
 def without_ghosts(t):
     at = 0
     while at < len(t):
         if t.at(at, 'ghost'):
-            end = t.after(at, ';') - 1 if t.at(at + 1, 'use') else at + 2
+            end = t.next(at, ';') if t.at(at + 1, 'use') else at + 2
             # `ghost name: { .. } = { .. };`, and `ghost name: { .. },` of a struct
             while t.at(end, {':', '='}, '{'):
                 end = t.closing(end + 1) + 1
@@ -133,121 +144,98 @@ def without_ghosts(t):
                 t.refuse(at, 'a `ghost` of a form that no rule names')
             t.leave_out(at, end + 1)
         elif t.at(at, {'requires', 'ensures'}):
-            body = at + 1 + t.at(at + 1, Word)
+            body = at + 1 + t.at(at + 1, WORD)
             if not t.at(body, '{'):
-                t.refuse(at, f'a clause `{t[at][1]}` of a form that no rule names')
+                t.refuse(at, 'a clause of a form that no rule names')
             t.leave_out(at, t.closing(body) + 1)
             t[at][0] = t[at][0] if '//' in t[at][0] else ' '
         elif t.at(at, '#', '[', 'tactic') or t.at(at, '#', '[', 'derive', '(', 'Drop', ')', ']'):
-            t.leave_out(at, t.closing(at + 1) + 1, keep='all')
+            t.leave_out(at, t.closing(at + 1) + 1, keep=True)
         elif t.at(at, '#', '!', '[', 'tactic'):
             t.leave_out(at, t.closing(at + 2) + 1)
         elif t.at(at, 'Drop') and t.is_in_list(at, at + 1, '()'):
             t.leave_out_of_list(at, at + 1)
         elif t.at(at, '+', 'Drop'):
             t.leave_out(at, at + 2)
-        elif t.at(at, 'use', 'std', '::', 'marker', '::', 'Model', ';'):
-            t.leave_out(at, at + 7)
         elif t.at(at, 'Model', 'for'):
             start = t.item(at)
-            t.leave_out(start, t.closing(t.after(at, '{') - 1) + 1)
+            t.leave_out(start, t.closing(t.next(at, '{')) + 1)
             at = start
         else:
             at += 1
 
 
 def without_modules(t, counted):
-    """The names that the file imports of `laws`."""
+    """Leaves out what is not there, and says what the file imports of `laws`."""
     facts = set()
-    for at in reversed([at for at in range(len(t)) if t.at(at, 'use') or t.at(at, 'mod', Word, ';')]):
-        end = t.after(at, ';')
-        names = [text for _, text, _ in t[at:end]]
+    for at in sorted(t.all_at('use') + t.all_at('mod', WORD, ';'), reverse=True):
+        end = t.next(at, ';')
+        names = t.texts(at, end)
         path = names[:names.index('{')] if '{' in names else names
-        if GONE & set(path) or t.at(at, 'mod', BY_HAND) or t.at(end - 2, 'Steps', ';'):
-            facts |= set(names) - set(path[:-2]) if 'laws' in path and path[0] == 'use' else set()
-            t.leave_out(t.item(at), end)
-        else:
-            # (a counted form is imported by the name of the other, if that is not there)
-            for i in reversed(range(at, end)):
-                if t.is_in_list(i, i + 1, '{}') and (t.at(i, 'Steps') or t.at(i, counted) and t[i][1].removesuffix('_counted') in names):
-                    t.leave_out_of_list(i, i + 1)
-            end = t.after(at, ';')
-            if t.at(end - 3, '{', '}', ';'):
-                t.leave_out(t.item(at), end)
-            elif t.at(end - 4, '{', Word, '}', ';'):
-                del t[end - 2], t[end - 4]
-    return {name for name in facts if name.isidentifier()}
+        if GONE & set(path) or t.at(at, 'mod', BY_HAND) or path[-1] in GHOST_TYPES:
+            facts |= set(names) - set(path[:-1]) if 'laws' in path else set()
+            t.leave_out(t.item(at), end + 1)
+            continue
+        for i in reversed(range(at, end)):
+            if t.at(i, counted) and t[i][1].removesuffix('_counted') not in names:
+                t[i][1] = t[i][1].removesuffix('_counted')
+            elif t.at(i, counted | GHOST_TYPES) and t.is_in_list(i, i + 1, '{}'):
+                t.leave_out_of_list(i, i + 1)
+        end = t.next(at, ';')
+        if t.at(end - 2, '{', '}'):
+            t.leave_out(t.item(at), end + 1)
+        elif t.at(end - 3, '{', WORD, '}'):
+            del t[end - 1], t[end - 3]
+    return {name for name in facts if WORD.fullmatch(name)}
 
 
 def without_facts(t, facts):
-    is_plain = lambda start, end: all(t.at(i, Word) or t.at(i, {'.', ',', '&', '*', '::'}) for i in range(start, end))
-    at = 0
-    while at < len(t):
-        if t.at(at, facts, '('):
-            end = t.closing(at + 1) + 1
-            if t.item(at) != at or not t.at(end, ';') or not is_plain(at + 2, end - 1):
-                t.refuse(at, f'`{t[at][1]}` of `laws`, but in no statement of its own whose arguments call nothing')
-            t.leave_out(at, end + 1)
-        elif t.at(at, 'let', '_', '=', '&') and is_plain(at + 4, t.after(at, ';') - 1):
-            t.leave_out(at, t.after(at, ';'))
-        else:
-            at += 1
+    for at in t.all_at(facts, '('):
+        end = t.closing(at + 1)
+        if t.item(at) != at or not t.at(end + 1, ';') or not all(t.at(i, WORD) or t.at(i, {',', '.', '&'}) for i in range(at + 2, end)):
+            t.refuse(at, f'`{t[at][1]}` is of `laws`, and not called in a statement of its own with names for arguments')
+        t.leave_out(at, end + 2)
 
 
 def without_counter(t):
-    forms = ('steps', ':', '&', 'mut', 'Steps'), ('&', 'mut', 'Steps', '::', 'new', '(', ')'), ('steps',)
-    at = 0
-    while at < len(t):
-        if t.item(at) == at and (t.at(at, 'steps', '.', Word, '(', ')', ';') or t.at(at, 'steps', '.', Word, '(', Word, ')', ';')):
-            t.leave_out(at, t.after(at, ';'))
-            continue
-        found = next((form for form in forms if t.at(at, *form) and t.is_in_list(at, at + len(form), '()')), None)
-        if found:
-            t.leave_out_of_list(at, at + len(found))
-            at -= 1
-        at += 1
+    for at in t.all_at('steps', '.', WORD, '('):
+        end = t.closing(at + 3)
+        if t.item(at) == at and t.at(end + 1, ';') and all(t.at(i, WORD) for i in range(at + 4, end)):
+            t.leave_out(at, end + 2)
+    for form in ('steps', ':', '&', 'mut', 'Steps'), ('&', 'mut', 'Steps', '::', 'new', '(', ')'), ('steps',):
+        for at in t.all_at(*form):
+            if t.is_in_list(at, at + len(form), '()'):
+                t.leave_out_of_list(at, at + len(form))
 
 
-def functions(t):
-    """Of each function with a body its name and the brace that it is in, where it begins and ends, its parameters and its body."""
-    found, inside = [], [-1]
-    for at in range(len(t)):
-        if t.at(at, '{'):
-            inside.append(at)
-        elif t.at(at, '}'):
-            inside.pop()
-        elif t.at(at, 'fn', Word):
-            first = t.after(at, '(')
-            last = t.closing(first - 1)
-            body = next(i for i in range(last, len(t)) if t.at(i, {'{', ';'}))
-            if t.at(body, '{'):
-                parameters = [t[i][1] for i in range(first, last) if t.at(i, Word, ':')]
-                found.append((t[at + 1][1], inside[-1], t.item(at), t.closing(body) + 1, parameters, body))
+def functions(t, name):
+    """The functions of a name with a body: the brace that each is in, where it begins, its body and its end, and its parameters."""
+    found = []
+    for at in t.all_at('fn', name):
+        first = t.behind_angles(at + 2)
+        last = t.closing(first)
+        body = t.next(last + 1, '{', ';')
+        if t.at(body, '{'):
+            found.append((t.opening(at), t.item(at), body, t.closing(body) + 1, [t[i][1] for i in range(first, last) if t.at(i, WORD, ':')]))
     return found
 
 
 def uncounted(t, counted):
-    """`f` gets the body of `f_counted`, where its own only calls that, or is the same."""
-    texts = lambda start, end: [text for _, text, _ in t[start:end]]
-    for name in [name for name, *_ in functions(t) if name in counted]:
-        _, scope, start, end, parameters, body = next(it for it in functions(t) if it[0] == name)
-        others = [it for it in functions(t) if it[:2] == (name.removesuffix('_counted'), scope)]
-        if len(others) != 1 or len([it for it in functions(t) if it[0] == name]) != 1:
-            t.refuse(start, f'`{name}` is not the counted form of one function beside it')
-        _, _, _, other_end, other_parameters, other_body = others[0]
-        arguments = [word for it in parameters for word in (it, ',')][:-1]
+    for name in sorted(name for name in counted if functions(t, name)):
+        brace, start, body, end, parameters = functions(t, name)[0]
+        beside = lambda: [it for it in functions(t, name.removesuffix('_counted')) if it[0] == brace]
+        if len(functions(t, name)) > 1 or len(beside()) != 1:
+            t.refuse(body, f'`{name}` is not the counted form of one function beside it')
+        _, _, plain_body, plain_end, plain_parameters = beside()[0]
+        arguments = [text for parameter in parameters for text in (parameter, ',')][:-1]
         calls = [['{', *by, name, '(', *arguments, ')', *ends, '}'] for by in ([], ['self', '.'], ['Self', '::']) for ends in ([], [';'])]
-        if other_parameters != parameters or texts(other_body, other_end) not in [texts(body, end), *calls]:
-            t.refuse(other_body, f'this does more than to call `{name}` with its own parameters')
+        if parameters != plain_parameters or t.texts(plain_body, plain_end) not in [*calls, t.texts(body, end)]:
+            t.refuse(plain_body, f'more than a call of `{name}` with the same parameters')
         taken = t[body:end]
-        if start < other_body:
-            t[other_body:other_end] = taken
-            t.leave_out(start, end)
-        else:
-            t.leave_out(start, end)
-            t[other_body:other_end] = taken
-    for token in t:
-        token[1] = token[1].removesuffix('_counted') if token[1] in counted else token[1]
+        t.leave_out(start, end)
+        t[beside()[0][2]:beside()[0][3]] = taken
+    for at in t.all_at(counted, '(') + t.all_at(counted, '::'):
+        t[at][1] = t[at][1].removesuffix('_counted')
 
 
 def in_rust(t, module):
@@ -269,40 +257,39 @@ def in_rust(t, module):
 
 
 def with_arrays_last(t):
-    for at in reversed([at for at in range(len(t)) if t.at(at, 'struct', Word)]):
-        body = next(i for i in range(at, len(t)) if t.at(i, {'{', ';', '('}))
+    for at in t.all_at('struct', WORD):
+        body = t.next(t.behind_angles(at + 2), '{', ';')
         field, fields = body + 1, []
         while t.at(body, '{') and not t.at(field, '}'):
             name = field
             while t.at(name, '#', '['):
                 name = t.closing(name + 1) + 1
-            if t.at(name, Word, ':'):
-                t[name][1] = 'pub(crate) ' + t[name][1]
-            colon, end, depth = t.after(name, ':'), name, 0
-            while depth or not t.at(end, {',', '}'}):
-                depth += t.at(end, OPEN | {'<'}) - t.at(end, CLOSE | {'>'})
-                end += 1
-            fields.append((t.at(colon, '['), [*t[field:end], ['', ',', t[end][2]]]))
+            if t.at(name, WORD, ':'):
+                t[name][1] = f'pub(crate) {t[name][1]}'
+            colon = end = t.next(name, ':')
+            while not t.at(end, {',', '}'}):
+                end = t.behind_angles(end) if t.at(end, '<') else t.closing(end) + 1 if t.at(end, OPEN) else end + 1
+            fields.append((t.at(colon + 1, '['), [*t[field:end], ['', ',', t[end][2]]]))
             field = end + t.at(end, ',')
         if any(is_array for is_array, _ in fields):
             t[body + 1:field] = [token for _, tokens in sorted(fields, key=lambda it: it[0]) for token in tokens]
             head = next(i for i in range(t.item(at), at + 1) if t.at(i, {'pub', 'struct'}))
-            t[head:head + 1] = [[t[head][0], '#[repr(C)]', t[head][2]], ['\n', t[head][1], t[head][2]]]
+            t[head:head + 1] = [[t[head][0], '#[repr(C)]', t[head][2]], ['\n', *t[head][1:]]]
 
 
 def without_examples(t):
     doc = r'^ *//[/!]'
-    section = re.compile(rf'(?m)(?:{doc} *\n)?{doc} # Examples *\n(?:{doc} ```(?:.*\n)+?{doc} ``` *\n|{doc}(?! # ).*\n)*')
+    section = rf'{doc} # Examples *\n(?:{doc} ```(?:.*\n)+?{doc} ``` *\n|{doc}(?! # ).*\n)*'
     for at, token in enumerate(t):
-        token[0] = section.sub('', token[0])
+        token[0] = re.sub(rf'(?m){doc} *\n(?!{doc})', '', re.sub(f'(?m){section}', '', token[0]))
         if any(kind != 'text' for kind in re.findall(rf'(?m){doc} *```(.*)$', token[0])[::2]):
-            t.refuse(at, 'an example, which rustdoc would run, is left')
+            t.refuse(at, 'an example is left, which rustdoc would run')
 
 
 def refuse_what_is_left(t):
     for at, (_, text, _) in enumerate(t):
         if text in LEFT or text.endswith('_counted'):
-            t.refuse(at, f'`{text}` is left, and no rule names it')
+            t.refuse(at, f'`{text}` is left, and no rule names what it stands in')
         if text == 'unsafe' and '// SAFETY: ' not in ''.join(gap for gap, _, _ in t[t.item(at):at + 1]):
             t.refuse(at, 'an `unsafe` without its `SAFETY` before it')
 
@@ -314,21 +301,20 @@ def made(crates):
         folder = crates / crate / 'src'
         for path in sorted(folder.rglob('*.rt')):
             place = path.relative_to(folder).with_suffix('')
-            if not (GONE | {BY_HAND}) & set(place.parts):
-                t = Tokens(path, path.read_text(encoding='utf8'))
-                counted |= {t[at + 1][1] for at in range(len(t)) if t.at(at, 'fn', Word) and t[at + 1][1].endswith('_counted')}
-                sources[crate, module, 'mod' if str(place) == 'lib' else place] = t
-    for (crate, module, place), t in sources.items():
+            if not {*GONE, BY_HAND} & set(place.parts):
+                t = sources[path] = Tokens(path, path.read_text(encoding='utf8'))
+                t.module, t.place = module, Path(module) / ('mod.rs' if str(place) == 'lib' else f'{place}.rs')
+                counted |= {t[at + 1][1] for at in t.all_at('fn', WORD) if t[at + 1][1].endswith('_counted')}
+    for path, t in sources.items():
         without_ghosts(t)
         without_facts(t, without_modules(t, counted))
         without_counter(t)
         uncounted(t, counted)
-        in_rust(t, module)
+        in_rust(t, t.module)
         with_arrays_last(t)
         without_examples(t)
         refuse_what_is_left(t)
-        source = t.name.relative_to(crates)
-        texts[Path(module) / f'{place}.rs'] = f'// Made from crates/{source} by rust/generate.py: change that, and run this.\n{t}'
+        texts[t.place] = f'// Made from crates/{path.relative_to(crates)} by rust/generate.py: change that, and run this.\n{t}'
     return texts
 
 
@@ -339,12 +325,14 @@ def main(arguments):
     stale = sorted(path for path in {*wanted, *there} if wanted.get(path) != there.get(path))
     if '--check' in arguments:
         for path in stale:
-            texts = [texts.get(path, '').splitlines(keepends=True) for texts in (there, wanted)]
-            sys.stdout.writelines(difflib.unified_diff(*texts, f'{out / path}', f'what rust/generate.py makes of the sources: {path}'))
+            texts = [files.get(path, '').splitlines(keepends=True) for files in (there, wanted)]
+            sys.stdout.writelines(difflib.unified_diff(*texts, str(out / path), 'what rust/generate.py makes'))
         sys.exit(bool(stale))
-    for path in stale:
+    for path in there.keys() - wanted:
+        (out / path).unlink()
+    for path, text in wanted.items():
         (out / path).parent.mkdir(parents=True, exist_ok=True)
-        (out / path).write_text(wanted[path], encoding='utf8') if path in wanted else (out / path).unlink()
+        (out / path).write_text(text, encoding='utf8')
     print(f'{len(wanted)} files, of which {len(stale)} were stale')
 
 

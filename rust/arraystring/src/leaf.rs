@@ -119,14 +119,7 @@ pub(crate) fn text_from(text: &str, start: usize) -> &str {
 /// Moves `len` bytes: 16 or more, and at most `N`.
 #[inline(always)]
 pub(crate) fn move_long_run<const N: usize>(all: &mut [Place], from: usize, to: usize, len: usize) {
-    required!(len <= N, len >= 16);
-    move_bytes(all, from, to, len);
-}
-
-/// Moves any number of bytes.
-#[inline(always)]
-pub(crate) fn move_bytes(all: &mut [Place], from: usize, to: usize, len: usize) {
-    required!(from <= all.len(), len <= all.len() - from, to <= all.len(), len <= all.len() - to);
+    required!(from <= all.len(), len <= all.len() - from, to <= all.len(), len <= all.len() - to, len <= N, 16 <= len);
     let bytes = all.as_mut_ptr();
     // SAFETY: both runs are within, as is required. They may overlap.
     unsafe { ptr::copy(bytes.add(from), bytes.add(to), len) };

@@ -31,7 +31,7 @@ pub fn shift<const N: usize>(
 
 /// Moves as `shift` does, and counts nothing. No test is made for more bytes than an array of `N` bytes can have.
 #[inline(always)]
-pub(crate) fn move_run<const N: usize>(array: &mut [crate::leaf::Place; N], from: usize, to: usize, len: usize) {
+fn move_run<const N: usize>(array: &mut [crate::leaf::Place; N], from: usize, to: usize, len: usize) {
     let all = &mut array[..];
     if N < 16 || len < 16 {
         move_short_run::<N>(all, from, to, len);

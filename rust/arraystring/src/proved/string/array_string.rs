@@ -116,8 +116,8 @@ impl<const N: usize> ArrayString<N> {
 
     /// Returns the length of the text in bytes, which is at most the capacity.
     ///
-    /// It is a `u8`, and so is a sum of such lengths. In a release build of Rust two lengths of 150
-    /// add to 44. Add `usize::from(string.len())`.
+    /// It is a `u8`, and so is a sum of such lengths. Add `usize::from(string.len())`, which does not
+    /// overflow.
     #[inline]
     pub const fn len(&self) -> u8 {
         self.size

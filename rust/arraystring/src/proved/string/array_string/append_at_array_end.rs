@@ -2,12 +2,11 @@
 //! Appends to a text that may end where its array ends: the test of the room, and what first moves the text to the start.
 
 use crate::proved::string::ArrayString;
-use crate::leaf::{move_bytes, write_bytes};
-use crate::proved::base::utils::{encode, truncate_str};
+use crate::proved::base::utils::{encode, shift, truncate_str, write_over};
 
 impl<const N: usize> ArrayString<N> {
-    /// Whether there is room for `ch` after `len` bytes. The last test alone would do. With those
-    /// before it `try_push` takes 12 instructions, and not 22.
+    /// Whether there is room for `ch` after `len` bytes. ASCII has a test of its own, which the
+    /// compiler joins with that of `encode`. The width of others is not tested if four more fit.
     #[inline(always)]
     pub(super) fn has_room(len: usize, ch: char) -> bool {
         let capacity = Self::capacity() as usize;
@@ -17,26 +16,32 @@ impl<const N: usize> ArrayString<N> {
         len + 4 <= capacity || len + ch.len_utf8() <= capacity
     }
 
-    /// Moves the text, which is the `size` bytes from `start` on, to the start of the array, writes `ch` behind it, and returns
-    /// the size of both. It stands apart from `try_push`, each of whose calls would be longer. It is given the numbers and
-    /// not the string, so a loop of pushes keeps them in registers; they come last, so that no register is moved for a push.
+    /// Moves the text, which is the `size` bytes from `start` on, to the start of the array, writes `ch` behind it, and
+    /// returns the size of both. It stands apart from `try_push`, each of whose calls would be longer. It is given the
+    /// numbers and not the string, so that a loop of pushes keeps them in registers. They come last, because no register
+    /// is then moved for a push.
     #[cold]
     #[inline(never)]
-    pub(super) fn compacted(array: &mut [crate::leaf::Place; N], ch: char, start: usize, size: usize) -> usize {
-        move_bytes(array, start, 0, size);
+    pub(super) fn compact_and_push(
+        array: &mut [crate::leaf::Place; N],
+        ch: char,
+        start: usize,
+        size: usize,
+    ) -> usize {
+        shift(array, start, 0, size);
         size + encode(ch, array, size)
     }
 
     /// Moves the text to the start of the array, and appends `string`. It stands apart from `try_push_str`, as
-    /// `compacted` does from `try_push`.
+    /// `compact_and_push` does from `try_push`.
     #[cold]
     #[inline(never)]
     pub(super) fn compact_and_push_str(&mut self, string: &str) {
         let (from, size) = (self.start as usize, self.size as usize);
         self.start = 0;
         self.size += string.len() as u8;
-        move_bytes(&mut self.array, from, 0, size);
-        write_bytes(&mut self.array, string.as_bytes(), size);
+        shift(&mut self.array, from, 0, size);
+        write_over(&mut self.array, size, string.as_bytes());
     }
 
     /// Appends what fits of `string` to a text that need not begin at the start of the array. It stands apart

@@ -7,6 +7,7 @@ use crate::proved::base::utils::is_boundary;
 
 impl<const N: usize> ArrayString<N> {
     /// Whether a character begins at the index `at`, or the text ends there.
+    #[inline]
     pub(super) fn is_boundary(&self, at: usize) -> bool {
         is_boundary(self.as_str(), at)
     }
@@ -17,6 +18,7 @@ impl<const N: usize> ArrayString<N> {
 /// # Errors
 ///
 /// Returns `Err(Utf8)` if `idx` is not a boundary. An index past the length is not a boundary.
+#[inline]
 pub fn is_char_boundary<const N: usize>(s: &ArrayString<N>, idx: u8) -> Result<(), Utf8> {
     if s.is_boundary(idx as usize) {
         Ok(())

@@ -4,8 +4,7 @@
 use crate::proved::string::ArrayString;
 use crate::proved::string::well_formed::read_utf8;
 use crate::proved::base::error::{Error, OutOfBounds, Utf8};
-use crate::leaf::write_bytes;
-use crate::proved::base::utils::truncate_str;
+use crate::proved::base::utils::{truncate_str, write_over};
 use crate::leaf::str;
 
 impl<const N: usize> ArrayString<N> {
@@ -20,7 +19,7 @@ impl<const N: usize> ArrayString<N> {
             return Err(OutOfBounds);
         }
         let mut array = [crate::leaf::UNWRITTEN; N];
-        write_bytes(&mut array, string.as_bytes(), 0);
+        write_over(&mut array, 0, string.as_bytes());
         Ok(ArrayString {
             array,
             start: 0,

@@ -21,21 +21,10 @@ impl<const N: usize> ArrayString<N> {
     /// - `Err(Error::Utf8)` if the end of the range is inside a character.
     #[inline(always)]
     pub fn drain<R: RangeBounds<u8>>(&mut self, range: R) -> Result<Drain<N>, Error> {
-        self.drain_through(range, &mut Drain::default())
-    }
-
-    /// Drains as `drain_counted` does. What is removed goes through `removed`, which is the caller's: a local would be
-    /// copied once more (docs/DECISIONS.md has what that takes).
-    #[inline(always)]
-    fn drain_through<R: RangeBounds<u8>>(
-        &mut self,
-        range: R,
-        removed: &mut Drain<N>,
-    ) -> Result<Drain<N>, Error> {
         let (from, to) = saturating_ends(range, self.len());
         self.check_part(from, to)?;
-        *removed = Drain::new(self.array, self.start + from, to - from);
+        let removed = Drain::new(self.array, self.start + from, to - from);
         self.remove_range(from as usize, to as usize);
-        Ok(*removed)
+        Ok(removed)
     }
 }

@@ -3,7 +3,6 @@
 
 use crate::proved::string::ArrayString;
 use crate::proved::base::error::OutOfBounds;
-use crate::leaf::write_bytes;
 use crate::proved::base::utils::{encode, truncate_str, write_over};
 
 impl<const N: usize> ArrayString<N> {
@@ -16,7 +15,7 @@ impl<const N: usize> ArrayString<N> {
     pub fn try_push(&mut self, ch: char) -> Result<(), OutOfBounds> {
         let end = self.end();
         if Self::has_room(end, ch) {
-            // With one sum for all widths, a loop of pushes takes one instruction more for each character.
+            // One sum for all widths would make a loop of pushes longer.
             if ch.is_ascii() {
                 self.size += 1;
                 encode(ch, &mut self.array, end);
@@ -29,7 +28,7 @@ impl<const N: usize> ArrayString<N> {
         if !Self::has_room(size, ch) {
             return Err(OutOfBounds);
         }
-        let size = Self::compacted(&mut self.array, ch, start, size);
+        let size = Self::compact_and_push(&mut self.array, ch, start, size);
         self.start = 0;
         self.size = size as u8;
         Ok(())
@@ -70,7 +69,7 @@ impl<const N: usize> ArrayString<N> {
         }
         let part = truncate_str(string, room);
         self.size += part.len() as u8;
-        write_bytes(&mut self.array, part.as_bytes(), end);
+        write_over(&mut self.array, end, part.as_bytes());
     }
 
     /// Appends the longest prefix of the characters that fits.

@@ -3,7 +3,6 @@
 //! the precondition.
 
 use crate::proved::string::ArrayString;
-use crate::leaf::write_bytes;
 use crate::proved::base::utils::write_over;
 use crate::leaf::str;
 
@@ -16,7 +15,7 @@ impl<const N: usize> ArrayString<N> {
     #[inline]
     pub fn from_str_unchecked(string: &str) -> Self {
         let mut array = [crate::leaf::UNWRITTEN; N];
-        write_bytes(&mut array, string.as_bytes(), 0);
+        write_over(&mut array, 0, string.as_bytes());
         ArrayString {
             array,
             start: 0,
