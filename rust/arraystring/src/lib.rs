@@ -16,6 +16,8 @@ mod cache_string;
 pub mod contracts;
 #[cfg(feature = "alloc")]
 mod into_owned;
+#[allow(dead_code, reason = "only `proved` calls it, and nothing yet calls that")]
+mod leaf;
 #[cfg(feature = "serde")]
 pub mod cut;
 pub mod drain;
@@ -25,6 +27,12 @@ mod moves;
 mod owned_texts;
 #[cfg(feature = "std")]
 mod paths;
+#[cfg(not(proved_is_public))]
+#[rustfmt::skip]
+mod proved;
+#[cfg(proved_is_public)]
+#[rustfmt::skip]
+pub mod proved;
 mod range_ends;
 mod rust_traits;
 #[cfg(feature = "serde")]

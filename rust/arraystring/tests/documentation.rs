@@ -84,9 +84,16 @@ fn items_of(file: &str, text: &str) -> Vec<Item> {
     items
 }
 
+/// Whether a file is of the core, which the reference does not show. So what the reference has to have is not sought there, until the calls
+/// of the crate are made of the core.
+fn is_core(file: &str) -> bool {
+    file.starts_with("src/proved") || file == "src/leaf.rs"
+}
+
 /// The items of all sources.
 fn items() -> Vec<Item> {
-    files(Path::new("src")).iter().flat_map(|(file, text)| items_of(file, text)).collect()
+    let sources = files(Path::new("src")).into_iter().filter(|(file, _)| !is_core(file));
+    sources.flat_map(|(file, text)| items_of(&file, &text)).collect()
 }
 
 #[test]
@@ -136,7 +143,7 @@ fn documentation() -> Vec<(String, String)> {
 
 #[test]
 fn no_word_of_the_proofs_is_shown() {
-    for (file, line) in documentation() {
+    for (file, line) in documentation().into_iter().filter(|(file, _)| !is_core(file)) {
         let mut words = line.split(|ch: char| !ch.is_alphanumeric() && ch != '_');
         assert!(!words.any(|word| ["ghost", "Model"].contains(&word)), "{file}: {line}");
         assert!(!line.contains("precondition of its `next`"), "{file}: {line}");

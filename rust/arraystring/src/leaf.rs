@@ -1,0 +1,186 @@
+// By hand: no proof stands behind this file.
+//! By hand, as no other file of the core is: what the proved code does without a test of bounds.
+//!
+//! Each function has the name of one in crates/arraystring_base/src/leaf.rt, and does what that says it ensures. Its first lines assert what
+//! that requires, which is proved of each call in `proved`. They do so with debug assertions, with the feature `checked`, and where a
+//! `usize` has not the 64 bits of the proofs. In no other build are they there.
+//!
+//! The modules `char` and `str` have the calls of std that make a character or a text without a test. `proved` calls them in `unsafe`
+//! blocks of its own.
+
+use core::mem::MaybeUninit;
+use core::{ptr, slice};
+
+/// Whether each access is tested all the same.
+const IS_TESTED: bool = cfg!(any(debug_assertions, feature = "checked", not(target_pointer_width = "64")));
+
+/// Asserts what the source of a function requires, where accesses are tested.
+macro_rules! required {
+    ($($condition:expr),*) => {
+        if IS_TESTED {
+            $(assert!($condition, concat!("it is required that `", stringify!($condition), "`"));)*
+        }
+    };
+}
+
+/// A byte of the array of a string. It has no value before one is written.
+pub(crate) type Place = MaybeUninit<u8>;
+
+/// A place of a new array. Where accesses are tested it has a value all the same: there a wrong index panics, perhaps when the size has
+/// risen and nothing is written yet.
+pub(crate) const UNWRITTEN: Place = if IS_TESTED { Place::new(0) } else { Place::uninit() };
+
+/// A byte, or a place that was written. It is laid out as a `u8`.
+pub(crate) trait Held: Copy {
+    fn value(self) -> u8;
+}
+
+impl Held for u8 {
+    #[inline(always)]
+    fn value(self) -> u8 {
+        self
+    }
+}
+
+impl Held for Place {
+    #[inline(always)]
+    fn value(self) -> u8 {
+        // SAFETY: the proved code reads the bytes of texts, which were written.
+        unsafe { self.assume_init() }
+    }
+}
+
+/// The byte at an index.
+#[inline(always)]
+pub(crate) fn byte(bytes: &[impl Held], at: usize) -> u8 {
+    required!(at < bytes.len());
+    // SAFETY: the index is within, as is required.
+    unsafe { bytes.get_unchecked(at) }.value()
+}
+
+/// Writes one byte.
+#[inline(always)]
+pub(crate) fn put_byte(all: &mut [Place], at: usize, byte: u8) {
+    required!(at < all.len());
+    // SAFETY: the index is within, as is required.
+    *unsafe { all.get_unchecked_mut(at) } = Place::new(byte);
+}
+
+/// Writes `K` bytes, which are no vector, from `at` on.
+#[inline(always)]
+pub(crate) fn put_array<const K: usize>(all: &mut [Place], at: usize, bytes: [u8; K]) {
+    put_bytes(all, at, bytes.map(Place::new));
+}
+
+/// The `len` bytes from `start` on.
+#[inline(always)]
+pub(crate) const fn part(bytes: &[Place], start: usize, len: usize) -> &[u8] {
+    required!(start <= bytes.len(), len <= bytes.len() - start);
+    // SAFETY: the part is within, as is required. The proved code borrows the bytes of texts, which were written.
+    unsafe { slice::from_raw_parts(bytes.as_ptr().add(start).cast(), len) }
+}
+
+/// The same, to write.
+#[inline(always)]
+fn part_mut(bytes: &mut [Place], start: usize, end: usize) -> &mut [u8] {
+    required!(start <= end, end <= bytes.len());
+    // SAFETY: the part is within, as is required. The proved code borrows the bytes of texts, which were written.
+    unsafe { slice::from_raw_parts_mut(bytes.as_mut_ptr().add(start).cast(), end - start) }
+}
+
+/// Makes a..z among the bytes from `start` to `end` A..Z.
+#[inline(always)]
+pub(crate) fn make_upper(all: &mut [Place], start: usize, end: usize) {
+    part_mut(all, start, end).make_ascii_uppercase();
+}
+
+/// Makes A..Z among the bytes from `start` to `end` a..z.
+#[inline(always)]
+pub(crate) fn make_lower(all: &mut [Place], start: usize, end: usize) {
+    part_mut(all, start, end).make_ascii_lowercase();
+}
+
+/// The text before a boundary.
+#[inline(always)]
+pub(crate) fn text_to(text: &str, end: usize) -> &str {
+    required!(text.is_char_boundary(end));
+    // SAFETY: the index is a boundary, as is required.
+    unsafe { text.get_unchecked(..end) }
+}
+
+/// The text from a boundary on.
+#[inline(always)]
+pub(crate) fn text_from(text: &str, start: usize) -> &str {
+    required!(text.is_char_boundary(start));
+    // SAFETY: the index is a boundary, as is required.
+    unsafe { text.get_unchecked(start..) }
+}
+
+/// Moves `len` bytes: 16 or more, and at most `N`.
+#[inline(always)]
+pub(crate) fn move_long_run<const N: usize>(all: &mut [Place], from: usize, to: usize, len: usize) {
+    required!(from <= all.len(), len <= all.len() - from, to <= all.len(), len <= all.len() - to, len <= N, 16 <= len);
+    let bytes = all.as_mut_ptr();
+    // SAFETY: both runs are within, as is required. They may overlap.
+    unsafe { ptr::copy(bytes.add(from), bytes.add(to), len) };
+}
+
+/// Writes any number of bytes.
+#[inline(always)]
+pub(crate) fn write_bytes(all: &mut [Place], given: &[u8], at: usize) {
+    required!(at <= all.len(), given.len() <= all.len() - at);
+    // SAFETY: the target is within, as is required. It is lent to be written, and so lies apart from what is given.
+    unsafe { ptr::copy_nonoverlapping(given.as_ptr().cast(), all.as_mut_ptr().add(at), given.len()) };
+}
+
+/// The `K` bytes of `given` from `at` on.
+#[inline(always)]
+pub(crate) fn bytes_of<const K: usize>(given: &[impl Held], at: usize) -> [Place; K] {
+    required!(at <= given.len(), K <= given.len() - at);
+    // SAFETY: the run is within, as is required. A byte is laid out as a place, and a place may have any value, or none.
+    unsafe { given.as_ptr().add(at).cast::<[Place; K]>().read() }
+}
+
+/// Writes `K` bytes from `at` on.
+#[inline(always)]
+pub(crate) fn put_bytes<const K: usize>(all: &mut [Place], at: usize, bytes: [Place; K]) {
+    required!(at <= all.len(), K <= all.len() - at);
+    // SAFETY: the run is within, as is required.
+    unsafe { all.as_mut_ptr().add(at).cast::<[Place; K]>().write(bytes) };
+}
+
+/// What the proved code uses of `std::char`.
+pub(crate) mod char {
+    pub(crate) use core::char::*;
+
+    /// `char::from_u32_unchecked`. With the feature `checked_utf8` the number is tested.
+    ///
+    /// # Safety
+    ///
+    /// The number must be a scalar value.
+    #[expect(clippy::disallowed_methods, reason = "it is tested here")]
+    #[inline(always)]
+    pub(crate) const unsafe fn from_u32_unchecked(number: u32) -> char {
+        assert!(!cfg!(feature = "checked_utf8") || from_u32(number).is_some(), "a character is no scalar value");
+        // SAFETY: it is a scalar value, by this function's `# Safety`.
+        unsafe { core::char::from_u32_unchecked(number) }
+    }
+}
+
+/// What the proved code uses of `std::str`.
+pub(crate) mod str {
+    pub(crate) use core::str::*;
+
+    /// `str::from_utf8_unchecked`. No index shows that bytes are not UTF-8, so with the feature `checked_utf8` they are tested.
+    ///
+    /// # Safety
+    ///
+    /// The bytes must be UTF-8.
+    #[expect(clippy::disallowed_methods, reason = "it is tested here")]
+    #[inline(always)]
+    pub(crate) const unsafe fn from_utf8_unchecked(bytes: &[u8]) -> &str {
+        assert!(!cfg!(feature = "checked_utf8") || from_utf8(bytes).is_ok(), "a text is not UTF-8");
+        // SAFETY: they are UTF-8, by this function's `# Safety`.
+        unsafe { core::str::from_utf8_unchecked(bytes) }
+    }
+}

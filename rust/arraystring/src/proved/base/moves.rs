@@ -1,0 +1,109 @@
+// Made from crates/arraystring_base/src/moves.rt by rust/generate.py: change that, and run this.
+//! The two moves of bytes: `shift`, inside an array, and `write_over`, of a given run into it. All that makes them
+//! fast is in this file.
+//!
+//! A run moves as its first `K` bytes and its last `K`, which may overlap, and both are read before the first is
+//! written. `memmove` moves short runs in this way too. A byte that both have is written twice, to one offset, and
+//! counts as one move. They are read as vectors, since those stay in registers; arrays of bytes would be put on the
+//! stack. `N` is a constant, so the compiler leaves out the sizes that an array of `N` bytes can't have. `write_over`
+//! writes 16 bytes or more by a call, of `write_bytes`, which takes a slice and so stands once in a program.
+
+use crate::leaf::{bytes_of, move_long_run, put_bytes, write_bytes};
+
+/// Moves `len` bytes of the array from the offset `from` to the offset `to`; the two runs may
+/// overlap. Each byte counts as one move, also if it is written twice on the way. If `from` is `to`,
+/// no move is counted. No byte outside the target changes.
+///
+/// # Precondition
+///
+/// Both runs must lie in the array, and the count of moves plus `len` must be below 2^64.
+#[inline(always)]
+pub fn shift<const N: usize>(
+    array: &mut [crate::leaf::Place; N],
+    from: usize,
+    to: usize,
+    len: usize,
+) {
+    if from != to {
+        move_run(array, from, to, len);
+    }
+}
+
+/// Moves as `shift` does, and counts nothing. No test is made for more bytes than an array of `N` bytes can have.
+#[inline(always)]
+fn move_run<const N: usize>(array: &mut [crate::leaf::Place; N], from: usize, to: usize, len: usize) {
+    let all = &mut array[..];
+    if N < 16 || len < 16 {
+        move_short_run::<N>(all, from, to, len);
+    } else {
+        move_long_run::<N>(all, from, to, len);
+    }
+}
+
+/// Moves `len` bytes: fewer than 16, and at most `N`. The branches for sizes above `N` are left out.
+#[inline(always)]
+fn move_short_run<const N: usize>(all: &mut [crate::leaf::Place], from: usize, to: usize, len: usize) {
+    if N >= 4 && len >= 4 {
+        if N >= 8 && len >= 8 {
+            move_ends::<8>(all, from, to, len);
+        } else {
+            move_ends::<4>(all, from, to, len);
+        }
+    } else if N >= 2 && len >= 2 {
+        move_ends::<2>(all, from, to, len);
+    } else if len == 1 {
+        move_ends::<1>(all, from, to, len);
+    }
+}
+
+/// Moves `len` bytes, from `K` to `2 * K` of them: the first `K` and the last `K`, which may overlap.
+#[inline(always)]
+pub(crate) fn move_ends<const K: usize>(all: &mut [crate::leaf::Place], from: usize, to: usize, len: usize) {
+    let rest = len - K;
+    let first = bytes_of::<K>(all, from);
+    let last = bytes_of::<K>(all, from + rest);
+    put_bytes(all, to, first);
+    put_bytes(all, to + rest, last);
+}
+
+/// Writes `given` over the bytes of the array from the offset `at` on. No other byte changes.
+///
+/// # Precondition
+///
+/// `given` must fit into the array from there.
+#[inline(always)]
+pub fn write_over<const N: usize>(array: &mut [crate::leaf::Place; N], at: usize, given: &[u8]) {
+    let all = &mut array[..];
+    if N < 16 || given.len() < 16 {
+        write_short_run::<N>(all, at, given);
+    } else {
+        write_bytes(all, given, at);
+    }
+}
+
+/// Writes `given`: fewer than 16 bytes, and at most `N`. The branches for sizes above `N` are left out.
+#[inline(always)]
+fn write_short_run<const N: usize>(all: &mut [crate::leaf::Place], at: usize, given: &[u8]) {
+    let len = given.len();
+    if N >= 4 && len >= 4 {
+        if N >= 8 && len >= 8 {
+            copy_ends::<8>(all, at, given);
+        } else {
+            copy_ends::<4>(all, at, given);
+        }
+    } else if N >= 2 && len >= 2 {
+        copy_ends::<2>(all, at, given);
+    } else if len == 1 {
+        copy_ends::<1>(all, at, given);
+    }
+}
+
+/// Writes `given`, from `K` to `2 * K` bytes: the first `K` and the last `K`, which may overlap.
+#[inline(always)]
+fn copy_ends<const K: usize>(all: &mut [crate::leaf::Place], at: usize, given: &[u8]) {
+    let rest = given.len() - K;
+    let first = bytes_of::<K>(given, 0);
+    let last = bytes_of::<K>(given, rest);
+    put_bytes(all, at, first);
+    put_bytes(all, at + rest, last);
+}

@@ -1,0 +1,22 @@
+// Made from crates/arraystring_base/src/utils.rt by rust/generate.py: change that, and run this.
+//! Boundaries, cuts and moves of bytes, under the paths of the Rust crate. Sizes and indices count bytes of
+//! UTF-8.
+
+use crate::proved::base::error::OutOfBounds;
+pub use crate::proved::base::moves::{shift, write_over};
+pub use crate::proved::base::utf8::{
+    encode, first_char, is_boundary, last_char, look, truncate_str,
+};
+
+/// Tests that `size` is at most `limit`.
+///
+/// # Errors
+///
+/// Returns `Err(OutOfBounds)` if `size` is greater.
+#[inline]
+pub fn is_inside_boundary(size: usize, limit: usize) -> Result<(), OutOfBounds> {
+    if size > limit {
+        return Err(OutOfBounds);
+    }
+    Ok(())
+}

@@ -1,0 +1,71 @@
+// Made from crates/arraystring_core/src/array_string/checks.rt by rust/generate.py: change that, and run this.
+//! The tests by which edits are refused. A row of the table of edits (docs/definitions.md) lists them in order. The first
+//! that holds decides which error is returned.
+
+use crate::proved::string::ArrayString;
+use crate::proved::base::error::Error;
+
+impl<const N: usize> ArrayString<N> {
+    /// Refuses an index past the text, and then one inside a character.
+    #[inline(always)]
+    pub(super) fn check_index(&self, index: u8) -> Result<(), Error> {
+        if index > self.len() {
+            return Err(Error::OutOfBounds);
+        }
+        self.check_boundary(index)
+    }
+
+    /// Refuses to insert `len` bytes at an index past the text, or without room, or inside a character.
+    #[inline(always)]
+    pub(super) fn check_insertion(&self, index: u8, len: usize) -> Result<(), Error> {
+        if index > self.len() {
+            return Err(Error::OutOfBounds);
+        }
+        if len > (Self::capacity() - self.len()) as usize {
+            return Err(Error::OutOfBounds);
+        }
+        self.check_boundary(index)
+    }
+
+    /// Refuses an index at which no character begins: at the end or past it, and then one inside a character.
+    #[inline(always)]
+    pub(super) fn check_removal(&self, index: u8) -> Result<(), Error> {
+        if index >= self.len() {
+            return Err(Error::OutOfBounds);
+        }
+        self.check_boundary(index)
+    }
+
+    /// Refuses a range that is reversed or past the text, and then one whose start, or whose end, is inside a character.
+    #[inline(always)]
+    pub(super) fn check_part(&self, start: u8, end: u8) -> Result<(), Error> {
+        if start > end || end > self.len() {
+            return Err(Error::OutOfBounds);
+        }
+        self.check_boundary(start)?;
+        self.check_boundary(end)
+    }
+
+    /// Refuses to put `len` bytes in place of a range: as `check_part` does, and for want of room after its first two tests.
+    #[inline(always)]
+    pub(super) fn check_replacement(&self, start: u8, end: u8, len: usize) -> Result<(), Error> {
+        if start > end || end > self.len() {
+            return Err(Error::OutOfBounds);
+        }
+        let kept = self.len() - (end - start);
+        if len > (Self::capacity() - kept) as usize {
+            return Err(Error::OutOfBounds);
+        }
+        self.check_boundary(start)?;
+        self.check_boundary(end)
+    }
+
+    /// Refuses an index in the text that is inside a character.
+    #[inline(always)]
+    fn check_boundary(&self, index: u8) -> Result<(), Error> {
+        if !self.is_boundary(index as usize) {
+            return Err(Error::Utf8);
+        }
+        Ok(())
+    }
+}

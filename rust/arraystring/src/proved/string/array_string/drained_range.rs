@@ -1,0 +1,30 @@
+// Made from crates/arraystring_core/src/array_string/drained_range.rt by rust/generate.py: change that, and run this.
+//! The part of a text in a range of bytes, taken out as a `Drain`.
+
+use crate::proved::string::range_ends::saturating_ends;
+use crate::proved::string::{ArrayString, Drain};
+use crate::proved::base::error::Error;
+use core::ops::RangeBounds;
+
+impl<const N: usize> ArrayString<N> {
+    /// Removes the part in the range and returns its characters as a `Drain`. The part is removed
+    /// at once, whether or not the `Drain` is used. An excluded start and an included end count as
+    /// the next index, but as 255 at most: `..=2` ends at 3, and `..=255` ends at 255.
+    ///
+    /// # Errors
+    ///
+    /// The first of these whose condition holds is returned, and the text is then unchanged:
+    ///
+    /// - `Err(Error::OutOfBounds)` if the range ends before it starts;
+    /// - `Err(Error::OutOfBounds)` if the range ends past the text;
+    /// - `Err(Error::Utf8)` if the start of the range is inside a character;
+    /// - `Err(Error::Utf8)` if the end of the range is inside a character.
+    #[inline(always)]
+    pub fn drain<R: RangeBounds<u8>>(&mut self, range: R) -> Result<Drain<N>, Error> {
+        let (from, to) = saturating_ends(range, self.len());
+        self.check_part(from, to)?;
+        let removed = Drain::new(self.array, self.start + from, to - from);
+        self.remove_range(from as usize, to as usize);
+        Ok(removed)
+    }
+}

@@ -1,0 +1,67 @@
+// Made from crates/arraystring_core/src/array_string/splice.rt by rust/generate.py: change that, and run this.
+//! How a part between two boundaries becomes another text. What follows it moves. If there is no room behind the text,
+//! what precedes it moves to the start of the array, too. Appends, and removals at the front and at the end, move nothing
+//! or all of the text: `push`, `append_at_array_end` and `remove` have them.
+
+use crate::proved::string::ArrayString;
+use crate::leaf::part;
+use crate::proved::base::utils::{encode, shift, write_over};
+use crate::leaf::str;
+
+impl<const N: usize> ArrayString<N> {
+    /// Replaces the text between two boundaries by `given`. The new text must fit.
+    #[inline(always)]
+    pub(super) fn splice(&mut self, start: usize, end: usize, given: &str) {
+        let (offset, size) = (self.start as usize, self.size as usize);
+        let (len, tail) = (given.len(), size - end);
+        // That the text grows follows from the first test. The compiler drops the branch by it if nothing is given.
+        if offset + (start + (len + tail)) > Self::capacity() as usize && len > end - start {
+            return self.compact_and_splice(start, end, given);
+        }
+        self.size = (start + (len + tail)) as u8;
+        shift(
+            &mut self.array,
+            offset + end,
+            offset + (start + len),
+            tail,
+        );
+        write_over(&mut self.array, offset + start, given.as_bytes());
+    }
+
+    /// Replaces as `splice` does, in a text that has to move to the start of the array for it. Each byte moves at
+    /// most once.
+    #[cold]
+    #[inline(never)]
+    fn compact_and_splice(&mut self, start: usize, end: usize, given: &str) {
+        let (offset, size) = (self.start as usize, self.size as usize);
+        let (len, tail) = (given.len(), size - end);
+        self.start = 0;
+        self.size = (start + (len + tail)) as u8;
+        shift(&mut self.array, offset, 0, start);
+        shift(&mut self.array, offset + end, start + len, tail);
+        write_over(&mut self.array, start, given.as_bytes());
+    }
+
+    /// Puts `ch` at a boundary, as `splice` does with a text. The new text must fit. If there is room behind the
+    /// text, the UTF-8 of `ch` is written straight into the array, without a text of it for `splice`.
+    #[inline(always)]
+    pub(super) fn splice_char(&mut self, at: usize, ch: char) {
+        let (offset, size) = (self.start as usize, self.size as usize);
+        let (len, tail) = (ch.len_utf8(), size - at);
+        if offset + size + len > Self::capacity() as usize {
+            let mut utf8 = [crate::leaf::UNWRITTEN; 4];
+            encode(ch, &mut utf8, 0);
+            // SAFETY: `encode` wrote the `len` bytes of the UTF-8 of `ch` at the start of `utf8`.
+            let given = unsafe { str::from_utf8_unchecked(part(&utf8, 0, len)) };
+            return self.compact_and_splice(at, at, given);
+        }
+        self.size = (at + (len + tail)) as u8;
+        shift(
+            &mut self.array,
+            offset + at,
+            offset + (at + len),
+            tail,
+        );
+        encode(ch, &mut self.array, offset + at);
+    }
+}

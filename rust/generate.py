@@ -1,0 +1,339 @@
+#!/usr/bin/env python3
+"""generate.py [--check] [CRATES [OUT]] makes the core of the Cargo crate: the files below OUT (arraystring/src/proved) are the proved sources
+of CRATES (../crates) without what is only for the proof. With --check it writes nothing, prints what differs, and fails if anything does.
+
+A file becomes tokens, each with the blanks and comments before it. The rules leave tokens out, or write others. What no rule names stays
+as it is, with its comments, and rustc compiles it or refuses it. A comment before what is left out, or in it, goes with it.
+
+ 1. ghosts     `ghost ..`, the clauses `requires` and `ensures`, `impl Model for ..`, `#[tactic(..)]`, `+ Drop` and a derived `Drop` are left out.
+ 2. laws       So are the modules `laws` and `integration` (JSON), and the statements that call what a file imports of `laws`: they help the prover.
+ 3. counter    So is the module `steps`: the parameter `steps: &mut Steps`, the arguments `steps` and `&mut Steps::new()`, statements `steps.f(..);`.
+ 4. counted    `f`, which only calls `f_counted`, gets the body of that, which is left out. A call of `f_counted` is one of `f`.
+ 5. paths      `std` is `core`, `crate` and a crate's name a module of `crate::proved`. `leaf` is by hand, and has what `char` and `str` of std have.
+ 6. places     `[u8` behind `mut`, and as the type of an `array`, is of `leaf::Place`, which may have no value yet, and `[0; N]` of `leaf::UNWRITTEN`.
+ 7. fields     A struct with an array is `#[repr(C)]` and has it last: no write into it then seems to change a number. A field is `pub(crate)`.
+ 8. constants  `as_str` and `as_bytes` are `const`: in Rattle an index is none, and in Rust it is `leaf::part`.
+ 9. examples   `# Examples` is left out of a comment: it would be a test of rustdoc, which sees no private module.
+10. formatter  `fn fmt<W: fmt::Write>(.. fmt::Formatter<W>)` is `fn fmt(.. fmt::Formatter<'_>)`.
+
+An error with its file and line is what looks like one of these and is left over: a word of LEFT, a name that ends with `_counted`, an example, an
+`unsafe` without its `SAFETY`, a comment from `/*` on. One thing no rule sees: a proof that reads a zero of `[0; N]`, which nothing writes in Rust.
+memcheck sees that, in `rust/shipped`.
+"""
+import difflib
+import re
+import sys
+from pathlib import Path
+
+# The crates, and the module that each becomes; the modules that are left out, and the one that is by hand.
+CRATES = {'arraystring_base': 'base', 'arraystring_core': 'string'}
+GONE, BY_HAND = {'laws', 'integration', 'steps'}, 'leaf'
+GHOST_TYPES, CONSTANT = {'Steps', 'Model'}, {'as_str', 'as_bytes'}
+LEFT = {*GONE, *CRATES, *GHOST_TYPES, 'ghost', 'requires', 'ensures', 'tactic', 'Drop', 'std', 'prove', 'prove_eq', 'prove_ne'}
+TOKEN = re.compile(r'''
+    (?P<gap> (?: \s | //[^\n]* )+ )
+  | (?P<token> [bc]?r(?P<hashes>\#*)".*?"(?P=hashes) | [bc]?"(?:\\.|[^"\\])*" | b?'(?:\\(?:x..|u\{[^}]*\}|.)|[^'\\\n])' | '\w+
+      | \w+ | /\* | :: | -> | => | \.\.= | \.\. | . )
+''', re.X | re.S)
+OPEN, CLOSE = {'(', '[', '{'}, {')', ']', '}'}
+WORD = re.compile(r'\w+')
+
+
+class Tokens(list):
+    """A file as [gap, text, line] of each token. A gap has the blanks and comments before it."""
+
+    def __init__(self, path, text):
+        self.path, gap, line = path, '', 1
+        for match in TOKEN.finditer(text):
+            if match['gap'] is None:
+                self.append([gap, match['token'], line])
+                if match['token'] == '/*':
+                    self.refuse(-1, 'a comment that does not begin with `//`')
+            gap = match['gap'] or ''
+            line += match[0].count('\n')
+        self.append([gap, '', line])
+
+    def __str__(self):
+        text = re.sub(r'\n{3,}', '\n\n', ''.join(gap + text for gap, text, _ in self)).lstrip('\n')
+        return re.sub(r'\n\n(?= *\})', '\n', re.sub(r'(?<=\{)\n\n', '\n', text))
+
+    def refuse(self, at, why):
+        raise SystemExit(f'{self.path}:{self[at][2]}: {why}')
+
+    def texts(self, start, end):
+        return [text for _, text, _ in self[start:end]]
+
+    def at(self, start, *pattern):
+        """Whether the tokens from an index on are these: a text, any text of a set, or a name or number."""
+        fits = lambda want, text: want.fullmatch(text) if want is WORD else text in want if isinstance(want, set) else text == want
+        return 0 <= start <= len(self) - len(pattern) and all(map(fits, pattern, self.texts(start, start + len(pattern))))
+
+    def all_at(self, *pattern):
+        """Where these tokens are, from the end on: what is done to one leaves the others where they are."""
+        return [at for at in reversed(range(len(self))) if self.at(at, *pattern)]
+
+    def closing(self, start):
+        """The index of the bracket that closes the one at an index."""
+        depth = 0
+        for at in range(start, len(self)):
+            depth += self.at(at, OPEN) - self.at(at, CLOSE)
+            if depth == 0:
+                return at
+        self.refuse(start, 'a bracket stays open')
+
+    def next(self, start, *wanted):
+        """The index of the first of these tokens from an index on that is in no brackets of its own."""
+        at = start
+        while not self.at(at, set(wanted)):
+            if self.at(at, {*CLOSE, ''}):
+                self.refuse(start, f'there is no {" or ".join(wanted)}')
+            at = self.closing(at) + 1 if self.at(at, OPEN) else at + 1
+        return at
+
+    def behind_angles(self, start):
+        """The index behind a list between `<` and `>`, if one begins at an index."""
+        depth = 0
+        for at in range(start, len(self)):
+            depth += self.at(at, '<') - self.at(at - 1, '>') * (at > start)
+            if depth == 0:
+                return at
+        self.refuse(start, 'a bracket stays open')
+
+    def item(self, at):
+        """Where the item or statement begins that a token is in: behind the last `;` or brace."""
+        while at > 0 and not self.at(at - 1, {';', '{', '}'}):
+            at -= 1
+        return at
+
+    def opening(self, at):
+        """The index of the bracket that a token is in."""
+        depth = 0
+        while at > 0 and (depth or not self.at(at - 1, OPEN)):
+            at -= 1
+            depth += self.at(at, CLOSE) - self.at(at, OPEN)
+        return at - 1
+
+    def is_in_list(self, start, end, brackets):
+        """Whether these tokens are a whole item of a list in such brackets."""
+        is_item = self.at(start - 1, {brackets[0], ','}) and self.at(end, {brackets[1], ','})
+        return is_item and self.at(self.opening(start), brackets[0])
+
+    def leave_out(self, start, end, keep=False):
+        """Leaves tokens out. Of the comments before them `//!` stays, or all with `keep`. One behind them on the same line goes."""
+        head, tail = self[start][0], re.sub(r'^ *//[^\n]*', '', self[end][0])
+        self[end][0] = head + tail.lstrip() if keep else ''.join(re.findall(r'(?m)^//!.*\n', head)) + tail
+        del self[start:end]
+
+    def leave_out_of_list(self, start, end):
+        """The same of an item of a list, with the comma before it or else the one behind."""
+        if self.at(start - 1, ','):
+            self.leave_out(start - 1, end)
+        else:
+            self.leave_out(start, end + self.at(end, ','), keep=True)
+
+
+def without_ghosts(t):
+    at = 0
+    while at < len(t):
+        if t.at(at, 'ghost'):
+            end = t.next(at, ';') if t.at(at + 1, 'use') else at + 2
+            # `ghost name: { .. } = { .. };`, and `ghost name: { .. },` of a struct
+            while t.at(end, {':', '='}, '{'):
+                end = t.closing(end + 1) + 1
+            if end == at + 2 or not t.at(end, {';', ','}):
+                t.refuse(at, 'a `ghost` of a form that no rule names')
+            t.leave_out(at, end + 1)
+        elif t.at(at, {'requires', 'ensures'}):
+            body = at + 1 + t.at(at + 1, WORD)
+            if not t.at(body, '{'):
+                t.refuse(at, 'a clause of a form that no rule names')
+            t.leave_out(at, t.closing(body) + 1)
+            t[at][0] = t[at][0] if '//' in t[at][0] else ' '
+        elif t.at(at, '#', '[', 'tactic') or t.at(at, '#', '[', 'derive', '(', 'Drop', ')', ']'):
+            t.leave_out(at, t.closing(at + 1) + 1, keep=True)
+        elif t.at(at, '#', '!', '[', 'tactic'):
+            t.leave_out(at, t.closing(at + 2) + 1)
+        elif t.at(at, 'Drop') and t.is_in_list(at, at + 1, '()'):
+            t.leave_out_of_list(at, at + 1)
+        elif t.at(at, '+', 'Drop'):
+            t.leave_out(at, at + 2)
+        elif t.at(at, 'Model', 'for'):
+            start = t.item(at)
+            t.leave_out(start, t.closing(t.next(at, '{')) + 1)
+            at = start
+        else:
+            at += 1
+
+
+def without_modules(t, counted):
+    """Leaves out what is not there, and says what the file imports of `laws`."""
+    facts = set()
+    for at in sorted(t.all_at('use') + t.all_at('mod', WORD, ';'), reverse=True):
+        end = t.next(at, ';')
+        names = t.texts(at, end)
+        path = names[:names.index('{')] if '{' in names else names
+        if GONE & set(path) or t.at(at, 'mod', BY_HAND) or path[-1] in GHOST_TYPES:
+            facts |= set(names) - set(path[:-1]) if 'laws' in path else set()
+            t.leave_out(t.item(at), end + 1)
+            continue
+        for i in reversed(range(at, end)):
+            if t.at(i, counted) and t[i][1].removesuffix('_counted') not in names:
+                t[i][1] = t[i][1].removesuffix('_counted')
+            elif t.at(i, counted | GHOST_TYPES) and t.is_in_list(i, i + 1, '{}'):
+                t.leave_out_of_list(i, i + 1)
+        end = t.next(at, ';')
+        if t.at(end - 2, '{', '}'):
+            t.leave_out(t.item(at), end + 1)
+        elif t.at(end - 3, '{', WORD, '}'):
+            del t[end - 1], t[end - 3]
+    return {name for name in facts if WORD.fullmatch(name)}
+
+
+def without_facts(t, facts):
+    for at in t.all_at(facts, '('):
+        end = t.closing(at + 1)
+        if t.item(at) != at or not t.at(end + 1, ';') or not all(t.at(i, WORD) or t.at(i, {',', '.', '&'}) for i in range(at + 2, end)):
+            t.refuse(at, f'`{t[at][1]}` is of `laws`, and not called in a statement of its own with names for arguments')
+        t.leave_out(at, end + 2)
+
+
+def without_counter(t):
+    for at in t.all_at('steps', '.', WORD, '('):
+        end = t.closing(at + 3)
+        if t.item(at) == at and t.at(end + 1, ';') and all(t.at(i, WORD) for i in range(at + 4, end)):
+            t.leave_out(at, end + 2)
+    for form in ('steps', ':', '&', 'mut', 'Steps'), ('&', 'mut', 'Steps', '::', 'new', '(', ')'), ('steps',):
+        for at in t.all_at(*form):
+            if t.is_in_list(at, at + len(form), '()'):
+                t.leave_out_of_list(at, at + len(form))
+
+
+def functions(t, name):
+    """The functions of a name with a body: the brace that each is in, where it begins, its body and its end, and its parameters."""
+    found = []
+    for at in t.all_at('fn', name):
+        first = t.behind_angles(at + 2)
+        last = t.closing(first)
+        body = t.next(last + 1, '{', ';')
+        if t.at(body, '{'):
+            found.append((t.opening(at), t.item(at), body, t.closing(body) + 1, [t[i][1] for i in range(first, last) if t.at(i, WORD, ':')]))
+    return found
+
+
+def uncounted(t, counted):
+    for name in sorted(name for name in counted if functions(t, name)):
+        brace, start, body, end, parameters = functions(t, name)[0]
+        beside = lambda: [it for it in functions(t, name.removesuffix('_counted')) if it[0] == brace]
+        if len(functions(t, name)) > 1 or len(beside()) != 1:
+            t.refuse(body, f'`{name}` is not the counted form of one function beside it')
+        _, _, plain_body, plain_end, plain_parameters = beside()[0]
+        arguments = [text for parameter in parameters for text in (parameter, ',')][:-1]
+        calls = [['{', *by, name, '(', *arguments, ')', *ends, '}'] for by in ([], ['self', '.'], ['Self', '::']) for ends in ([], [';'])]
+        if parameters != plain_parameters or t.texts(plain_body, plain_end) not in [*calls, t.texts(body, end)]:
+            t.refuse(plain_body, f'more than a call of `{name}` with the same parameters')
+        taken = t[body:end]
+        t.leave_out(start, end)
+        t[beside()[0][2]:beside()[0][3]] = taken
+    for at in t.all_at(counted, '(') + t.all_at(counted, '::'):
+        t[at][1] = t[at][1].removesuffix('_counted')
+
+
+def in_rust(t, module):
+    for at in range(len(t)):
+        if t.at(at, 'std', '::'):
+            t[at][1] = f'crate::{BY_HAND}' if t.at(at + 2, {'char', 'str'}, ';') else 'core'
+        elif t.at(at, {'crate', *CRATES}, '::'):
+            t[at][1] = 'crate' if t.at(at + 2, BY_HAND) else f'crate::proved::{CRATES.get(t[at][1], module)}'
+        elif t.at(at, 'mut', '[', 'u8') or t.at(at, ':', '[', 'u8') and t.at(at - 1, 'array'):
+            t[at + 2][1] = f'crate::{BY_HAND}::Place'
+        elif t.at(at, '[', '0', ';'):
+            t[at + 1][1] = f'crate::{BY_HAND}::UNWRITTEN'
+        elif t.at(at, 'fn', CONSTANT, '(', '&', 'self', ')') and not t.at(at - 1, 'const'):
+            t[at][1] = 'const fn'
+        elif t.at(at, 'fmt', '<', 'W', ':', 'fmt', '::', 'Write', '>'):
+            del t[at + 1:at + 8]
+        elif t.at(at, 'Formatter', '<', 'W', '>'):
+            t[at + 2][1] = "'_"
+
+
+def with_arrays_last(t):
+    for at in t.all_at('struct', WORD):
+        body = t.next(t.behind_angles(at + 2), '{', ';')
+        field, fields = body + 1, []
+        while t.at(body, '{') and not t.at(field, '}'):
+            name = field
+            while t.at(name, '#', '['):
+                name = t.closing(name + 1) + 1
+            if t.at(name, WORD, ':'):
+                t[name][1] = f'pub(crate) {t[name][1]}'
+            colon = end = t.next(name, ':')
+            while not t.at(end, {',', '}'}):
+                end = t.behind_angles(end) if t.at(end, '<') else t.closing(end) + 1 if t.at(end, OPEN) else end + 1
+            fields.append((t.at(colon + 1, '['), [*t[field:end], ['', ',', t[end][2]]]))
+            field = end + t.at(end, ',')
+        if any(is_array for is_array, _ in fields):
+            t[body + 1:field] = [token for _, tokens in sorted(fields, key=lambda it: it[0]) for token in tokens]
+            head = next(i for i in range(t.item(at), at + 1) if t.at(i, {'pub', 'struct'}))
+            t[head:head + 1] = [[t[head][0], '#[repr(C)]', t[head][2]], ['\n', *t[head][1:]]]
+
+
+def without_examples(t):
+    doc = r'^ *//[/!]'
+    section = rf'{doc} # Examples *\n(?:{doc} ```(?:.*\n)+?{doc} ``` *\n|{doc}(?! # ).*\n)*'
+    for at, token in enumerate(t):
+        token[0] = re.sub(rf'(?m){doc} *\n(?!{doc})', '', re.sub(f'(?m){section}', '', token[0]))
+        if any(kind != 'text' for kind in re.findall(rf'(?m){doc} *```(.*)$', token[0])[::2]):
+            t.refuse(at, 'an example is left, which rustdoc would run')
+
+
+def refuse_what_is_left(t):
+    for at, (_, text, _) in enumerate(t):
+        if text in LEFT or text.endswith('_counted'):
+            t.refuse(at, f'`{text}` is left, and no rule names what it stands in')
+        if text == 'unsafe' and '// SAFETY: ' not in ''.join(gap for gap, _, _ in t[t.item(at):at + 1]):
+            t.refuse(at, 'an `unsafe` without its `SAFETY` before it')
+
+
+def made(crates):
+    """The text of each file, by its path below OUT."""
+    sources, counted, texts = {}, set(), {}
+    for crate, module in CRATES.items():
+        folder = crates / crate / 'src'
+        for path in sorted(folder.rglob('*.rt')):
+            place = path.relative_to(folder).with_suffix('')
+            if not {*GONE, BY_HAND} & set(place.parts):
+                t = sources[path] = Tokens(path, path.read_text(encoding='utf8'))
+                t.module, t.place = module, Path(module) / ('mod.rs' if str(place) == 'lib' else f'{place}.rs')
+                counted |= {t[at + 1][1] for at in t.all_at('fn', WORD) if t[at + 1][1].endswith('_counted')}
+    for path, t in sources.items():
+        without_ghosts(t)
+        without_facts(t, without_modules(t, counted))
+        without_counter(t)
+        uncounted(t, counted)
+        in_rust(t, t.module)
+        with_arrays_last(t)
+        without_examples(t)
+        refuse_what_is_left(t)
+        texts[t.place] = f'// Made from crates/{path.relative_to(crates)} by rust/generate.py: change that, and run this.\n{t}'
+    return texts
+
+
+def main(arguments):
+    here, paths = Path(__file__).resolve().parent, [Path(it) for it in arguments if it != '--check']
+    crates, out = [*paths, *[here.parent / 'crates', here / 'arraystring/src/proved'][len(paths):]]
+    wanted, there = made(crates), {path.relative_to(out): path.read_text(encoding='utf8') for path in out.rglob('*.rs')}
+    stale = sorted(path for path in {*wanted, *there} if wanted.get(path) != there.get(path))
+    if '--check' in arguments:
+        for path in stale:
+            texts = [files.get(path, '').splitlines(keepends=True) for files in (there, wanted)]
+            sys.stdout.writelines(difflib.unified_diff(*texts, str(out / path), 'what rust/generate.py makes'))
+        sys.exit(bool(stale))
+    for path in there.keys() - wanted:
+        (out / path).unlink()
+    for path, text in wanted.items():
+        (out / path).parent.mkdir(parents=True, exist_ok=True)
+        (out / path).write_text(text, encoding='utf8')
+    print(f'{len(wanted)} files, of which {len(stale)} were stale')
+
+
+main(sys.argv[1:])
