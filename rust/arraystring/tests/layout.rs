@@ -62,8 +62,7 @@ fn the_comment_has_these_drawings() {
     let insert = ("try_insert_str(2, \"-\")", insert as Edit);
     let add = ("try_insert_str(6, \"gh\")", add as Edit);
     let drawings = [drawing("abcdef", &[remove_first, insert, add]), drawing("abcdefgh", &[remove_first, insert])];
-    let file = format!("{}/src/array_string.rs", env!("CARGO_MANIFEST_DIR"));
-    let comment: String = fs::read_to_string(file)
+    let comment: String = fs::read_to_string("src/array_string.rs")
         .unwrap()
         .lines()
         .filter_map(|line| line.strip_prefix("//!"))

@@ -1,0 +1,222 @@
+//! The core that is made of the proved sources, and the crate by hand, side by side: each call answers the same, panics with the same
+//! words, and leaves the same text at the same offset, to which further appends do the same.
+//!
+//! The strings have each length at each start offset at small capacities, and at greater ones those at both ends and in the middle. The
+//! variable `ARRAYSTRING_CALLS` of the environment says how many random calls are made at each capacity.
+
+use std::cell::Cell;
+use std::ops::Bound::{self, Excluded, Included, Unbounded};
+use std::panic::{AssertUnwindSafe, catch_unwind, set_hook, take_hook};
+use std::sync::Once;
+
+use given::{Given, Random, text};
+
+mod given;
+
+/// Both compile the same calls, each over its crate.
+#[path = "."]
+mod made {
+    pub use arraystring as tried;
+    pub mod calls;
+}
+
+#[allow(clippy::duplicate_mod, reason = "that is what is compiled twice")]
+#[path = "."]
+mod copy {
+    pub use by_hand as tried;
+    pub mod calls;
+}
+
+/// A string of each side.
+#[derive(Clone, Copy)]
+struct Pair<const N: usize>(arraystring::ArrayString<N>, by_hand::ArrayString<N>);
+
+/// A call of each side.
+type Calls<const N: usize> = Vec<(&'static str, made::calls::Call<N>, copy::calls::Call<N>)>;
+
+macro_rules! calls {
+    ($group:ident) => {{
+        let (made, copy) = (made::calls::$group(), copy::calls::$group());
+        assert_eq!(made.len(), copy.len());
+        made.into_iter().zip(copy).map(|((name, made), (_, copy))| (name, made, copy)).collect::<Vec<_>>()
+    }};
+}
+
+thread_local! {
+    static IS_TRIED: Cell<bool> = const { Cell::new(false) };
+}
+
+/// What a call answers, or the words with which it panics, which are not printed.
+fn outcome<T>(call: impl FnOnce() -> T) -> Result<T, String> {
+    static HOOK: Once = Once::new();
+    HOOK.call_once(|| {
+        let others = take_hook();
+        set_hook(Box::new(move |panicked| {
+            if !IS_TRIED.get() {
+                others(panicked)
+            }
+        }));
+    });
+    IS_TRIED.set(true);
+    let answer = catch_unwind(AssertUnwindSafe(call));
+    IS_TRIED.set(false);
+    answer.map_err(|words| match words.downcast::<String>() {
+        Ok(words) => *words,
+        Err(words) => words.downcast::<&str>().expect("words").to_string(),
+    })
+}
+
+impl<const N: usize> Pair<N> {
+    /// Strings of a text at an offset.
+    fn behind(offset: usize, text: &str) -> Self {
+        let before = ".".repeat(offset);
+        Pair(made::calls::behind(&before, text), copy::calls::behind(&before, text))
+    }
+
+    /// Makes a call on both.
+    fn call(&mut self, (name, made, copy): &(&str, made::calls::Call<N>, copy::calls::Call<N>), given: &Given) {
+        let before = *self;
+        let told = || format!("{name} of {:?} at {} of {N}, given {given:?}", before.1, copy::calls::offset(&before.1));
+        let answers = (outcome(|| made(&mut self.0, given)), outcome(|| copy(&mut self.1, given)));
+        assert_eq!(answers.0, answers.1, "{}", told());
+        assert_eq!(made::calls::state(&self.0), copy::calls::state(&self.1), "after {}", told());
+    }
+
+    /// Makes each of these calls, and says how many that are.
+    fn each(self, calls: &Calls<N>, given: &Given) -> usize {
+        calls.iter().for_each(|call| { self }.call(call, given));
+        calls.len()
+    }
+}
+
+/// How far capacities, lengths, offsets and indices are gone through one by one.
+const SMALL: usize = 9;
+
+/// Places up to the greatest: all of few, and of many those at both ends and in the middle.
+fn places(most: usize) -> Vec<usize> {
+    let ends = |at: usize| [at, (most / 2 + at).saturating_sub(1), most.saturating_sub(at)];
+    let some = [0, 1, 2, 3, 4, 15, 16].into_iter().flat_map(ends).filter(|at| *at <= most);
+    let mut places: Vec<_> = if most <= SMALL { (0..=most).collect() } else { some.collect() };
+    places.sort_unstable();
+    places.dedup();
+    places
+}
+
+/// Indices of a text of a length: its places, one past it, and the greatest.
+fn indices(len: usize) -> Vec<u8> {
+    let mut indices: Vec<_> = places(len).into_iter().chain([len + 1, 255]).map(|at| at.min(255) as u8).collect();
+    indices.dedup();
+    indices
+}
+
+/// Ranges between some indices.
+fn ranges(indices: &[u8]) -> Vec<(Bound<u8>, Bound<u8>)> {
+    let mut ranges = vec![(Unbounded, Unbounded)];
+    for start in indices {
+        ranges.extend([(Included(*start), Unbounded), (Unbounded, Excluded(*start)), (Unbounded, Included(*start))]);
+        ranges.extend(
+            indices.iter().flat_map(|end| [(Included(*start), Excluded(*end)), (Excluded(*start), Included(*end))]),
+        );
+    }
+    ranges
+}
+
+/// Makes each call on each string of a capacity, and says how many that are.
+fn each_call<const N: usize>() -> usize {
+    let (of_a_text, at_an_index, on_a_range) = (calls!(of_a_text), calls!(at_an_index), calls!(on_a_range));
+    let (capacity, mut made, mut turn) = (N.min(255), 0, 0);
+    for (len, offset) in
+        places(capacity).into_iter().flat_map(|len| places(capacity - len).into_iter().map(move |at| (len, at)))
+    {
+        let kinds = if capacity <= SMALL { 0..3 } else { (len + offset) % 3..(len + offset) % 3 + 1 };
+        for kind in kinds {
+            let pair = Pair::<N>::behind(offset, &text(kind, len));
+            let room = capacity - len;
+            let sizes = [0, 1, 2, 3, 4, 7, 8, 16, room - offset, room - offset + 1, room, room + 1, room + 20];
+            // The number of sizes is a prime, so each meets each index and range at one string or another.
+            let mut given = |index, range| {
+                turn += 1;
+                let panics_at = (turn % 3 == 0).then_some(turn / 3 % 5);
+                (text(turn, sizes[turn % sizes.len()]), Given { index, range, pattern: turn * 37, panics_at, text: "" })
+            };
+            for _ in sizes {
+                let (text, given) = given(0, (Unbounded, Unbounded));
+                made += pair.each(&of_a_text, &Given { text: &text, ..given });
+            }
+            let indices = indices(len);
+            for index in indices.iter().chain(&indices) {
+                let (text, given) = given(*index, (Unbounded, Unbounded));
+                made += pair.each(&at_an_index, &Given { text: &text, ..given });
+            }
+            let ranges = ranges(&indices);
+            for range in ranges.iter().skip((len + offset) % 7).step_by(1 + ranges.len() / 48) {
+                let (text, given) = given((len + offset) as u8, *range);
+                made += pair.each(&on_a_range, &Given { text: &text, ..given });
+            }
+        }
+    }
+    made
+}
+
+/// Makes a string of each size in each way.
+fn each_constructor<const N: usize>() -> usize {
+    let (calls, mut made) = (calls!(of_what_is_made), 0);
+    let (capacity, pair) = (N.min(255), Pair::<N>::behind(0, ""));
+    for size in (0..=capacity + 20).chain([300, 520]) {
+        for kind in 0..3 {
+            let given = text(kind, size);
+            for (pattern, panics_at) in [(size * 7 + 1, None), (size + kind, (kind == 0).then_some(size / 3))] {
+                let index = (size * 3 / 4).min(255) as u8;
+                made += pair.each(&calls, &Given { pattern, panics_at, index, ..Given::of(&given) });
+            }
+        }
+    }
+    made
+}
+
+/// Makes random calls, each on what the one before it left.
+fn random_calls<const N: usize>() -> usize {
+    let (mut calls, made) =
+        (calls!(of_a_text), told_count().unwrap_or(if cfg!(debug_assertions) { 2_000 } else { 10_000 }));
+    calls.extend([calls!(at_an_index), calls!(on_a_range), calls!(of_what_is_made)].concat());
+    let (mut random, mut pair) = (Random(N as u64 + 1), Pair::<N>::behind(0, ""));
+    for _ in 0..made {
+        let given = random.text(N.min(255));
+        let len = pair.1.len() as usize;
+        let (start, end) = (random.place(len), random.place(len));
+        let given = Given {
+            index: random.place(len),
+            range: (random.bound(start), random.bound(end)),
+            pattern: random.below(usize::MAX),
+            panics_at: (random.below(4) == 0).then(|| random.below(8)),
+            ..Given::of(&given)
+        };
+        let call = random.below(calls.len());
+        pair.call(&calls[call], &given);
+        if random.below(3) == 0 {
+            let (len, text) = (pair.1.len() as usize, pair.1.to_string());
+            pair = Pair::behind(random.below(N.min(255) - len + 1), &text);
+        }
+    }
+    made
+}
+
+fn told_count() -> Option<usize> {
+    std::env::var("ARRAYSTRING_CALLS").ok().map(|calls| calls.parse().expect("ARRAYSTRING_CALLS is a number"))
+}
+
+/// Declares a test for each capacity, so that they run beside each other.
+macro_rules! at_capacities {
+    ($($test:ident $capacity:literal)*) => {$(
+        #[test]
+        fn $test() {
+            let made = (each_call::<$capacity>(), each_constructor::<$capacity>(), random_calls::<$capacity>());
+            println!("at {}: {made:?} calls", $capacity);
+            assert!(made.0 > 1_000 && made.1 > 1_000 && made.2 > 0, "{made:?}");
+        }
+    )*};
+}
+
+at_capacities! {
+    at_0 0 at_1 1 at_2 2 at_3 3 at_4 4 at_7 7 at_8 8 at_15 15 at_16 16 at_17 17 at_23 23 at_63 63 at_128 128 at_255 255 at_256 256 at_300 300
+}
