@@ -1,5 +1,5 @@
 -- Examples of a string as contracts see it. `codes "ab."` is the list of the bytes of "ab.".
-use Rattle.std.proofs.Common.{◌≡◌, ℕ, List, [], ◌∷◌, refl, arith, codes}
+use Rattle.std.proofs.Common.{◌≡◌, ℕ, List, refl, arith, codes}
 use Rattle.std.specs.Str.{chars}
 use Rattle.arraystring_core.specs.Layout.{stored}
 use Rattle.arraystring_core.specs.Stored.{string_of}
