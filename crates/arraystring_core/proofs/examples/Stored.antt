@@ -1,5 +1,5 @@
--- Examples of a string as contracts see it. `codes "aé"` is the list of the characters of "aé".
-use Rattle.std.proofs.Common.{◌≡◌, ℕ, List, [], ◌∷◌, refl, arith, codes}
+-- Examples of a string as contracts see it. `codes "ab."` is the list of the bytes of "ab.".
+use Rattle.std.proofs.Common.{◌≡◌, ℕ, List, refl, arith, codes}
 use Rattle.std.specs.Str.{chars}
 use Rattle.arraystring_core.specs.Layout.{stored}
 use Rattle.arraystring_core.specs.Stored.{string_of}
@@ -9,9 +9,6 @@ Stored-one_text_at_two_places : ((stored (codes "ab.") 0 2).text ≡ (stored (co
     × (stored (codes "ab.") 0 2 ≡ stored (codes "xab") 1 2 → ⊥)
 unfolding chars
 Stored-one_text_at_two_places = (refl, λ e. grind arith)
-
-string_of-its_text : (string_of (codes "aé")).text ≡ codes "aé"
-string_of-its_text = refl
 
 -- the spare numbers of a string begin with its start
 string_of-is_no_string_in_an_array : (array : List ℕ) (start n : ℕ) (t : List ℕ) → stored array start n ≡ string_of t → ⊥
