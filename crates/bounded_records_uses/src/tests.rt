@@ -2,6 +2,7 @@
 use crate::entry::{NotEntered, enter_record};
 use crate::records::role_in;
 use crate::registry::{NotRenamed, dump, enter, rename, strike_off};
+use crate::roster::{names_in_order, put_in_place};
 use arraystring::ArrayString;
 use bounded_records::{Directory, RecordFault, User};
 use std::alloc::AllocError;
@@ -84,6 +85,24 @@ fn users_are_entered_renamed_and_struck_off(rt: HostRuntime) {
     agree(&rt, strike_off(&mut users, &bob.username), true);
     agree(&rt, strike_off(&mut users, &bob.username), false);
     check_users(&rt, &users, &[zoe]);
+}
+
+#[test]
+fn names_are_listed_and_a_user_is_put_in_place(rt: HostRuntime) {
+    let mut users = Directory::new(rt.alloc());
+    let (ann, bob) = (user(&rt, "ann", "admin"), user(&rt, "bob", "guest"));
+    agree(&rt, enter(&mut users, ann), Ok(Some(ann.role)));
+    users.insert(bob).expect(&rt, "memory for a user");
+    let mut names = names_in_order(&users);
+    agree(&rt, names.next(), Some(&ann.username));
+    agree(&rt, names.next(), Some(&bob.username));
+    agree(&rt, names.next(), None);
+    let admin = User {
+        username: bob.username,
+        role: ann.role,
+    };
+    agree(&rt, put_in_place(&mut users, admin), bob);
+    check_users(&rt, &users, &[ann, admin]);
 }
 
 /// How many users are entered at most.
