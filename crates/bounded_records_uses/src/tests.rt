@@ -63,6 +63,15 @@ fn user(rt: &impl Abort, username: &str, role: &str) -> User {
     User::new(username, role).expect(rt, "both texts fit")
 }
 
+/// The usernames of a directory are those of these users, in this order.
+fn check_names(rt: &impl Abort, users: &Directory, wanted: &[User]) {
+    let mut names = names_in_order(users);
+    for user in wanted {
+        agree(rt, names.next(), Some(&user.username));
+    }
+    agree(rt, names.next(), None);
+}
+
 #[test]
 fn users_are_entered_renamed_and_struck_off(rt: HostRuntime) {
     let mut users = Directory::new(rt.alloc());
@@ -72,6 +81,7 @@ fn users_are_entered_renamed_and_struck_off(rt: HostRuntime) {
     agree(&rt, enter(&mut users, bob), Ok(Some(bob.role)));
     agree(&rt, enter(&mut users, ann), Ok(Some(ann.role)));
     check_users(&rt, &users, &[ann, bob]);
+    check_names(&rt, &users, &[ann, bob]);
     let taken = rename(&mut users, &ann.username, bob.username);
     agree(&rt, taken, Err(NotRenamed::Taken));
     let same = rename(&mut users, &ann.username, ann.username);
@@ -88,21 +98,19 @@ fn users_are_entered_renamed_and_struck_off(rt: HostRuntime) {
 }
 
 #[test]
-fn names_are_listed_and_a_user_is_put_in_place(rt: HostRuntime) {
+fn a_user_is_put_in_place(rt: HostRuntime) {
     let mut users = Directory::new(rt.alloc());
-    let (ann, bob) = (user(&rt, "ann", "admin"), user(&rt, "bob", "guest"));
-    agree(&rt, enter(&mut users, ann), Ok(Some(ann.role)));
-    users.insert(bob).expect(&rt, "memory for a user");
-    let mut names = names_in_order(&users);
-    agree(&rt, names.next(), Some(&ann.username));
-    agree(&rt, names.next(), Some(&bob.username));
-    agree(&rt, names.next(), None);
-    let admin = User {
-        username: bob.username,
-        role: ann.role,
+    let name = ArrayString::try_from_str("ann").expect(&rt, "it fits");
+    let entered = users.insert(user(&rt, "ann", "admin"));
+    agree(&rt, entered.is_ok(), true);
+    let found = users.get(&name).copied().expect(&rt, "she is there");
+    let guest = User {
+        username: found.username,
+        role: ArrayString::new(),
     };
-    agree(&rt, put_in_place(&mut users, admin), bob);
-    check_users(&rt, &users, &[ann, admin]);
+    let old = put_in_place(&mut users, guest);
+    agree(&rt, old.role.as_str(), "admin");
+    agree(&rt, users.get(&name).map(|user| user.role.len()), Some(0));
 }
 
 /// How many users are entered at most.
