@@ -1,4 +1,4 @@
-//! Each use, on values worked out by hand.
+//! Each use, on values worked out by hand. Those of `edges` only make one call, which has tests of its own.
 use crate::columns::{bytes_shown, padded};
 use crate::commas::with_commas;
 use crate::cursor::Line;
@@ -13,7 +13,7 @@ use crate::log_line::{Level, log_line};
 use crate::numbers::{push_number, write_number};
 use crate::packet::name_in;
 use crate::pair::{line_of, pair, pair_of, split_value, there_and_back};
-use crate::parts::{drop_part, part, prefix, start_of_rest};
+use crate::parts::{drop_part, part, prefix, start_of_rest, taken_out};
 use crate::paths::{go_up, last_segment};
 use crate::quotes::{quoted, replaced};
 use crate::row::add_row;
@@ -532,6 +532,9 @@ fn parts_end_between_characters(rt: HostRuntime) {
     agree(&rt, drop_part(&mut text, 2, 5), Err(Error::Utf8));
     agree(&rt, drop_part(&mut text, 2, 7), Err(Error::OutOfBounds));
     agree(&rt, text.as_str(), "a 🤔");
+    agree(&rt, taken_out(&mut text, 2, 5).as_str(), "");
+    agree(&rt, taken_out(&mut text, 2, 6).as_str(), "🤔");
+    agree(&rt, text.as_str(), "a ");
 }
 
 /// Asserts that of what is left of a drain, behind a step from each end, the characters that fit are

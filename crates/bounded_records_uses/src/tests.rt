@@ -2,6 +2,7 @@
 use crate::entry::{NotEntered, enter_record};
 use crate::records::role_in;
 use crate::registry::{NotRenamed, dump, enter, rename, strike_off};
+use crate::roster::{names_in_order, put_in_place};
 use arraystring::ArrayString;
 use bounded_records::{Directory, RecordFault, User};
 use std::alloc::AllocError;
@@ -62,6 +63,15 @@ fn user(rt: &impl Abort, username: &str, role: &str) -> User {
     User::new(username, role).expect(rt, "both texts fit")
 }
 
+/// The usernames of a directory are those of these users, in this order.
+fn check_names(rt: &impl Abort, users: &Directory, wanted: &[User]) {
+    let mut names = names_in_order(users);
+    for user in wanted {
+        agree(rt, names.next(), Some(&user.username));
+    }
+    agree(rt, names.next(), None);
+}
+
 #[test]
 fn users_are_entered_renamed_and_struck_off(rt: HostRuntime) {
     let mut users = Directory::new(rt.alloc());
@@ -71,6 +81,7 @@ fn users_are_entered_renamed_and_struck_off(rt: HostRuntime) {
     agree(&rt, enter(&mut users, bob), Ok(Some(bob.role)));
     agree(&rt, enter(&mut users, ann), Ok(Some(ann.role)));
     check_users(&rt, &users, &[ann, bob]);
+    check_names(&rt, &users, &[ann, bob]);
     let taken = rename(&mut users, &ann.username, bob.username);
     agree(&rt, taken, Err(NotRenamed::Taken));
     let same = rename(&mut users, &ann.username, ann.username);
@@ -84,6 +95,22 @@ fn users_are_entered_renamed_and_struck_off(rt: HostRuntime) {
     agree(&rt, strike_off(&mut users, &bob.username), true);
     agree(&rt, strike_off(&mut users, &bob.username), false);
     check_users(&rt, &users, &[zoe]);
+}
+
+#[test]
+fn a_user_is_put_in_place(rt: HostRuntime) {
+    let mut users = Directory::new(rt.alloc());
+    let name = ArrayString::try_from_str("ann").expect(&rt, "it fits");
+    let entered = users.insert(user(&rt, "ann", "admin"));
+    agree(&rt, entered.is_ok(), true);
+    let found = users.get(&name).copied().expect(&rt, "she is there");
+    let guest = User {
+        username: found.username,
+        role: ArrayString::new(),
+    };
+    let old = put_in_place(&mut users, guest);
+    agree(&rt, old.role.as_str(), "admin");
+    agree(&rt, users.get(&name).map(|user| user.role.len()), Some(0));
 }
 
 /// How many users are entered at most.
