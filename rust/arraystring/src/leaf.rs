@@ -1,9 +1,8 @@
 // By hand: no proof stands behind this file.
 //! By hand, as no other file of the core is: what the proved code does without a test of bounds.
 //!
-//! Each function has the name of one in crates/arraystring_base/src/leaf.rt, and does what that says it ensures. Its first lines assert what
-//! that requires, which is proved of each call in `proved`. They do so with debug assertions, with the feature `checked`, and where a
-//! `usize` has not the 64 bits of the proofs. In no other build are they there.
+//! Each function has the name and the contract of one in crates/arraystring_base/src/leaf.rt. What that requires is proved of each call in
+//! `proved`, and is asserted here with debug assertions, with the feature `checked`, and where a `usize` has not the 64 bits of the proofs.
 //!
 //! The modules `char` and `str` have the calls of std that make a character or a text without a test. `proved` calls them in `unsafe`
 //! blocks of its own.
@@ -51,6 +50,11 @@ impl Held for Place {
 }
 
 /// The byte at an index.
+///
+/// ```text
+/// requires { at < length bytes.now }
+/// ensures { result ≡ slice_index bytes.now at }
+/// ```
 #[inline(always)]
 pub(crate) fn byte(bytes: &[impl Held], at: usize) -> u8 {
     required!(at < bytes.len());
@@ -59,6 +63,11 @@ pub(crate) fn byte(bytes: &[impl Held], at: usize) -> u8 {
 }
 
 /// Writes one byte.
+///
+/// ```text
+/// requires { at < length all.old }
+/// ensures { all.new ≡ take at all.old ++ (byte ∷ drop (at + 1) all.old) }
+/// ```
 #[inline(always)]
 pub(crate) fn put_byte(all: &mut [Place], at: usize, byte: u8) {
     required!(at < all.len());
@@ -67,12 +76,22 @@ pub(crate) fn put_byte(all: &mut [Place], at: usize, byte: u8) {
 }
 
 /// Writes `K` bytes, which are no vector, from `at` on.
+///
+/// ```text
+/// requires { at + K ≤ length all.old }
+/// ensures { all.new ≡ take at all.old ++ (bytes.entry ++ drop (at + K) all.old) }
+/// ```
 #[inline(always)]
 pub(crate) fn put_array<const K: usize>(all: &mut [Place], at: usize, bytes: [u8; K]) {
     put_bytes(all, at, bytes.map(Place::new));
 }
 
 /// The `len` bytes from `start` on.
+///
+/// ```text
+/// requires { start + len ≤ length bytes.now }
+/// ensures { result.now ≡ take len (drop start bytes.now) }
+/// ```
 #[inline(always)]
 pub(crate) const fn part(bytes: &[Place], start: usize, len: usize) -> &[u8] {
     required!(start <= bytes.len(), len <= bytes.len() - start);
@@ -89,18 +108,37 @@ fn part_mut(bytes: &mut [Place], start: usize, end: usize) -> &mut [u8] {
 }
 
 /// Makes a..z among the bytes from `start` to `end` A..Z.
+///
+/// ```text
+/// requires order { start ≤ end }
+/// requires within { end ≤ length all.old }
+/// ensures { all.new ≡ take start all.old
+///     ++ (map to_ascii_uppercase (take (end - start) (drop start all.old)) ++ drop end all.old) }
+/// ```
 #[inline(always)]
 pub(crate) fn make_upper(all: &mut [Place], start: usize, end: usize) {
     part_mut(all, start, end).make_ascii_uppercase();
 }
 
 /// Makes A..Z among the bytes from `start` to `end` a..z.
+///
+/// ```text
+/// requires order { start ≤ end }
+/// requires within { end ≤ length all.old }
+/// ensures { all.new ≡ take start all.old
+///     ++ (map to_ascii_lowercase (take (end - start) (drop start all.old)) ++ drop end all.old) }
+/// ```
 #[inline(always)]
 pub(crate) fn make_lower(all: &mut [Place], start: usize, end: usize) {
     part_mut(all, start, end).make_ascii_lowercase();
 }
 
 /// The text before a boundary.
+///
+/// ```text
+/// requires { IsCharBoundary text.now end }
+/// ensures { result.now ≡ take end text.now }
+/// ```
 #[inline(always)]
 pub(crate) fn text_to(text: &str, end: usize) -> &str {
     required!(text.is_char_boundary(end));
@@ -109,6 +147,11 @@ pub(crate) fn text_to(text: &str, end: usize) -> &str {
 }
 
 /// The text from a boundary on.
+///
+/// ```text
+/// requires { IsCharBoundary text.now start }
+/// ensures { result.now ≡ drop start text.now }
+/// ```
 #[inline(always)]
 pub(crate) fn text_from(text: &str, start: usize) -> &str {
     required!(text.is_char_boundary(start));
@@ -117,6 +160,15 @@ pub(crate) fn text_from(text: &str, start: usize) -> &str {
 }
 
 /// Moves `len` bytes: 16 or more, and at most `N`.
+///
+/// ```text
+/// requires source { from + len ≤ length all.old }
+/// requires target { to + len ≤ length all.old }
+/// requires most { len ≤ N }
+/// requires long { 16 ≤ len }
+/// ensures { all.new
+///     ≡ take to all.old ++ (take len (drop from all.old) ++ drop (to + len) all.old) }
+/// ```
 #[inline(always)]
 pub(crate) fn move_long_run<const N: usize>(all: &mut [Place], from: usize, to: usize, len: usize) {
     required!(from <= all.len(), len <= all.len() - from, to <= all.len(), len <= all.len() - to, len <= N, 16 <= len);
@@ -126,6 +178,11 @@ pub(crate) fn move_long_run<const N: usize>(all: &mut [Place], from: usize, to: 
 }
 
 /// Writes any number of bytes.
+///
+/// ```text
+/// requires { at + length given.now ≤ length all.old }
+/// ensures { all.new ≡ take at all.old ++ (given.now ++ drop (at + length given.now) all.old) }
+/// ```
 #[inline(always)]
 pub(crate) fn write_bytes(all: &mut [Place], given: &[u8], at: usize) {
     required!(at <= all.len(), given.len() <= all.len() - at);
@@ -134,6 +191,11 @@ pub(crate) fn write_bytes(all: &mut [Place], given: &[u8], at: usize) {
 }
 
 /// The `K` bytes of `given` from `at` on.
+///
+/// ```text
+/// requires { at + K ≤ length given.now }
+/// ensures { result ≡ take K (drop at given.now) }
+/// ```
 #[inline(always)]
 pub(crate) fn bytes_of<const K: usize>(given: &[impl Held], at: usize) -> [Place; K] {
     required!(at <= given.len(), K <= given.len() - at);
@@ -142,6 +204,11 @@ pub(crate) fn bytes_of<const K: usize>(given: &[impl Held], at: usize) -> [Place
 }
 
 /// Writes `K` bytes from `at` on.
+///
+/// ```text
+/// requires { at + K ≤ length all.old }
+/// ensures { all.new ≡ take at all.old ++ (bytes.entry ++ drop (at + K) all.old) }
+/// ```
 #[inline(always)]
 pub(crate) fn put_bytes<const K: usize>(all: &mut [Place], at: usize, bytes: [Place; K]) {
     required!(at <= all.len(), K <= all.len() - at);

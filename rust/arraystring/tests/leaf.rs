@@ -2,7 +2,9 @@
 //! and changes what its source ensures, and nothing else changes, behind the slice neither. Where accesses are tested, the first
 //! argument that breaks a `requires` panics and says what is required. Elsewhere no such call is made.
 
+use std::collections::BTreeMap;
 use std::fmt::Debug;
+use std::fs;
 use std::panic::{AssertUnwindSafe, catch_unwind};
 
 #[path = "../src/leaf.rs"]
@@ -85,6 +87,34 @@ fn past(len: usize) -> impl Iterator<Item = usize> {
 /// The ends of `len` bytes, and their middle.
 fn ends(len: usize) -> [usize; 3] {
     [0, len / 2, len]
+}
+
+/// The functions of a source or of the leaf, each with the names of its parameters and its contract: what lies between two texts.
+fn contracts(file: &str, between: (&str, &str)) -> BTreeMap<String, String> {
+    let text = fs::read_to_string(file).expect("a text").replace("\n/// ", "\n");
+    let contract = |item: &str| {
+        let (_, signature) = item.split_once("fn ").filter(|_| !item.starts_with(' '))?;
+        let (name, parameters) = (signature.split(['(', '<']).next()?, signature.split_once('(')?.1.split_once(')')?.0);
+        let parameters: Vec<_> = parameters.split(", ").filter_map(|it| Some(it.split_once(':')?.0)).collect();
+        let clauses = item.split_once(between.0)?.1.split_once(between.1)?.0;
+        let clauses = clauses.split_whitespace().collect::<Vec<_>>().join(" ");
+        Some((name.to_string(), format!("({}) {clauses}", parameters.join(", "))))
+    };
+    text.split("\n\n").filter_map(contract).collect()
+}
+
+/// (the package has no sources)
+#[test]
+fn each_function_has_the_contract_of_its_source() {
+    let source = "../../crates/arraystring_base/src/leaf.rt";
+    let here = contracts("src/leaf.rs", ("```text\nrequires", "```"));
+    assert_eq!(here.len(), 12, "{here:?}");
+    if fs::exists(source).expect("whether it is there") {
+        let there = contracts(source, ("\n    requires", "\n{"));
+        for (name, contract) in here {
+            assert_eq!(Some(&contract), there.get(&name), "{name}");
+        }
+    }
 }
 
 #[test]

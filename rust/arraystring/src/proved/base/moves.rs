@@ -1,6 +1,6 @@
 // Made from crates/arraystring_base/src/moves.rt by rust/generate.py: change that, and run this.
-//! The two moves of bytes: `shift`, inside an array, and `write_over`, of a given run into it. All that makes them
-//! fast is in this file.
+//! The two moves of bytes: `shift`, inside an array, and `write_over`, of a given run into it, which has a second form,
+//! `write_by_call`. All that makes them fast is in this file.
 //!
 //! A run moves as its first `K` bytes and its last `K`, which may overlap, and both are read before the first is
 //! written. `memmove` moves short runs in this way too. A byte that both have is written twice, to one offset, and
@@ -79,6 +79,17 @@ pub fn write_over<const N: usize>(array: &mut [crate::leaf::Place; N], at: usize
     } else {
         write_bytes(all, given, at);
     }
+}
+
+/// Writes as `write_over` does, by one call at any length. It is for new strings and for what runs seldom, where the
+/// tests of the length would only be more code.
+///
+/// # Precondition
+///
+/// `given` must fit into the array from there.
+#[inline(always)]
+pub fn write_by_call<const N: usize>(array: &mut [crate::leaf::Place; N], at: usize, given: &[u8]) {
+    write_bytes(&mut array[..], given, at);
 }
 
 /// Writes `given`: fewer than 16 bytes, and at most `N`. The branches for sizes above `N` are left out.

@@ -2,7 +2,7 @@
 //! Appends to a text that may end where its array ends: the test of the room, and what first moves the text to the start.
 
 use crate::proved::string::ArrayString;
-use crate::proved::base::utils::{encode, shift, truncate_str, write_over};
+use crate::proved::base::utils::{encode, shift, truncate_str, write_by_call};
 
 impl<const N: usize> ArrayString<N> {
     /// Whether there is room for `ch` after `len` bytes. ASCII has a test of its own, which the
@@ -41,7 +41,7 @@ impl<const N: usize> ArrayString<N> {
         self.start = 0;
         self.size += string.len() as u8;
         shift(&mut self.array, from, 0, size);
-        write_over(&mut self.array, size, string.as_bytes());
+        write_by_call(&mut self.array, size, string.as_bytes());
     }
 
     /// Appends what fits of `string` to a text that need not begin at the start of the array. It stands apart

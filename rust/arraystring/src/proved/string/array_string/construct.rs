@@ -4,7 +4,7 @@
 use crate::proved::string::ArrayString;
 use crate::proved::string::well_formed::read_utf8;
 use crate::proved::base::error::{Error, OutOfBounds, Utf8};
-use crate::proved::base::utils::{truncate_str, write_over};
+use crate::proved::base::utils::{truncate_str, write_by_call};
 use crate::leaf::str;
 
 impl<const N: usize> ArrayString<N> {
@@ -19,7 +19,7 @@ impl<const N: usize> ArrayString<N> {
             return Err(OutOfBounds);
         }
         let mut array = [crate::leaf::UNWRITTEN; N];
-        write_over(&mut array, 0, string.as_bytes());
+        write_by_call(&mut array, 0, string.as_bytes());
         Ok(ArrayString {
             array,
             start: 0,

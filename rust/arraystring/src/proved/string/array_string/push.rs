@@ -3,7 +3,7 @@
 
 use crate::proved::string::ArrayString;
 use crate::proved::base::error::OutOfBounds;
-use crate::proved::base::utils::{encode, truncate_str, write_over};
+use crate::proved::base::utils::{encode, truncate_str, write_by_call, write_over};
 
 impl<const N: usize> ArrayString<N> {
     /// Appends `ch`.
@@ -69,7 +69,7 @@ impl<const N: usize> ArrayString<N> {
         }
         let part = truncate_str(string, room);
         self.size += part.len() as u8;
-        write_over(&mut self.array, end, part.as_bytes());
+        write_by_call(&mut self.array, end, part.as_bytes());
     }
 
     /// Appends the longest prefix of the characters that fits.

@@ -3,7 +3,7 @@
 //! the precondition.
 
 use crate::proved::string::ArrayString;
-use crate::proved::base::utils::write_over;
+use crate::proved::base::utils::{write_by_call, write_over};
 use crate::leaf::str;
 
 impl<const N: usize> ArrayString<N> {
@@ -15,7 +15,7 @@ impl<const N: usize> ArrayString<N> {
     #[inline]
     pub fn from_str_unchecked(string: &str) -> Self {
         let mut array = [crate::leaf::UNWRITTEN; N];
-        write_over(&mut array, 0, string.as_bytes());
+        write_by_call(&mut array, 0, string.as_bytes());
         ArrayString {
             array,
             start: 0,
