@@ -83,7 +83,10 @@ pub(crate) fn put_byte(all: &mut [Place], at: usize, byte: u8) {
 /// ```
 #[inline(always)]
 pub(crate) fn put_array<const K: usize>(all: &mut [Place], at: usize, bytes: [u8; K]) {
-    put_bytes(all, at, bytes.map(Place::new));
+    required!(at <= all.len(), K <= all.len() - at);
+    // SAFETY: the run is within, as is required. A byte is laid out as a place. (By `put_bytes` and `map` rustc would not inline
+    // `encode_wide` in another crate, since it has a call then.)
+    unsafe { all.as_mut_ptr().add(at).cast::<[u8; K]>().write(bytes) };
 }
 
 /// The `len` bytes from `start` on.

@@ -3,9 +3,8 @@
 use core::borrow::BorrowMut;
 use core::fmt;
 use core::ops::{DerefMut, IndexMut, Range, RangeFrom, RangeFull, RangeInclusive, RangeTo, RangeToInclusive};
-use core::str;
 
-use crate::leaf::{Place, part_mut};
+use crate::leaf::Place;
 use crate::{ArrayString, CacheString, OutOfBounds, plain_ends};
 
 impl<const N: usize> ArrayString<N> {
@@ -51,7 +50,9 @@ impl<const N: usize> ArrayString<N> {
     pub fn as_mut_str(&mut self) -> &mut str {
         let (start, size) = (self.0.start as usize, self.0.size as usize);
         // SAFETY: this is the text, as the fields of the core's string say.
-        unsafe { str::from_utf8_unchecked_mut(part_mut(&mut self.0.array, start, size)) }
+        let text: *mut [Place] = unsafe { self.0.array.get_unchecked_mut(start..start + size) };
+        // SAFETY: as above. A place is laid out as its byte.
+        unsafe { &mut *(text as *mut str) }
     }
 }
 

@@ -12,20 +12,18 @@ use proved::string as core_of;
 
 pub use by_hand::cache_string::CacheString;
 use by_hand::range_ends::plain_ends;
+use by_hand::{leaf, proved};
 pub use drain::Drain;
 pub use error::{Error, OutOfBounds, Utf8, Utf16};
 
 mod by_fields;
 pub mod drain;
-#[path = "../../arraystring/src/leaf.rs"]
-mod leaf;
 mod lent;
-#[path = "../../arraystring/src/proved/mod.rs"]
-mod proved;
 mod traits;
 pub mod utf16;
 pub mod utils;
 
+/// What is made, and what has no source. (The made files name the first two as modules of the crate.)
 #[path = "../../arraystring/src"]
 mod by_hand {
     mod array_string {
@@ -34,6 +32,9 @@ mod by_hand {
         mod whole;
     }
     pub mod cache_string;
+    pub(crate) mod leaf;
+    #[rustfmt::skip]
+    pub(crate) mod proved;
     #[cfg(feature = "alloc")]
     mod into_owned;
     #[cfg(feature = "alloc")]
