@@ -1,5 +1,5 @@
 -- Examples of the string inside a `CacheString`.
-use Rattle.std.proofs.Common.{◌≡◌, Ok, Err, refl, arith, codes}
+use Rattle.std.proofs.Common.{◌≡◌, Ok, Err, arith, codes}
 use Rattle.arraystring_base.specs.Text.{width}
 use Rattle.arraystring_base.specs.declared.error.OutOfBounds.{OutOfBounds}
 use Rattle.arraystring_core.specs.Construct.{IsWholeOrRefused}
