@@ -1,11 +1,11 @@
-//! What the Rust crate does without a test of bounds: one byte, a few bytes, a part, a copy, a long move, and a text
+//! What a build in Rust does without a test of bounds: one byte, a few bytes, a part, a copy, a long move, and a text
 //! to and from a boundary. All other code of this crate and of `arraystring_core` calls these functions, because each
 //! has as its precondition what Rust would test. So the proof of a call says that the test can be left out.
 //!
 //! What is public here reads, lends or turns case. What writes or moves is for `moves` and `utf8`: a string writes by
 //! `encode`, `write_over` and `write_by_call`, and moves by `shift`, which counts. Callers of `arraystring` need none
 //! of this.
-ghost use Rattle.std.specs.Prelude.{◌≡◌, ◌+◌, ◌-◌, ◌<◌, ◌≤◌, ◌++◌, ◌∷◌, [], IsCharBoundary, length, map, take, drop, slice_index};
+ghost use Rattle.std.specs.Prelude.{◌≡◌, ◌+◌, ◌-◌, ◌<◌, ◌≤◌, ◌++◌, ◌∷◌, IsCharBoundary, length, map, take, drop, slice_index};
 ghost use Rattle.std.specs.Char.{to_ascii_uppercase, to_ascii_lowercase};
 
 use crate::moves::move_ends;
