@@ -75,7 +75,7 @@ pub fn of_a_text<const N: usize>() -> Vec<(&'static str, Call<N>)> {
         ("try_push_str", |s, given| told(s.try_push_str(given.text))),
         ("push_str", |s, given| told(s.push_str(given.text))),
         ("write_str", |s, given| told(s.write_str(given.text))),
-        ("add", |s, given| told(*s = *s + given.text)),
+        ("add", |s, given| whole(s, *s + given.text)),
         ("add_assign", |s, given| told(*s += given.text)),
         ("extend_chars", |s, given| told(given.chars(|items| s.extend_chars(items)))),
         ("extend_strs", |s, given| told(given.pieces(|items| s.extend_strs(items)))),

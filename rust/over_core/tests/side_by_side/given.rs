@@ -15,14 +15,18 @@ pub struct Given<'a> {
     pub panics_at: Option<usize>,
 }
 
-/// Some characters of each width, letters of both cases, and white space.
-const CHARS: [&[char]; 3] =
-    [&['a', 'B', '9', 'z'], &['é', '€', '🤔', 'Q'], &[' ', '\u{2003}', 'É', '\u{85}', '\u{10FFFF}']];
+/// Characters of each width, letters of both cases, white space, and the least and the greatest of each width.
+pub const CHARS: [&[char]; 4] = [
+    &['a', 'B', '9', 'z'],
+    &['é', '€', '🤔', 'Q'],
+    &[' ', '\u{2003}', 'É', '\u{85}', 'Z'],
+    &['\u{80}', '\u{7FF}', '\u{800}', '\u{FFFF}', '\u{10000}', '\u{10FFFF}', '\0', '\u{7F}', '\u{D7FF}', '\u{E01EF}'],
+];
 
 /// A text of so many bytes.
 pub fn text(kind: usize, len: usize) -> String {
     let mut text = String::new();
-    for ch in CHARS[kind % 3].iter().cycle().skip(kind + len) {
+    for ch in CHARS[kind % CHARS.len()].iter().cycle().skip(kind + len) {
         if text.len() == len {
             break;
         }

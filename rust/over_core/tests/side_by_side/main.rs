@@ -10,7 +10,7 @@ use std::ops::Bound::{self, Excluded, Included, Unbounded};
 use std::panic::{AssertUnwindSafe, catch_unwind, set_hook, take_hook};
 use std::sync::Once;
 
-use given::{Given, Random, text};
+use given::{CHARS, Given, Random, text};
 
 mod given;
 
@@ -128,7 +128,7 @@ fn strings<const N: usize>() -> Vec<Pair<N>> {
     let at_each_offset = |len| places(capacity - len).into_iter().map(move |offset| (len, offset));
     let places = places(capacity).into_iter().flat_map(at_each_offset);
     let of_each_kind = places.flat_map(|(len, offset)| {
-        let kinds = if capacity <= SMALL { 0..3 } else { (len + offset) % 3..(len + offset) % 3 + 1 };
+        let kinds = if capacity <= SMALL { 0..CHARS.len() } else { len + offset..len + offset + 1 };
         kinds.map(move |kind| Pair::behind(offset, &text(kind, len)))
     });
     of_each_kind.step_by(told("ARRAYSTRING_SHARE").unwrap_or(1)).collect()
@@ -165,7 +165,7 @@ fn each_constructor<const N: usize>() -> usize {
     let (calls, mut made) = (calls!(of_what_is_made), 0);
     let (capacity, pair) = (N.min(255), Pair::<N>::behind(0, ""));
     for size in (0..=capacity + 20).chain([300, 520]) {
-        for kind in 0..3 {
+        for kind in 0..CHARS.len() {
             let given = text(kind, size);
             for (pattern, panics_at) in [(size * 7 + 1, None), (size + kind, (kind == 0).then_some(size / 3))] {
                 let index = (size * 3 / 4).min(255) as u8;
