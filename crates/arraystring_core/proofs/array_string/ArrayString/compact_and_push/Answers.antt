@@ -1,5 +1,4 @@
-use Rattle.std.proofs.Common.{◌+◌, ◌≤◌, ◌++◌, ◌∷◌, [], refl, arith, rules}
-use Rattle.arraystring_base.specs.Text.{cap, width}
+use Rattle.std.proofs.Common.{◌+◌, ◌++◌, ◌∷◌, [], refl, arith, rules}
 use Rattle.arraystring_core.specs.Layout.{stored}
 use Rattle.arraystring_core.proofs.SpanLemmas.{StoredAt}
 use Rattle.arraystring_core.proofs.AppendLemmas.{char-appended_at_front}
