@@ -336,4 +336,5 @@ def main(arguments):
     print(f'{len(wanted)} files, of which {len(stale)} were stale')
 
 
-main(sys.argv[1:])
+if __name__ == '__main__':
+    main(sys.argv[1:])

@@ -1,6 +1,6 @@
 // Made from crates/arraystring_base/src/moves.rt by rust/generate.py: change that, and run this.
 //! The two moves of bytes: `shift`, inside an array, and `write_over`, of a given run into it, which has a second form,
-//! `write_by_call`. All that makes them fast is in this file.
+//! `write_by_call`. What makes them fast is in this file and in `leaf`.
 //!
 //! A run moves as its first `K` bytes and its last `K`, which may overlap, and both are read before the first is
 //! written. `memmove` moves short runs in this way too. A byte that both have is written twice, to one offset, and

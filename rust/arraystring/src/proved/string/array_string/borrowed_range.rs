@@ -3,6 +3,7 @@
 
 use crate::proved::string::ArrayString;
 use crate::proved::string::range_ends::plain_ends;
+use crate::leaf::{text_from, text_to};
 use core::ops::RangeBounds;
 
 impl<const N: usize> ArrayString<N> {
@@ -37,7 +38,8 @@ impl<const N: usize> ArrayString<N> {
     }
 
     /// The part between two boundaries, which are not tested here.
+    #[inline]
     fn slice_unchecked(&self, start: usize, end: usize) -> &str {
-        &self.as_str()[start..end]
+        text_from(text_to(self.as_str(), end), start)
     }
 }

@@ -19,7 +19,7 @@ impl<const N: usize> ArrayString<N> {
     /// - `Err(Error::OutOfBounds)` if the range ends past the text;
     /// - `Err(Error::Utf8)` if the start of the range is inside a character;
     /// - `Err(Error::Utf8)` if the end of the range is inside a character.
-    #[inline(always)]
+    #[inline]
     pub fn drain<R: RangeBounds<u8>>(&mut self, range: R) -> Result<Drain<N>, Error> {
         let (from, to) = saturating_ends(range, self.len());
         self.check_part(from, to)?;
