@@ -6,7 +6,7 @@
 #![no_std]
 #![deny(unsafe_op_in_unsafe_fn)]
 
-use core::ops::{Bound, RangeBounds};
+use core::ops::{Range, RangeBounds};
 
 use proved::string as core_of;
 
@@ -183,14 +183,13 @@ impl<const N: usize> ArrayString<N> {
         self.0.get(range)
     }
 
-    /// The bounds of a part of the text, which the core requires. Where there is none, `str` panics.
+    /// A part of the text, which the core requires. Where there is none, `str` panics.
     #[track_caller]
     #[inline(always)]
-    fn part(&self, range: impl RangeBounds<u8>) -> (Bound<u8>, Bound<u8>) {
-        let part = (range.start_bound().cloned(), range.end_bound().cloned());
-        let (start, end) = plain_ends(part, self.len());
+    fn part(&self, range: impl RangeBounds<u8>) -> Range<u8> {
+        let (start, end) = plain_ends(range, self.len());
         let _ = &self.as_str()[start..end];
-        part
+        start as u8..end as u8
     }
 
     #[track_caller]
