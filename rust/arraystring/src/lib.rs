@@ -28,12 +28,8 @@ mod moves;
 mod owned_texts;
 #[cfg(feature = "std")]
 mod paths;
-#[cfg(not(proved_is_public))]
 #[rustfmt::skip]
 mod proved;
-#[cfg(proved_is_public)]
-#[rustfmt::skip]
-pub mod proved;
 mod range_ends;
 mod rust_traits;
 #[cfg(feature = "serde")]
