@@ -54,8 +54,12 @@ class Tokens(list):
         self.append([gap, '', line])
 
     def __str__(self):
-        text = re.sub(r'\n{3,}', '\n\n', ''.join(gap + text for gap, text, _ in self)).lstrip('\n')
-        return re.sub(r'\n\n(?= *\})', '\n', re.sub(r'(?<=\{)\n\n', '\n', text))
+        made = ''
+        for at, (gap, text, _) in enumerate(self):
+            gap = re.sub(r'\n{3,}', '\n\n', gap)
+            gap = re.sub(r'^\n\n', '\n', gap) if self.at(at - 1, '{') else gap
+            made += (re.sub(r'\n\n(?= *$)', '\n', gap) if text == '}' else gap) + text
+        return made.lstrip('\n')
 
     def refuse(self, at, why):
         raise SystemExit(f'{self.path}:{self[at][2]}: {why}')
@@ -101,7 +105,7 @@ class Tokens(list):
 
     def item(self, at):
         """Where the item or statement begins that a token is in: behind the last `;` or brace."""
-        while at > 0 and not self.at(at - 1, {';', '{', '}'}):
+        while at > 0 and not self.at(at - 1, {';', '{', '}'}) and not (self.at(at - 1, ']') and self.at(self.opening(at - 1) - 2, '#', '!')):
             at -= 1
         return at
 
@@ -121,7 +125,8 @@ class Tokens(list):
     def leave_out(self, start, end, keep=False):
         """Leaves tokens out. Of the comments before them `//!` stays, or all with `keep`. One behind them on the same line goes."""
         head, tail = self[start][0], re.sub(r'^ *//[^\n]*', '', self[end][0])
-        self[end][0] = head + tail.lstrip() if keep else ''.join(re.findall(r'(?m)^//!.*\n', head)) + tail
+        before = re.match(r' *//.*|', head)[0] if start and tail.startswith('\n') else ''
+        self[end][0] = head + tail.lstrip() if keep else before + ''.join(re.findall(r'(?m)^//!.*\n', head)) + tail
         del self[start:end]
 
     def leave_out_of_list(self, start, end):
@@ -173,7 +178,7 @@ def without_modules(t, counted):
         names = t.texts(at, end)
         path = names[:names.index('{')] if '{' in names else names
         if GONE & set(path) or t.at(at, 'mod', BY_HAND) or path[-1] in GHOST_TYPES:
-            facts |= set(names) - set(path[:-1]) if 'laws' in path else set()
+            facts |= {name for name, after in zip(names, [*names[1:], ';']) if after != 'as'} - set(path[:-1]) if 'laws' in path else set()
             t.leave_out(t.item(at), end + 1)
             continue
         for i in reversed(range(at, end)):
@@ -184,12 +189,14 @@ def without_modules(t, counted):
         end = t.next(at, ';')
         if t.at(end - 2, '{', '}'):
             t.leave_out(t.item(at), end + 1)
-        elif t.at(end - 3, '{', WORD, '}'):
+        elif t.at(end - 3, '{', WORD, '}') and not t.at(end - 2, 'self'):
             del t[end - 1], t[end - 3]
     return {name for name in facts if WORD.fullmatch(name)}
 
 
 def without_facts(t, facts):
+    for at in t.all_at('fn', facts):
+        t.refuse(at, f'`{t[at + 1][1]}` has the name of what is imported of `laws`')
     for at in t.all_at(facts, '('):
         end = t.closing(at + 1)
         if t.item(at) != at or not t.at(end + 1, ';') or not all(t.at(i, WORD) or t.at(i, {',', '.', '&'}) for i in range(at + 2, end)):
@@ -198,13 +205,17 @@ def without_facts(t, facts):
 
 
 def without_counter(t):
+    counting = set()
+    for at in t.all_at('steps', ':', '&', 'mut', 'Steps'):
+        body = t.next(t.closing(t.opening(at)) + 1, '{', ';')
+        counting |= {id(token) for token in [*t[at:at + 5], *t[body:t.closing(body)]]}
     for at in t.all_at('steps', '.', WORD, '('):
         end = t.closing(at + 3)
-        if t.item(at) == at and t.at(end + 1, ';') and all(t.at(i, WORD) for i in range(at + 4, end)):
+        if id(t[at]) in counting and t.item(at) == at and t.at(end + 1, ';') and all(t.at(i, WORD) for i in range(at + 4, end)):
             t.leave_out(at, end + 2)
     for form in ('steps', ':', '&', 'mut', 'Steps'), ('&', 'mut', 'Steps', '::', 'new', '(', ')'), ('steps',):
         for at in t.all_at(*form):
-            if t.is_in_list(at, at + len(form), '()'):
+            if t.is_in_list(at, at + len(form), '()') and (t.at(at, '&') or id(t[at]) in counting):
                 t.leave_out_of_list(at, at + len(form))
 
 
@@ -257,8 +268,10 @@ def in_rust(t, module):
 
 
 def with_arrays_last(t):
-    for at in t.all_at('struct', WORD):
-        body = t.next(t.behind_angles(at + 2), '{', ';')
+    for at in sorted(t.all_at('struct', WORD) + t.all_at('struct', '$', WORD), reverse=True):
+        body = t.next(t.behind_angles(at + 2 + t.at(at + 1, '$')), '{', ';')
+        if t.at(body, ';') and ';' in t.texts(at, body):
+            t.refuse(at, 'a struct with an array whose fields have no names')
         field, fields = body + 1, []
         while t.at(body, '{') and not t.at(field, '}'):
             name = field
@@ -272,14 +285,20 @@ def with_arrays_last(t):
             fields.append((t.at(colon + 1, '['), [*t[field:end], ['', ',', t[end][2]]]))
             field = end + t.at(end, ',')
         if any(is_array for is_array, _ in fields):
-            t[body + 1:field] = [token for _, tokens in sorted(fields, key=lambda it: it[0]) for token in tokens]
+            ordered = sorted(fields, key=lambda it: it[0])
+            for i in range(t.item(at), field + 1):
+                if i < at and t.at(i, {'Debug', 'Hash', 'Ord', 'PartialOrd'}):
+                    t.refuse(i, f'a derived `{t[i][1]}`, which follows the order of the fields, and shows places')
+                if i > body and ordered != fields and re.match(r' *//', t[i][0]):
+                    t.refuse(i, 'a comment behind a field, where fields change places')
+            t[body + 1:field] = [token for _, tokens in ordered for token in tokens]
             head = next(i for i in range(t.item(at), at + 1) if t.at(i, {'pub', 'struct'}))
             t[head:head + 1] = [[t[head][0], '#[repr(C)]', t[head][2]], ['\n', *t[head][1:]]]
 
 
 def without_examples(t):
     doc = r'^ *//[/!]'
-    section = rf'{doc} # Examples *\n(?:{doc} ```(?:.*\n)+?{doc} ``` *\n|{doc}(?! # ).*\n)*'
+    section = rf'{doc} # Examples *\n(?:{doc} ```(?:.*\n)+?{doc} ``` *\n|{doc}(?! #+ ).*\n)*'
     for at, token in enumerate(t):
         token[0] = re.sub(rf'(?m){doc} *\n(?!{doc})', '', re.sub(f'(?m){section}', '', token[0]))
         if any(kind != 'text' for kind in re.findall(rf'(?m){doc} *```(.*)$', token[0])[::2]):

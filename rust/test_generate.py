@@ -8,6 +8,13 @@ import generate
 
 # A source, and what comes of it.
 MADE = {
+    'const A: &str = "{\n\n\n\n}";': None,
+    'fn f(steps: &mut Steps) {\n    g(); // why\n    steps.count();\n}': 'fn f() {\n    g(); // why\n}',
+    'fn f() -> u8 // hot\n    requires { a } {\n}': 'fn f() -> u8 {\n}',
+    '#![deny(a)]\nuse crate::laws::a;\nfn f() {}': '#![deny(a)]\nfn f() {}',
+    'use crate::laws::{a as b};\nuse crate::c::a;\nfn f() {\n    b(c);\n    a(c);\n}':
+        'use crate::proved::base::c::a;\nfn f() {\n    a(c);\n}',
+    'use crate::a::{self, Steps};': 'use crate::proved::base::a::{self};',
     'fn f(a: u8)\n    requires { a < 3 // } ghost {{\n        + 1 }\n    ensures more { result }\n{\n    a\n}': 'fn f(a: u8) {\n    a\n}',
     'let f = |a: u8| -> u8 requires { a < 3 } { a };': 'let f = |a: u8| -> u8 { a };',
     'f("ghost use a; requires { Steps std:: [0; N]", r#"} " ghost"#, b\'\\\'\', \'{\', \'\\u{7D}\');': None,
@@ -53,6 +60,11 @@ REFUSED = [
     '\n@/* } */',
     '// SAFETY: so.\nlet a = unsafe { b };\nlet c = @unsafe { d };',
     '/// ```\n/// a\n/// ```\n@fn f() {}',
+    'use crate::laws::a;\n@fn a() {}',
+    'for (_, @steps) in a {\n    steps.end();\n}',
+    '#[derive(@Debug)]\nstruct A {\n    array: [u8; 3],\n}',
+    'struct A {\n    b: [u8; 3],\n    a: u8, // why\n@}',
+    '\n@struct A([u8; 4], u8);',
 ]
 
 
