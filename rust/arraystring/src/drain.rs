@@ -1,108 +1,74 @@
-// Proved sources: crates/arraystring_core/src/drain.rt
-// The bodies were compared with these for the last time at commit a4b96150, and nothing compares them since.
 //! `Drain`: the characters that were removed from a string, from both ends.
 
-use crate::access::{self, Place, str};
+use core::fmt;
+use core::iter::FusedIterator;
 
-mod traits;
+use crate::proved::string as core_of;
 
-/// An iterator over the characters that [`drain`](crate::ArrayString::drain) removed from a string. It returns each of them
-/// once, from the front or from the back, and borrows nothing.
-///
-/// A drain has a copy of the string's array, and allocates nothing. Contracts name the list of the
-/// characters that are left.
-///
-/// # What to write for `max`, `cmp` and `for`
-///
-/// A drain is an `Iterator`, and it is `Ord` and `Copy`, too. So some code does not compile, or does something else:
-///
-/// - `drained.max()` and `drained.min()` are ambiguous. Write `Iterator::max(drained)`.
-/// - `a.cmp(&b)` is that of `Iterator`, and does not compile. Write `Ord::cmp(&a, &b)`. The signs `<` and `==` are as usual.
-/// - `for ch in drained` walks a copy, so `drained` still has all. Write `for ch in &mut drained`.
+/// The characters that [`ArrayString::drain`](crate::ArrayString::drain) removed. They are gone from the string at once, and a `Drain`
+/// borrows nothing.
 ///
 /// ```
-/// use arraystring::ArrayString;
+/// use arraystring::{ArrayString, Error};
 ///
-/// let mut drained = ArrayString::<4>::from("abc").drain(..).unwrap();
-/// assert_eq!(Iterator::max(drained), Some('c'));
-/// assert_eq!(Ord::cmp(&drained, &ArrayString::<4>::from("abd").drain(..).unwrap()), std::cmp::Ordering::Less);
-/// for _ in drained {}
-/// assert_eq!(drained.as_str(), "abc");
-/// for _ in &mut drained {}
-/// assert_eq!(drained.as_str(), "");
+/// let mut string = ArrayString::<8>::try_from_str("aébc")?;
+/// let mut drained = string.drain(..4)?;
+/// assert_eq!((drained.next(), drained.next_back(), drained.as_str()), (Some('a'), Some('b'), "é"));
+/// assert_eq!(string, "c");
+/// # Ok::<(), Error>(())
 /// ```
-///
-/// # Examples
-///
-/// ```
-/// use arraystring::ArrayString;
-///
-/// let mut string = ArrayString::<8>::from("abcdef");
-/// let mut drained = string.drain(1..5).unwrap();
-/// assert_eq!((drained.next(), drained.next_back()), (Some('b'), Some('e')));
-/// assert_eq!((drained.as_str(), string.as_str()), ("cd", "af"));
-/// ```
-#[derive(Clone, Copy)]
-pub struct Drain<const N: usize> {
-    // The numbers lie before the array. So the compiler sees that a read of the array, at whatever offset, reads none of them.
-    /// What is left begins at this index of the removed text. It is a boundary of the first `size` bytes of
-    /// that text, so it is at most `size`.
-    front: u8,
-    /// The offset of the removed text. `start + size` is at most the lesser of `N` and 255.
-    start: u8,
-    /// The size of the removed text, without what was returned from the back.
-    size: u8,
-    /// The array of the string, as it was before the removal. The `size` bytes from `start` on were written, and are
-    /// UTF-8.
-    array: [Place; N],
-}
+#[derive(Clone, Copy, Default, PartialEq, Eq, PartialOrd, Ord, Hash)]
+pub struct Drain<const N: usize>(pub(crate) core_of::Drain<N>);
 
-/// What is left.
 impl<const N: usize> Drain<N> {
-    /// The `size` bytes from `start` on are left.
-    ///
-    /// # Safety
-    ///
-    /// - the `size` bytes of `array` from `start` on were written, are UTF-8 and end within the capacity
-    #[inline(always)]
-    pub(crate) unsafe fn new(array: [Place; N], start: u8, size: u8) -> Self {
-        // FIELDS: the `size` bytes of `array` from `start` on were written, are UTF-8 and end within the capacity by this
-        // function's `# Safety`, and `front` is 0.
-        Drain { front: 0, start, size, array }
-    }
-
-    /// Returns the characters that are left as a `&str`, borrowed without a copy.
-    ///
-    /// # Examples
-    ///
-    /// ```
-    /// use arraystring::ArrayString;
-    ///
-    /// let mut drained = ArrayString::<4>::from("abc").drain(..).unwrap();
-    /// drained.next();
-    /// assert_eq!(drained.as_str(), "bc");
-    /// ```
-    ///
-    /// <details><summary>Contract</summary>
-    ///
-    /// ```text
-    /// ensures bytes { result.now ≡ bytes self.now.left }
-    /// ensures chars { chars result.now ≡ self.now.left }
-    /// ensures text { IsText self.now.left }
-    /// ensures fits { size self.now.left ≤ cap N }
-    /// ```
-    ///
-    /// [How to read a contract](crate::contracts)
-    ///
-    /// </details>
+    /// The characters that are left, as a text.
     #[must_use]
-    #[inline]
+    #[inline(always)]
     pub fn as_str(&self) -> &str {
-        let all = &self.array[..];
-        let start = self.start as usize;
-        let (front, end) = (start + self.front as usize, start + self.size as usize);
-        // SAFETY: the removed text was written and is UTF-8, and `front` is a boundary of it, as the fields of the type say.
-        // SAFETY: this is within: `front <= size` and `start + size <= N`, as the fields of `Drain` say.
-        unsafe { str::from_utf8_unchecked(access::bytes(get_unchecked!(all, front..end))) }
+        self.0.as_str()
     }
 }
+
+impl<const N: usize> fmt::Debug for Drain<N> {
+    fn fmt(&self, f: &mut fmt::Formatter<'_>) -> fmt::Result {
+        fmt::Debug::fmt(&self.0, f)
+    }
+}
+
+impl<const N: usize> Iterator for Drain<N> {
+    type Item = char;
+
+    #[inline(always)]
+    fn next(&mut self) -> Option<char> {
+        self.0.next()
+    }
+
+    #[inline]
+    fn size_hint(&self) -> (usize, Option<usize>) {
+        self.as_str().chars().size_hint()
+    }
+
+    #[inline]
+    fn fold<B, F: FnMut(B, char) -> B>(self, init: B, f: F) -> B {
+        self.as_str().chars().fold(init, f)
+    }
+
+    #[inline]
+    fn count(self) -> usize {
+        self.as_str().chars().count()
+    }
+}
+
+impl<const N: usize> DoubleEndedIterator for Drain<N> {
+    #[inline(always)]
+    fn next_back(&mut self) -> Option<char> {
+        self.0.next_back()
+    }
+
+    #[inline]
+    fn rfold<B, F: FnMut(B, char) -> B>(self, init: B, f: F) -> B {
+        self.as_str().chars().rfold(init, f)
+    }
+}
+
+impl<const N: usize> FusedIterator for Drain<N> {}

@@ -1,22 +1,20 @@
-// By hand: no proof stands behind this file.
 //! By hand, as no other file of the core is: what the proved code does without a test of bounds.
 //!
 //! Each function has the name and the contract of one in crates/arraystring_base/src/leaf.rt. What that requires is proved of each call in
 //! `proved`, and is asserted here with debug assertions, with the feature `checked`, and where a `usize` has not the 64 bits of the proofs.
-//!
-//! The modules `char` and `str` have the calls of std that make a character or a text without a test. `proved` calls them in `unsafe`
-//! blocks of its own.
 
 use core::mem::MaybeUninit;
 use core::{ptr, slice};
 
+pub(crate) use core::{char, str};
+
 /// Whether each access is tested all the same.
-const IS_TESTED: bool = cfg!(any(debug_assertions, feature = "checked", not(target_pointer_width = "64")));
+pub(crate) const IS_TESTED: bool = cfg!(any(debug_assertions, feature = "checked", not(target_pointer_width = "64")));
 
 /// Asserts what the source of a function requires, where accesses are tested.
 macro_rules! required {
     ($($condition:expr),*) => {
-        if IS_TESTED {
+        if $crate::leaf::IS_TESTED {
             $(assert!($condition, concat!("it is required that `", stringify!($condition), "`"));)*
         }
     };
@@ -104,7 +102,7 @@ pub(crate) const fn part(bytes: &[Place], start: usize, len: usize) -> &[u8] {
 
 /// The same, to write.
 #[inline(always)]
-fn part_mut(bytes: &mut [Place], start: usize, end: usize) -> &mut [u8] {
+pub(crate) fn part_mut(bytes: &mut [Place], start: usize, end: usize) -> &mut [u8] {
     required!(start <= end, end <= bytes.len());
     // SAFETY: the part is within, as is required. The proved code borrows the bytes of texts, which were written.
     unsafe { slice::from_raw_parts_mut(bytes.as_mut_ptr().add(start).cast(), end - start) }
@@ -217,40 +215,4 @@ pub(crate) fn put_bytes<const K: usize>(all: &mut [Place], at: usize, bytes: [Pl
     required!(at <= all.len(), K <= all.len() - at);
     // SAFETY: the run is within, as is required.
     unsafe { all.as_mut_ptr().add(at).cast::<[Place; K]>().write(bytes) };
-}
-
-/// What the proved code uses of `std::char`.
-pub(crate) mod char {
-    pub(crate) use core::char::*;
-
-    /// `char::from_u32_unchecked`. With the feature `checked_utf8` the number is tested.
-    ///
-    /// # Safety
-    ///
-    /// The number must be a scalar value.
-    #[expect(clippy::disallowed_methods, reason = "it is tested here")]
-    #[inline(always)]
-    pub(crate) const unsafe fn from_u32_unchecked(number: u32) -> char {
-        assert!(!cfg!(feature = "checked_utf8") || from_u32(number).is_some(), "a character is no scalar value");
-        // SAFETY: it is a scalar value, by this function's `# Safety`.
-        unsafe { core::char::from_u32_unchecked(number) }
-    }
-}
-
-/// What the proved code uses of `std::str`.
-pub(crate) mod str {
-    pub(crate) use core::str::*;
-
-    /// `str::from_utf8_unchecked`. No index shows that bytes are not UTF-8, so with the feature `checked_utf8` they are tested.
-    ///
-    /// # Safety
-    ///
-    /// The bytes must be UTF-8.
-    #[expect(clippy::disallowed_methods, reason = "it is tested here")]
-    #[inline(always)]
-    pub(crate) const unsafe fn from_utf8_unchecked(bytes: &[u8]) -> &str {
-        assert!(!cfg!(feature = "checked_utf8") || from_utf8(bytes).is_ok(), "a text is not UTF-8");
-        // SAFETY: they are UTF-8, by this function's `# Safety`.
-        unsafe { core::str::from_utf8_unchecked(bytes) }
-    }
 }

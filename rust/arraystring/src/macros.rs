@@ -1,23 +1,16 @@
-// By hand: no proof stands behind this file.
 //! Macros: a string of a text that is known when the program is compiled, and one of what a format prints.
-#![deny(unsafe_code)]
 
-use crate::ArrayString;
-use crate::error::OutOfBounds;
+use crate::{ArrayString, OutOfBounds};
 
-/// A string of a text that is known when the program is compiled. If the text does not fit, the program does not compile. The
-/// type that is wanted decides the capacity.
+/// A string of a text that is known when the program is compiled. If the text does not fit, the program does not compile. The type that is
+/// wanted decides the capacity.
 ///
 /// ```
 /// use arraystring::{ArrayString, CacheString, arraystring};
 ///
 /// const GREETING: ArrayString<8> = arraystring!("hello");
-/// static KEY: CacheString = CacheString(arraystring!(concat!("user:", "42")));
+/// static KEY: CacheString = arraystring!(concat!("user:", "42"));
 /// assert_eq!((GREETING.as_str(), KEY.as_str()), ("hello", "user:42"));
-///
-/// let mut line: ArrayString<16> = arraystring!("hello");
-/// line.push_str(", ann");
-/// assert_eq!(line, "hello, ann");
 /// ```
 ///
 /// `hello` takes five bytes:
@@ -28,8 +21,7 @@ use crate::error::OutOfBounds;
 /// const GREETING: ArrayString<4> = arraystring!("hello");
 /// ```
 ///
-/// A `let` does not compile either. There [`try_from_str`](crate::ArrayString::try_from_str) would be refused only
-/// when the program runs:
+/// A `let` does not compile either. There [`try_from_str`](crate::ArrayString::try_from_str) would be refused only when the program runs:
 ///
 /// ```compile_fail,E0080
 /// use arraystring::{ArrayString, arraystring};
@@ -43,12 +35,12 @@ macro_rules! arraystring {
     };
 }
 
-/// A string of what a format prints, whole: [`try_from_format`](crate::ArrayString::try_from_format) without `format_args!`. The type
-/// that is wanted decides the capacity.
+/// A string of what a format prints, whole: [`try_from_format`](crate::ArrayString::try_from_format) without `format_args!`. The type that
+/// is wanted decides the capacity.
 ///
 /// # Errors
 ///
-/// Returns [`Err(fmt::Error)`](core::fmt::Error) if not all of it fits, or if a `Display` in it fails.
+/// Returns a [`fmt::Error`](core::fmt::Error) if not all of it fits, or if a `Display` in it fails.
 ///
 /// ```
 /// use arraystring::{ArrayString, Error, try_format};
@@ -57,7 +49,7 @@ macro_rules! arraystring {
 ///     Ok(try_format!("{name}-{number}")?)
 /// }
 ///
-/// assert_eq!(label("ann", 7), Ok("ann-7".into()));
+/// assert_eq!(label("ann", 7).unwrap(), "ann-7");
 /// assert_eq!(label("ann", 12345), Err(Error::OutOfBounds));
 /// ```
 #[macro_export]
@@ -68,16 +60,7 @@ macro_rules! try_format {
 }
 
 impl<const N: usize> ArrayString<N> {
-    /// What `arraystring!` is made of. Beyond a constant it would panic when the program runs.
-    ///
-    /// ```
-    /// const GREETING: arraystring::ArrayString<8> = arraystring::ArrayString::of_constant("hello");
-    /// assert_eq!(GREETING, "hello");
-    /// ```
-    ///
-    /// # Panics
-    ///
-    /// Where the text does not fit.
+    /// What `arraystring!` is made of. Outside a constant it would panic when the program runs.
     #[doc(hidden)]
     #[must_use]
     #[track_caller]

@@ -1,22 +1,20 @@
-// By hand: no proof stands behind this file.
-//! What is appended whole or not at all: what a format prints, and what an iterator gives. And what a format prints, cut.
-#![deny(unsafe_code)]
+//! What is appended whole or not at all: what a format prints, and what an iterator gives. And as much of it as fits.
 
 use core::fmt::{self, Write};
 use core::mem;
 
-use crate::ArrayString;
-use crate::error::OutOfBounds;
+use crate::{ArrayString, OutOfBounds};
 
-/// Appends of all or nothing, and one that says whether it cut.
+/// # Adding what a format prints, or an iterator gives
+///
+/// They have no contract, since none can say what is left after a panic of the caller's code.
 impl<const N: usize> ArrayString<N> {
-    /// Appends what a format prints, whole or not at all. A `write!` is refused piece by piece, and keeps the pieces before the
-    /// one that does not fit.
+    /// Appends what a format prints, whole or not at all. (A `write!` is refused piece by piece, and keeps the pieces before the one that
+    /// does not fit.)
     ///
     /// # Errors
     ///
-    /// Returns [`Err(fmt::Error)`](core::fmt::Error) if not all of it fits, or if a `Display` in it fails. The text is then
-    /// unchanged. It is so, too, where a `Display` panics.
+    /// Returns a [`fmt::Error`] if not all of it fits, or if a `Display` in it fails. Nothing has changed then, nor if a `Display` panics.
     ///
     /// # Examples
     ///
@@ -25,13 +23,13 @@ impl<const N: usize> ArrayString<N> {
     /// use std::fmt::Write;
     ///
     /// let (from, to) = ("abcd", "efghi");
-    /// let mut line = ArrayString::<8>::from("x");
+    /// let mut line = ArrayString::<8>::try_from_str("x").unwrap();
     /// assert!(line.try_write(format_args!("{from}-{to}")).is_err());
     /// assert_eq!(line, "x");
     /// assert!(line.try_write(format_args!("{from}-{}", 7)).is_ok());
     /// assert_eq!(line, "xabcd-7");
     ///
-    /// let mut line = ArrayString::<8>::from("x");
+    /// let mut line = ArrayString::<8>::try_from_str("x").unwrap();
     /// assert!(write!(line, "{from}-{to}").is_err());
     /// assert_eq!(line, "xabcd-"); // what came before `efghi` stays
     /// ```
@@ -47,31 +45,27 @@ impl<const N: usize> ArrayString<N> {
         Ok(())
     }
 
-    /// Appends what a format prints, **cut** to the longest prefix of whole characters that fits. Returns whether something was cut
-    /// off.
-    ///
-    /// Nothing is added behind the cut, also where a later piece would fit. The format is told of the cut by an error, so it stops
-    /// there.
+    /// Appends the longest prefix of whole characters that fits of what a format prints, and returns whether anything was left. Nothing is
+    /// added behind the first character that does not fit, and the format is told by an error, so that it stops there.
     ///
     /// # Errors
     ///
-    /// Returns [`Err(fmt::Error)`](core::fmt::Error) if a `Display` in it fails before anything is cut off. The text is then
-    /// unchanged. It is so, too, where a `Display` panics.
+    /// Returns a [`fmt::Error`] if a `Display` in it fails before anything is left. Nothing has changed then, nor if a `Display` panics.
     ///
     /// # Examples
     ///
     /// ```
     /// use arraystring::ArrayString;
     ///
-    /// let mut line = ArrayString::<8>::from("x");
-    /// assert_eq!(line.write_truncated(format_args!("{}-{}", 12, "é")), Ok(false)); // all of it fits
+    /// let mut line = ArrayString::<8>::try_from_str("x").unwrap();
+    /// assert_eq!(line.write_truncate(format_args!("{}-{}", 12, "é")), Ok(false)); // all of it fits
     /// assert_eq!(line, "x12-é");
-    /// assert_eq!(line.write_truncated(format_args!("{}{}", "ü€", '.')), Ok(true)); // no `.` behind the cut
+    /// assert_eq!(line.write_truncate(format_args!("{}{}", "ü€", '.')), Ok(true)); // no `.` behind the cut
     /// assert_eq!(line, "x12-éü");
     /// ```
     #[doc(alias = "write_fmt")]
     #[inline]
-    pub fn write_truncated(&mut self, arguments: fmt::Arguments<'_>) -> Result<bool, fmt::Error> {
+    pub fn write_truncate(&mut self, arguments: fmt::Arguments<'_>) -> Result<bool, fmt::Error> {
         let mut prefix = Prefix(Row::behind(self));
         let written = prefix.write_fmt(arguments);
         let Prefix(row) = prefix;
@@ -83,63 +77,88 @@ impl<const N: usize> ArrayString<N> {
         Ok(is_cut)
     }
 
-    /// Appends all characters of an iterator, or none. [`extend_chars`](Self::extend_chars) keeps those that fit.
+    /// Appends all characters of an iterator, or none.
     ///
     /// # Errors
     ///
-    /// Returns [`Err(OutOfBounds)`](crate::error::OutOfBounds) if not all of them fit. The text is then unchanged. It is so, too, where
+    /// Returns [`OutOfBounds`] at the first character that does not fit, so the iterator may be endless. Nothing has changed then, nor if
     /// the iterator panics.
-    ///
-    /// The iterator may be endless: the call stops at the first character that does not fit.
     ///
     /// # Examples
     ///
     /// ```
     /// use arraystring::{ArrayString, OutOfBounds};
     ///
-    /// let mut string = ArrayString::<4>::from("a");
+    /// let mut string = ArrayString::<4>::try_from_str("a")?;
     /// assert_eq!(string.try_extend_chars("bcde".chars()), Err(OutOfBounds));
     /// assert_eq!(string, "a");
     /// assert_eq!(string.try_extend_chars("bé".chars()), Ok(()));
     /// assert_eq!(string, "abé");
+    /// # Ok::<(), OutOfBounds>(())
     /// ```
     #[doc(alias = "extend")]
     #[inline]
-    pub fn try_extend_chars<I: IntoIterator<Item = char>>(&mut self, characters: I) -> Result<(), OutOfBounds> {
+    pub fn try_extend_chars(&mut self, characters: impl IntoIterator<Item = char>) -> Result<(), OutOfBounds> {
         let row = Row::behind(self);
         characters.into_iter().try_for_each(|ch| row.string.try_push(ch))?;
         row.keep();
         Ok(())
     }
 
-    /// Appends all texts of an iterator, or none. [`extend_strs`](Self::extend_strs) keeps what fits.
+    /// Appends all texts of an iterator, or none.
     ///
     /// # Errors
     ///
-    /// Returns [`Err(OutOfBounds)`](crate::error::OutOfBounds) if not all of them fit. The text is then unchanged. It is so, too, where
-    /// the iterator panics.
-    ///
-    /// The iterator may be endless: the call stops at the first piece that does not fit. It does not return if empty pieces come
-    /// without an end.
+    /// Returns [`OutOfBounds`] at the first piece that does not fit, so the iterator may be endless, if its pieces are not all empty.
+    /// Nothing has changed then, nor if the iterator panics.
     ///
     /// # Examples
     ///
     /// ```
     /// use arraystring::{ArrayString, OutOfBounds};
     ///
-    /// let mut string = ArrayString::<4>::from("a");
+    /// let mut string = ArrayString::<4>::try_from_str("a")?;
     /// assert_eq!(string.try_extend_strs(["bc", "de"]), Err(OutOfBounds));
     /// assert_eq!(string, "a");
     /// assert_eq!(string.try_extend_strs(["b", "é"]), Ok(()));
     /// assert_eq!(string, "abé");
+    /// # Ok::<(), OutOfBounds>(())
     /// ```
     #[doc(alias = "extend")]
     #[inline]
-    pub fn try_extend_strs<U: AsRef<str>, I: IntoIterator<Item = U>>(&mut self, pieces: I) -> Result<(), OutOfBounds> {
+    pub fn try_extend_strs(&mut self, pieces: impl IntoIterator<Item = impl AsRef<str>>) -> Result<(), OutOfBounds> {
         let row = Row::behind(self);
-        pieces.into_iter().try_for_each(|piece| row.string.try_push_str(piece))?;
+        pieces.into_iter().try_for_each(|piece| row.string.try_push_str(piece.as_ref()))?;
         row.keep();
         Ok(())
+    }
+
+    /// Appends the longest prefix of the characters that fits, and returns whether one was left, which is the last that the iterator is
+    /// asked for. If the iterator panics, the text has the characters before that.
+    ///
+    /// ```
+    /// let mut string = arraystring::ArrayString::<4>::try_from_str("a").unwrap();
+    /// assert!(string.extend_chars_truncate('b'..='z'));
+    /// assert_eq!(string, "abcd");
+    /// ```
+    #[doc(alias = "extend")]
+    #[inline]
+    pub fn extend_chars_truncate(&mut self, characters: impl IntoIterator<Item = char>) -> bool {
+        characters.into_iter().any(|ch| self.try_push(ch).is_err())
+    }
+
+    /// Appends the longest prefix of whole characters of the joined pieces that fits, and returns whether anything was left of the last
+    /// piece that the iterator was asked for. If the iterator panics, the text has the pieces before that.
+    ///
+    /// ```
+    /// let mut string = arraystring::ArrayString::<8>::try_from_str("one").unwrap();
+    /// assert!(string.extend_strs_truncate([" two", " three"]));
+    /// assert_eq!(string, "one two ");
+    /// ```
+    #[doc(alias = "extend")]
+    #[inline]
+    pub fn extend_strs_truncate(&mut self, pieces: impl IntoIterator<Item = impl AsRef<str>>) -> bool {
+        pieces.into_iter().any(|piece| !self.push_str_truncate(piece.as_ref()).is_empty())
     }
 }
 
@@ -147,7 +166,7 @@ impl<const N: usize> ArrayString<N> {
 struct Row<'a, const N: usize> {
     string: &'a mut ArrayString<N>,
     /// The length of the text before it.
-    len: u8,
+    len: usize,
     /// Whether no piece was refused or cut: a `Display` may pass over that, and be `Ok`.
     is_whole: bool,
 }
@@ -183,8 +202,7 @@ impl<const N: usize> Write for Prefix<'_, N> {
     fn write_str(&mut self, piece: &str) -> fmt::Result {
         let Prefix(row) = self;
         if row.is_whole {
-            row.is_whole = piece.len() <= usize::from(row.string.remaining_capacity());
-            row.string.push_str(piece);
+            row.is_whole = row.string.push_str_truncate(piece).is_empty();
         }
         if row.is_whole { Ok(()) } else { Err(fmt::Error) }
     }

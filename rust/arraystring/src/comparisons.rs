@@ -1,0 +1,46 @@
+//! How a string is compared with a `str`: by its text.
+//!
+//! A `str` has no order with a string on its right. With one, `"a" < &t` of a `String` and `s < t.as_ref()` would no longer be compiled in
+//! a program that has this crate, since std's own order of `str` is then not the only one.
+
+use core::cmp::Ordering;
+
+use crate::ArrayString;
+
+/// Implements a comparison with a text, on both sides.
+macro_rules! compared {
+    ($($text:ty),*) => {$(
+        impl<const N: usize> PartialEq<$text> for ArrayString<N> {
+            #[inline]
+            fn eq(&self, other: &$text) -> bool {
+                let other: &str = other;
+                self.as_str() == other
+            }
+        }
+
+        impl<const N: usize> PartialEq<ArrayString<N>> for $text {
+            #[inline]
+            fn eq(&self, other: &ArrayString<N>) -> bool {
+                other == self
+            }
+        }
+    )*};
+}
+
+compared!(str, &str);
+#[cfg(feature = "alloc")]
+compared!(alloc::string::String, alloc::borrow::Cow<'_, str>);
+
+/// Implements an order with a text on the right.
+macro_rules! ordered {
+    ($($text:ty),*) => {$(
+        impl<const N: usize> PartialOrd<$text> for ArrayString<N> {
+            #[inline]
+            fn partial_cmp(&self, other: &$text) -> Option<Ordering> {
+                self.as_str().partial_cmp(other)
+            }
+        }
+    )*};
+}
+
+ordered!(str, &str);

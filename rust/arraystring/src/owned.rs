@@ -1,0 +1,86 @@
+//! Strings made of what is allocated, and what is allocated made of strings, behind the feature `alloc`.
+//!
+//! `Box<str>`, `Rc<str>` and `Arc<str>` are made of no borrowed string. If they were, `Box::<str>::from(text.as_ref())` would no longer be
+//! compiled in a program that has this crate, since `From<&str>` is then not the only one.
+
+use alloc::borrow::Cow;
+use alloc::boxed::Box;
+use alloc::rc::Rc;
+use alloc::string::String;
+use alloc::sync::Arc;
+use alloc::vec::Vec;
+
+use crate::{ArrayString, OutOfBounds};
+
+/// Implements that a string is made of a text, if it fits.
+macro_rules! made_of {
+    ($($text:ty),*) => {$(
+        impl<const N: usize> TryFrom<$text> for ArrayString<N> {
+            type Error = OutOfBounds;
+
+            #[inline]
+            fn try_from(text: $text) -> Result<Self, OutOfBounds> {
+                Self::try_from_str(&text)
+            }
+        }
+    )*};
+}
+
+made_of!(String, &String, Box<str>, Cow<'_, str>);
+
+/// Implements a copy of the text.
+macro_rules! copied {
+    ($($string:ty => $copy:ty: $borrowed:ident;)*) => {$(
+        impl<const N: usize> From<$string> for $copy {
+            #[inline]
+            fn from(string: $string) -> Self {
+                string.$borrowed().into()
+            }
+        }
+    )*};
+}
+
+copied! {
+    ArrayString<N> => String: as_str;
+    &ArrayString<N> => String: as_str;
+    ArrayString<N> => Box<str>: as_str;
+    ArrayString<N> => Rc<str>: as_str;
+    ArrayString<N> => Arc<str>: as_str;
+    ArrayString<N> => Vec<u8>: as_bytes;
+    &ArrayString<N> => Vec<u8>: as_bytes;
+}
+
+impl<const N: usize> From<ArrayString<N>> for Cow<'_, str> {
+    #[inline]
+    fn from(string: ArrayString<N>) -> Self {
+        Cow::Owned(string.into())
+    }
+}
+
+impl<'a, const N: usize> From<&'a ArrayString<N>> for Cow<'a, str> {
+    #[inline]
+    fn from(string: &'a ArrayString<N>) -> Self {
+        Cow::Borrowed(string)
+    }
+}
+
+impl<const N: usize> Extend<ArrayString<N>> for String {
+    fn extend<I: IntoIterator<Item = ArrayString<N>>>(&mut self, strings: I) {
+        strings.into_iter().for_each(|string| self.push_str(&string));
+    }
+}
+
+/// Implements that strings are collected into one text.
+macro_rules! collected {
+    ($($text:ty),*) => {$(
+        impl<const N: usize> FromIterator<ArrayString<N>> for $text {
+            fn from_iter<I: IntoIterator<Item = ArrayString<N>>>(strings: I) -> Self {
+                let mut joined = String::new();
+                joined.extend(strings);
+                joined.into()
+            }
+        }
+    )*};
+}
+
+collected!(String, Box<str>, Cow<'_, str>);

@@ -1,0 +1,208 @@
+//! The type, and what is read of a string.
+
+use crate::OutOfBounds;
+use crate::leaf::Place;
+use crate::proved::string as core_of;
+
+/// A string of at most `N` bytes of UTF-8, stored inline: `N` is at most 255. Lengths, indices, ranges and capacities are `usize`, and
+/// count bytes.
+///
+/// A text *fits* if the string with it is not larger than the capacity. **No call loses a part of a text, unless its name says so:** a call
+/// whose name ends in `truncate` keeps the longest prefix of whole characters that fits, and returns what it left. Every other call
+/// refuses what does not fit, returns an error, and changes nothing.
+///
+/// A *boundary* is an index at which a character begins or the text ends. An index is *past* the text if it is greater than the length,
+/// and *inside* a character if it is less and no boundary.
+///
+/// An iterator is asked for no item behind the first that does not fit. If an iterator, a closure, a range or a `Display` of the caller
+/// panics, the text is whole: as it was, or with the items before that, as the call says.
+///
+/// # Examples
+///
+/// ```
+/// use arraystring::{ArrayString, OutOfBounds};
+///
+/// let mut name = ArrayString::<8>::try_from_str("ann")?;
+/// assert_eq!(name.try_push_str(" and bo"), Err(OutOfBounds)); // refused, and nothing changed
+/// assert_eq!(name.push_str_truncate(" and bo"), "bo"); // this is left
+/// assert_eq!(name, "ann and ");
+/// assert_eq!((name.len(), name.find('d'), &name[..3]), (8, Some(6), "ann"));
+/// # Ok::<(), OutOfBounds>(())
+/// ```
+///
+/// # Size
+///
+/// A string takes `N + 2` bytes, and is aligned to one.
+///
+/// ```
+/// use arraystring::{ArrayString, SmallString};
+///
+/// assert_eq!((size_of::<ArrayString<62>>(), size_of::<SmallString>()), (64, 25));
+/// ```
+///
+/// # Capacities above 255
+///
+/// They do not compile: each call that makes a string is an error of `cargo build` (`cargo check` does not see it).
+///
+/// ```compile_fail,E0080
+/// let string = arraystring::ArrayString::<256>::new();
+/// ```
+#[derive(Clone, Copy, PartialEq, Eq, PartialOrd, Ord, Hash)]
+pub struct ArrayString<const N: usize>(pub(crate) core_of::ArrayString<N>);
+
+/// Its capacity, and what it holds.
+///
+/// By `Deref` and `DerefMut` it also has the calls of `str`: `find`, `get`, `trim`, `chars`, `split_at`, `make_ascii_uppercase`, and
+/// each other.
+impl<const N: usize> ArrayString<N> {
+    /// The capacity in bytes, as a constant.
+    ///
+    /// ```
+    /// use arraystring::ArrayString;
+    ///
+    /// type Name = ArrayString<8>;
+    ///
+    /// assert_eq!([0u8; Name::CAPACITY].len(), 8);
+    /// ```
+    pub const CAPACITY: usize = {
+        assert!(
+            N <= 255,
+            "an `ArrayString` has at most 255 bytes: for more take that of arrayvec, or the `String` of heapless or std"
+        );
+        N
+    };
+
+    /// An empty string.
+    ///
+    /// ```
+    /// let string = arraystring::ArrayString::<8>::new();
+    /// assert_eq!((string.len(), string.as_str()), (0, ""));
+    /// ```
+    #[must_use]
+    #[inline(always)]
+    pub const fn new() -> Self {
+        Self::of(core_of::ArrayString::new())
+    }
+
+    /// The string of the core. Each string is made by this, so that none has a capacity above 255.
+    #[inline(always)]
+    pub(crate) const fn of(string: core_of::ArrayString<N>) -> Self {
+        let _ = Self::CAPACITY;
+        ArrayString(string)
+    }
+
+    /// The string of `text`, in a constant. Where it is no constant, [`try_from_str`](Self::try_from_str) is faster. The macro
+    /// [`arraystring!`](crate::arraystring) does not compile if the text does not fit.
+    ///
+    /// # Errors
+    ///
+    /// Returns [`OutOfBounds`] if `text` is larger than the capacity.
+    ///
+    /// # Examples
+    ///
+    /// ```
+    /// use arraystring::{ArrayString, OutOfBounds};
+    ///
+    /// const fn name_or(text: &str, other: ArrayString<8>) -> ArrayString<8> {
+    ///     match ArrayString::const_try_from_str(text) {
+    ///         Ok(name) => name,
+    ///         Err(OutOfBounds) => other,
+    ///     }
+    /// }
+    ///
+    /// const NAMES: [ArrayString<8>; 2] =
+    ///     [name_or("Zoé", ArrayString::new()), name_or("Maximilian", ArrayString::new())];
+    /// assert_eq!(NAMES, ["Zoé", ""]);
+    /// ```
+    #[inline]
+    pub const fn const_try_from_str(text: &str) -> Result<Self, OutOfBounds> {
+        if text.len() > Self::CAPACITY {
+            return Err(OutOfBounds);
+        }
+        let mut made = Self::new();
+        let (mut array, mut bytes): (&mut [Place], _) = (&mut made.0.array, text.as_bytes());
+        while let ([place, places @ ..], [byte, others @ ..]) = (array, bytes) {
+            *place = Place::new(*byte);
+            // So many bytes of the text are there, which fits by the test above. Behind the loop it is all of it.
+            made.0.size += 1;
+            (array, bytes) = (places, others);
+        }
+        Ok(made)
+    }
+
+    /// The capacity in bytes, which is `N`.
+    #[must_use]
+    #[inline(always)]
+    pub const fn capacity(&self) -> usize {
+        Self::CAPACITY
+    }
+
+    /// The length of the text in bytes.
+    #[must_use]
+    #[inline(always)]
+    pub const fn len(&self) -> usize {
+        self.0.len() as usize
+    }
+
+    /// Whether the text has no character.
+    #[must_use]
+    #[inline(always)]
+    pub const fn is_empty(&self) -> bool {
+        self.0.is_empty()
+    }
+
+    /// How many bytes can still be added: the capacity without the length.
+    ///
+    /// ```
+    /// let string = arraystring::ArrayString::<4>::try_from_str("aé").unwrap();
+    /// assert_eq!((string.len(), string.remaining_capacity()), (3, 1));
+    /// ```
+    #[must_use]
+    #[inline(always)]
+    pub const fn remaining_capacity(&self) -> usize {
+        N - self.len()
+    }
+
+    /// Whether no character can be added. If it returns `false`, a wide one may not fit all the same.
+    #[must_use]
+    #[inline(always)]
+    pub const fn is_full(&self) -> bool {
+        self.len() == N
+    }
+
+    /// The text, borrowed without a copy.
+    #[must_use]
+    #[inline(always)]
+    pub const fn as_str(&self) -> &str {
+        self.0.as_str()
+    }
+
+    /// The bytes of the text, borrowed without a copy.
+    #[must_use]
+    #[inline(always)]
+    pub const fn as_bytes(&self) -> &[u8] {
+        self.0.as_bytes()
+    }
+
+    /// The same text with room for `M` bytes. It can't fail, since it does not compile where `M` is less than `N`.
+    ///
+    /// ```
+    /// use arraystring::{ArrayString, SmallString};
+    ///
+    /// let name = SmallString::try_from_str("ann").unwrap();
+    /// let mut line: ArrayString<64> = name.widen();
+    /// assert_eq!(line.try_push_str(" was here, and wrote this on the wall"), Ok(()));
+    /// ```
+    ///
+    /// ```compile_fail,E0080
+    /// use arraystring::{ArrayString, SmallString};
+    ///
+    /// let narrow: ArrayString<8> = SmallString::new().widen();
+    /// ```
+    #[must_use]
+    #[inline]
+    pub fn widen<const M: usize>(&self) -> ArrayString<M> {
+        const { assert!(N <= M, "the capacity that is wanted is smaller: `try_from_str` may refuse the text") };
+        ArrayString::of(core_of::ArrayString::from_str_truncate(self.as_str()))
+    }
+}
