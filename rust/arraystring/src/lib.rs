@@ -1,3 +1,4 @@
+#![doc = "[MOVING.md]: moving\n"]
 #![doc = include_str!("../README.md")]
 #![no_std]
 #![cfg_attr(docsrs, feature(doc_cfg))]
