@@ -8,8 +8,8 @@ use crate::{ArrayString, Error, OutOfBounds, Utf8, Utf16};
 
 /// # Strings made, whole or not at all
 ///
-/// Their contracts are in `crates/arraystring_core/src/array_string/construct.rt` and `utf16.rt` of the repository, except that the lossy
-/// forms and `try_from_format` have none.
+/// Their contracts are in `crates/arraystring_core/src/array_string/construct.rt` and `utf16.rt` of the repository, except that
+/// `try_from_iterator`, the lossy forms and `try_from_format` have none.
 impl<const N: usize> ArrayString<N> {
     /// The string of `text`. So do `parse` and `try_from`.
     ///
@@ -203,7 +203,8 @@ impl<const N: usize> ArrayString<N> {
 
 /// # Strings made of as much as fits
 ///
-/// Their contracts are in the same files, under the names without `truncate`; `from_utf8_lossy_truncate` has none.
+/// Their contracts are in the same files, under the names without `truncate`, except that `from_iterator_truncate` and
+/// `from_utf8_lossy_truncate` have none.
 impl<const N: usize> ArrayString<N> {
     /// The longest prefix of whole characters of `text` that fits.
     ///
