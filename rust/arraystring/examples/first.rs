@@ -5,7 +5,7 @@ use arraystring::{ArrayString, OutOfBounds};
 fn main() -> Result<(), OutOfBounds> {
     let mut name = ArrayString::<8>::try_from_str("Zoé")?; // `é` takes two bytes
     println!("{:?}", name.try_push_str(" Amélie")); // prints: Err(OutOfBounds)
-    name.push_str(" Amélie"); // cuts
-    println!("{name} has {} bytes", name.len()); // prints: Zoé Am has 7 bytes
+    let rest = name.push_str_truncate(" Amélie");
+    println!("{name} has {} bytes, and {rest} is left", name.len()); // prints: Zoé Am has 7 bytes, and élie is left
     Ok(())
 }

@@ -271,8 +271,7 @@ const MAKES: &[&str] = &[
 
 #[test]
 fn a_capacity_above_255_is_an_error_of_each_call_that_makes_a_string() {
-    let mut rows: Vec<_> =
-        MAKES.iter().map(|call| wide(&format!("type Wide = ArrayString<LARGE>; {call};"))).collect();
+    let mut rows: Vec<_> = MAKES.iter().map(|call| wide(&format!("type Wide = ArrayString<LARGE>; {call};"))).collect();
     rows.extend([
         wide("const MADE: ArrayString<LARGE> = arraystring!(\"\"); MADE;"),
         wide("static MADE: ArrayString<LARGE> = ArrayString::new(); MADE.len();"),

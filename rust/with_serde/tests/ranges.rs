@@ -5,11 +5,11 @@ use std::fmt::{self, Display};
 
 use arraystring::ArrayString;
 use inputs::{GIVEN, cut, texts_of};
+use serde::Deserialize;
 use serde::de::value::{
     BorrowedBytesDeserializer, BorrowedStrDeserializer, BytesDeserializer, CharDeserializer, StrDeserializer,
     StringDeserializer, U64Deserializer, UnitDeserializer,
 };
-use serde::Deserialize;
 use serde::de::{Error, Expected, IntoDeserializer, Unexpected};
 use with_serde::Truncated;
 

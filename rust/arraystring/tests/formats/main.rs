@@ -142,11 +142,7 @@ fn an_error_prints_its_words_under_each_format() {
     let utf8 = "not UTF-8, or an index inside a character";
     prints_its_words(Error::Utf8, utf8, derived::Error::Utf8);
     prints_its_words(Error::Utf16, "not UTF-16", derived::Error::Utf16);
-    prints_its_words(
-        Error::OutOfBounds,
-        "larger than the capacity, or outside the text",
-        derived::Error::OutOfBounds,
-    );
+    prints_its_words(Error::OutOfBounds, "larger than the capacity, or outside the text", derived::Error::OutOfBounds);
     prints_its_words(Utf8, utf8, derived::Error::Utf8);
     prints_its_words(Utf16, "not UTF-16", derived::Error::Utf16);
     prints_its_words(OutOfBounds, "larger than the capacity", derived::Error::OutOfBounds);
@@ -164,7 +160,10 @@ fn what_a_format_prints() {
     assert_eq!(format!("{string:.0}|{string:.2}|{string:.9}|{string:*^7.3}"), "|aé|aé€🤔|**aé€**");
     assert_eq!(format!("{string:?}|{string:#?}|{:?}", Some(string)), r#""aé€🤔"|"aé€🤔"|Some("aé€🤔")"#);
     assert_eq!(format!("{quoted:?}|{:?}", [quoted]), r#""a\"b\n"|["a\"b\n"]"#);
-    assert_eq!(format!("{OutOfBounds:>26}|{OutOfBounds:.6}|{OutOfBounds:?}"), "  larger than the capacity|larger|OutOfBounds");
+    assert_eq!(
+        format!("{OutOfBounds:>26}|{OutOfBounds:.6}|{OutOfBounds:?}"),
+        "  larger than the capacity|larger|OutOfBounds"
+    );
 }
 
 /// Asserts that a `write!` of a padded text leaves what it leaves of a `str`, and refuses what does not fit. Returns whether it did.

@@ -8,9 +8,10 @@ use crate::inputs::{behind, hash_of, is_beside, texts_of};
 
 /// Texts that differ in their lengths, in one byte, at the first place or the last, and in the width of a character.
 fn texts() -> Vec<String> {
-    let mut texts: Vec<String> = ["", "\0", "\0\0", "a", "b", "aa", "ab", "ba", "A", "é", "è", "€", "\u{FFFF}", "\u{10000}"]
-        .map(String::from)
-        .into();
+    let mut texts: Vec<String> =
+        ["", "\0", "\0\0", "a", "b", "aa", "ab", "ba", "A", "é", "è", "€", "\u{FFFF}", "\u{10000}"]
+            .map(String::from)
+            .into();
     texts.extend([1, 7, 8, 9, 15, 16, 17].into_iter().flat_map(texts_of));
     for len in [7, 8, 9, 16] {
         let ends = ["a", "b", "\0"].map(|end| format!("{}{end}", "m".repeat(len - 1)));

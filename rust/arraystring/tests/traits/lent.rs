@@ -119,7 +119,8 @@ fn a_part_by_each_kind_of_range() {
                 let string = behind::<N>((N - len) / 2, &text);
                 is_part!(string, &text, ..);
                 for start in 0..=len + 1 {
-                    for end in [start, start + 1, start + 4, (start + len) / 2, len, len + 1, 255, 256, usize::MAX - 1] {
+                    for end in [start, start + 1, start + 4, (start + len) / 2, len, len + 1, 255, 256, usize::MAX - 1]
+                    {
                         is_part!(string, &text, start..end);
                         is_part!(string, &text, start..=end);
                         is_part!(string, &text, start..);

@@ -18,7 +18,8 @@ fn are_whole<const N: usize, E: Debug + PartialEq>(made: &[Result<ArrayString<N>
 
 /// Asserts what each conversion makes of a text.
 fn is_made<const N: usize>(text: &str) {
-    let made = [text.parse(), str::parse(text), ArrayString::try_from(text), text.try_into(), ArrayString::try_from_str(text)];
+    let made =
+        [text.parse(), str::parse(text), ArrayString::try_from(text), text.try_into(), ArrayString::try_from_str(text)];
     are_whole::<N, _>(&made, text, OutOfBounds);
     #[cfg(feature = "alloc")]
     {
