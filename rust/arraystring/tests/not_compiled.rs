@@ -1,5 +1,5 @@
-//! What must not compile. Each row is a program of one line that rustc refuses, for the reason that the row names, and beside it the same
-//! program with the call to write instead, which it takes. So a row can't fail for another reason, such as a name that is misspelt.
+//! What must not compile. Each row is a program of one line that rustc refuses, for the reason that the row names, and beside it the line
+//! with the call to write instead, which rustc takes. So a row can't fail for another reason, such as a name that is misspelt.
 //!
 //! A capacity above 255 is an error of what `cargo build` does and `cargo check` leaves out. So each program has a `main`, and rustc makes
 //! machine code of it.
@@ -9,6 +9,7 @@ use std::io::Write;
 use std::path::{Path, PathBuf};
 use std::process::{Command, Stdio, id};
 use std::sync::atomic::{AtomicUsize, Ordering};
+use std::sync::{Arc, Mutex, PoisonError, Weak};
 use std::thread;
 
 /// Two lines of a program, of which rustc takes the second alone, and what it says of the first.
@@ -37,8 +38,19 @@ fn rustc() -> Command {
 }
 
 impl Library {
-    fn made(test: &str) -> Library {
-        let folder = Path::new(env!("CARGO_TARGET_TMPDIR")).join(format!("{test}-{}", id()));
+    /// The library of the tests that run now.
+    fn shared() -> Arc<Library> {
+        static SHARED: Mutex<Weak<Library>> = Mutex::new(Weak::new());
+        let mut shared = SHARED.lock().unwrap_or_else(PoisonError::into_inner);
+        let library = shared.upgrade().unwrap_or_else(|| Arc::new(Library::made()));
+        *shared = Arc::downgrade(&library);
+        library
+    }
+
+    fn made() -> Library {
+        static COUNT: AtomicUsize = AtomicUsize::new(0);
+        let name = format!("not_compiled-{}-{}", id(), COUNT.fetch_add(1, Ordering::Relaxed));
+        let folder = Path::new(env!("CARGO_TARGET_TMPDIR")).join(name);
         fs::create_dir_all(&folder).expect("a folder");
         let source = Path::new(env!("CARGO_MANIFEST_DIR")).join("src/lib.rs");
         let mut command = rustc();
@@ -65,13 +77,15 @@ impl Library {
         said
     }
 
-    /// Asserts that of each row the first line is refused for its reason, and the second is taken. The programs begin with a head.
+    /// Asserts that of each row the first line is refused for its reason, and that the second is taken. The programs begin with a head.
     fn refuses(&self, head: &str, rows: &[Row], options: &[&str]) {
+        // One program has all that is taken, since rustc takes it only if it takes each line.
+        let right: String = rows.iter().map(|row| format!("{{ {} }}\n    ", row.right)).collect();
+        assert_eq!(self.said_of(head, &right, options), "");
         let next = AtomicUsize::new(0);
         let work = || {
             while let Some(row) = rows.get(next.fetch_add(1, Ordering::Relaxed)) {
-                is_the_reason(row, &self.said_of(head, &row.wrong, options));
-                assert_eq!(self.said_of(head, &row.right, options), "", "{}", row.right);
+                is_the_reason(row, &self.said_of(head, &format!("{{ {} }}", row.wrong), options));
             }
         };
         thread::scope(|scope| (0..4).map(|_| scope.spawn(work)).for_each(drop));
@@ -125,7 +139,7 @@ fn no_conversion_cuts() {
         let (wrong, right) = (format!("takes({given});"), format!("tries({given});"));
         rows.push(row("error[E0277]", of, &wrong, &right));
     }
-    Library::made("no_conversion_cuts").refuses(HEAD, &rows, &[]);
+    Library::shared().refuses(HEAD, &rows, &[]);
 }
 
 #[test]
@@ -198,7 +212,7 @@ fn nothing_is_collected_or_added_by_a_name_that_cuts() {
             "let mut name = name(); name.try_push_str(\"ab\").unwrap();",
         ),
     ];
-    Library::made("nothing_is_collected").refuses(HEAD, &rows, &[]);
+    Library::shared().refuses(HEAD, &rows, &[]);
 }
 
 #[test]
@@ -224,7 +238,7 @@ fn no_call_has_the_name_of_one_of_std_that_would_cut() {
         let cause = format!("`{}` found for", name.expect("a call")).leak();
         row("error[E0599]", cause, &format!("{wrong};"), &format!("{right}.unwrap();"))
     });
-    Library::made("no_call_has_the_name").refuses(HEAD, &rows, &[]);
+    Library::shared().refuses(HEAD, &rows, &[]);
 }
 
 /// What is said of a capacity above 255.
@@ -284,9 +298,11 @@ fn a_capacity_above_255_is_an_error_of_each_call_that_makes_a_string() {
         wide("ArrayString::<LARGE>::CAPACITY;"),
         wide("if std::env::args().count() > 1000 { ArrayString::<LARGE>::new(); }"),
     ]);
-    let library = Library::made("a_capacity_above_255");
+    let library = Library::shared();
     library.refuses(HEAD, &rows, &[]);
-    library.refuses(HEAD, &rows, &["-C", "opt-level=3"]);
+    // What is optimised is no less refused.
+    library.refuses(HEAD, &rows[..3], &["-C", "opt-level=3"]);
+    library.refuses(HEAD, &rows[rows.len() - 3..], &["-C", "opt-level=3"]);
     let capacities = ["257", "300", "511", "512", "1000", "65536", "65791"];
     let new = |capacity: &str| format!("ArrayString::<{capacity}>::new();");
     let rows = capacities.map(|capacity| row("error[E0080]", TOO_LARGE, &new(capacity), &new("255")));
@@ -300,7 +316,7 @@ fn a_string_does_not_go_into_a_smaller_capacity() {
         row("error[E0080]", "the capacity that is wanted is smaller", &line(to), &line(from))
     };
     let rows = [narrow(8, 7), narrow(8, 0), narrow(1, 0), narrow(255, 254), narrow(64, 8)];
-    Library::made("a_string_does_not_go").refuses(HEAD, &rows, &[]);
+    Library::shared().refuses(HEAD, &rows, &[]);
 }
 
 /// Each call that returns a `Result`.
@@ -358,5 +374,5 @@ fn a_result_that_nobody_uses_is_an_error_where_it_is_denied() {
     for call in ["Name::from_str_truncate(\"\")", "Name::from_chars_truncate([])", "name.widen::<9>()", "name.len()"] {
         rows.push(unused(call, "error: unused return value of"));
     }
-    Library::made("a_result_that_nobody_uses").refuses(&head, &rows, &["-D", "unused-must-use"]);
+    Library::shared().refuses(&head, &rows, &["-D", "unused-must-use"]);
 }
