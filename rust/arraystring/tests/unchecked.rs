@@ -2,7 +2,6 @@
 //! in each build. With the first one that it does not allow it panics where it is tested, and says what it requires: with debug assertions,
 //! with the feature `checked`, and where a `usize` has not 64 bits. Elsewhere no such call is made.
 
-use std::fmt::Debug;
 use std::hint::black_box;
 use std::panic::{AssertUnwindSafe, catch_unwind};
 
@@ -24,9 +23,10 @@ macro_rules! at_some_capacities {
 
 /// Asserts that a call whose requirement is broken says which one, where it is tested.
 #[track_caller]
-fn refused<T: Debug>(requirement: &str, call: impl FnOnce() -> T) {
+fn refused<T>(requirement: &str, call: impl FnOnce() -> T) {
     if IS_TESTED {
-        let why = catch_unwind(AssertUnwindSafe(|| black_box(call()))).expect_err("no panic");
+        // (what was made against its requirement is not to be printed)
+        let why = catch_unwind(AssertUnwindSafe(|| _ = black_box(call()))).expect_err("no panic");
         let why = why.downcast_ref::<&str>().expect("a text");
         assert_eq!(*why, format!("it is required that `{requirement}`"));
     }
