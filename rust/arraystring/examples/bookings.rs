@@ -3,12 +3,11 @@
 
 use std::collections::{BTreeMap, HashMap};
 use std::error::Error as StdError;
-use std::fmt::{self, Write};
+use std::fmt;
 use std::num::ParseIntError;
 use std::str::FromStr;
 
-use arraystring::error::OutOfBounds;
-use arraystring::{ArrayString, Error};
+use arraystring::{ArrayString, Error, OutOfBounds, arraystring, try_format};
 
 /// The name of a guest, of at most 8 bytes.
 type Name = ArrayString<8>;
@@ -47,7 +46,7 @@ impl FromStr for Booking {
     }
 }
 
-/// A name is parsed whole or refused; `Name::from` would cut it.
+/// A name is parsed whole or refused: no call cuts it unless its name says `truncate`.
 impl From<OutOfBounds> for Refused {
     fn from(_: OutOfBounds) -> Self {
         Refused::LongName
@@ -94,29 +93,28 @@ fn count(bookings: &[Booking]) -> HashMap<Name, u32> {
 /// The same in order. The order is that of the bytes, as it is for `str`: `é` comes behind `z`.
 fn in_order(seats: HashMap<Name, u32>) -> BTreeMap<Name, u32> {
     let mut sorted = BTreeMap::from_iter(seats);
-    sorted.insert(Name::from("éva"), 1);
+    sorted.insert(arraystring!("éva"), 1);
     let names: Vec<&str> = sorted.keys().map(Name::as_str).collect();
     assert_eq!(names.join(" "), "ann jörg zoé éva");
 
-    let behind_j = sorted.range(Name::from("j")..).map(|(_, seats)| seats).sum::<u32>();
+    let j: Name = arraystring!("j");
+    let behind_j = sorted.range(j..).map(|(_, seats)| seats).sum::<u32>();
     assert_eq!(behind_j, 4 + 4 + 1);
     assert_eq!(sorted.remove("éva"), Some(1));
     sorted
 }
 
-/// A row of a fixed width.
+/// A row of a fixed width. It is refused where the seats need more room.
 fn row(name: &Name, seats: u32) -> Result<ArrayString<12>, fmt::Error> {
-    let mut row = ArrayString::new();
-    write!(row, "{name:<8}{seats:>2}")?;
-    Ok(row)
+    try_format!("{name:<8}{seats:>2}")
 }
 
 fn main() -> Result<(), Box<dyn StdError>> {
     let sorted = in_order(count(&bookings()?));
     let rows = sorted.iter().map(|(name, seats)| row(name, *seats)).collect::<Result<Vec<_>, _>>()?;
     assert_eq!(rows, ["ann      2", "jörg     4", "zoé      4"]);
-    assert_eq!(row(&Name::from("ann"), 12_345), Err(fmt::Error));
-    assert_eq!(sorted.get(&Name::from("ann")), Some(&2));
+    assert_eq!(row(&"ann".parse()?, 12_345), Err(fmt::Error));
+    assert_eq!(sorted.get("ann"), Some(&2));
     println!("all as it was worked out");
     Ok(())
 }

@@ -19,7 +19,7 @@ enum Key {
 #[derive(Default)]
 struct Line {
     text: Name,
-    cursor: u8,
+    cursor: usize,
 }
 
 impl Line {
@@ -36,9 +36,8 @@ impl Line {
     fn press(&mut self, key: Key) -> Result<(), Error> {
         match key {
             Key::Char(ch) => {
-                let len = self.text.len();
                 self.text.try_insert(self.cursor, ch)?;
-                self.cursor += self.text.len() - len;
+                self.cursor += ch.len_utf8();
             }
             Key::Left => self.cursor = self.before_cursor()?,
             Key::Home => self.cursor = 0,
@@ -52,9 +51,9 @@ impl Line {
     }
 
     /// Where the character before the cursor begins.
-    fn before_cursor(&self) -> Result<u8, Error> {
+    fn before_cursor(&self) -> Result<usize, Error> {
         let (at, _) = self.text[..self.cursor].char_indices().next_back().ok_or(Error::OutOfBounds)?;
-        u8::try_from(at).map_err(|_| Error::OutOfBounds)
+        Ok(at)
     }
 }
 

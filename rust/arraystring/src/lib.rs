@@ -15,27 +15,32 @@ extern crate std;
 
 #[macro_use]
 mod leaf;
-mod comparisons;
+#[rustfmt::skip]
+mod proved;
+
+// The reference shows the calls of a string in the order of these: first what most programs need, and last what is unchecked.
+mod string;
+
 mod construct;
-mod drain;
 mod edit;
-mod error;
+mod whole;
+
 mod lent;
+mod unchecked;
+
+mod comparisons;
+mod drain;
+mod error;
 mod macros;
 #[cfg(feature = "alloc")]
 mod owned;
 #[cfg(feature = "std")]
 mod paths;
-#[rustfmt::skip]
-mod proved;
 #[cfg(feature = "serde")]
 mod serde_traits;
-mod string;
 mod traits;
 #[cfg(feature = "serde")]
 pub mod truncate;
-mod unchecked;
-mod whole;
 
 pub use drain::Drain;
 pub use error::{Error, OutOfBounds, Utf8, Utf16};

@@ -4,7 +4,7 @@
 use std::panic::{catch_unwind, set_hook};
 use std::str::from_utf8;
 
-use arraystring::{ArrayString, CacheString, MaxString, SmallString, arraystring};
+use arraystring::{ArrayString, CacheString, MaxString, OutOfBounds, SmallString, arraystring};
 use inputs::at_capacities;
 
 mod inputs;
@@ -24,8 +24,7 @@ const fn repeated<const LEN: usize>(bytes: [u8; LEN]) -> [u8; 512] {
 
 /// The longest prefix of whole characters of a text that takes at most so many bytes, and no more than a capacity.
 const fn prefix<const N: usize, const TEXT: usize>(size: usize) -> &'static str {
-    let capacity = ArrayString::<N>::capacity() as usize;
-    let mut end = if size < capacity { size } else { capacity };
+    let mut end = if size < N { size } else { N };
     loop {
         match from_utf8(TEXTS[TEXT].split_at(end).0) {
             Ok(text) => return text,
@@ -50,10 +49,10 @@ fn are_constants<const N: usize, const TEXT: usize>() {
     for (size, string) in made.as_flattened().iter().enumerate() {
         let wanted = prefix::<N, TEXT>(size);
         assert_eq!(Ok(*string), ArrayString::try_from_str(wanted), "{N}");
-        assert_eq!((string.as_str(), string.len() as usize), (wanted, wanted.len()), "{N}");
-        let mut filled = *string;
-        filled.push_str("~".repeat(300));
-        assert_eq!(filled.as_str(), wanted.to_string() + &"~".repeat(N.min(255) - wanted.len()), "{N}");
+        assert_eq!((string.as_str(), string.len()), (wanted, wanted.len()), "{N}");
+        let (mut filled, more) = (*string, "~".repeat(300));
+        assert_eq!(filled.push_str_truncate(&more).len(), 300 - (N - wanted.len()), "{N}");
+        assert_eq!(filled.as_str(), wanted.to_string() + &"~".repeat(N - wanted.len()), "{N}");
     }
 }
 
@@ -64,14 +63,15 @@ fn a_constant_of_each_length() {
         are_constants::<N, 1>();
     }
     // The compiler makes each of these, so not at all capacities of the table.
-    at_capacities!(at: 0 1 2 3 4 23 63 254 255 256 300);
+    at_capacities!(at: 0 1 2 3 4 23 63 254 255);
 }
 
 /// Asserts that a text is made where it fits, and that the call panics elsewhere.
 fn is_made_or_panics<const N: usize>(text: &str) {
     let made = catch_unwind(|| ArrayString::<N>::of_constant(text)).ok();
-    assert_eq!(made.is_some(), text.len() <= N.min(255), "{N}: {text}");
+    assert_eq!(made.is_some(), text.len() <= N, "{N}: {text}");
     assert_eq!(made, ArrayString::try_from_str(text).ok(), "{N}: {text}");
+    assert_eq!(made.ok_or(OutOfBounds), ArrayString::const_try_from_str(text), "{N}: {text}");
 }
 
 #[test]
@@ -102,7 +102,7 @@ fn each_character_is_made_in_a_constant() {
 #[test]
 fn the_capacity_is_that_of_the_type() {
     const GREETING: ArrayString<8> = arraystring!("hello");
-    static KEY: CacheString = CacheString(arraystring!(concat!("user:", 42)));
+    static KEY: CacheString = arraystring!(concat!("user:", 42));
     const NAMES: [SmallString; 2] = [arraystring!("aé"), arraystring!("€🤔")];
     const LARGEST: MaxString = arraystring!(prefix::<255, 0>(300));
     const NONE: ArrayString<0> = arraystring!("");
@@ -118,9 +118,23 @@ fn the_capacity_is_that_of_the_type() {
     let row = Row { name: arraystring!("hello") };
     assert_eq!((GREETING.as_str(), KEY.as_str(), NONE.as_str()), ("hello", "user:42", ""));
     assert_eq!((NAMES.map(|name| name.len()), LARGEST.len()), ([3, 7], 255));
-    assert_eq!((row.name, given(arraystring!("hello!"))), (GREETING.as_str().into(), "hello!".into()));
-    assert_eq!((of_any::<2>().as_str(), of_any::<300>().as_str()), ("ab", "ab"));
-    assert_eq!(arraystring::arraystring!("a") + "b", of_any::<2>());
+    assert_eq!((row.name.as_str(), given(arraystring!("hello!")).as_str()), ("hello", "hello!"));
+    assert_eq!((of_any::<2>().as_str(), of_any::<255>().as_str()), ("ab", "ab"));
+    assert_eq!(of_any::<2>(), arraystring::arraystring!("ab"));
+}
+
+/// What is read of a string is read in a constant, too.
+#[test]
+fn a_constant_is_read_in_constants() {
+    const NAME: SmallString = arraystring!("aé");
+    const EMPTY: SmallString = SmallString::new();
+    const TEXT: &str = NAME.as_str();
+    const BYTES: &[u8] = NAME.as_bytes();
+    const ROOM: [u8; NAME.remaining_capacity()] = [0; NAME.capacity() - NAME.len()];
+    const TOLD: [bool; 4] = [NAME.is_empty(), NAME.is_full(), EMPTY.is_empty(), EMPTY.is_full()];
+    const REFUSED: bool = ArrayString::<2>::const_try_from_str(TEXT).is_err();
+    assert_eq!((TEXT, BYTES, ROOM.len()), ("aé", "aé".as_bytes(), 20));
+    assert_eq!((TOLD, REFUSED), ([false, false, true, false], true));
 }
 
 /// A program may have a module of its own that is named as a crate of the macros.

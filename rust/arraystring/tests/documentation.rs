@@ -1,282 +1,261 @@
-//! What the reference has to show, read off the sources of this crate: `cargo test` runs each example, but nothing there tells
-//! that an item has none.
+//! What the reference and the pages have to show, read off the sources of the face: `cargo test` runs each example, and rustc asks for a
+//! line of documentation, but nothing there tells that an example or a section is missing, or that a name is gone.
 
+use std::collections::{BTreeMap, BTreeSet};
 use std::fs;
-use std::mem::take;
 use std::path::Path;
 
-/// The files below a folder.
-fn files(folder: &Path) -> Vec<(String, String)> {
-    let (mut found, mut waiting) = (Vec::new(), vec![folder.to_path_buf()]);
-    while let Some(path) = waiting.pop() {
-        for entry in fs::read_dir(&path).expect("a folder") {
-            let path = entry.expect("an entry").path();
-            if path.is_dir() {
-                waiting.push(path);
-            } else {
-                found.push((path.display().to_string(), fs::read_to_string(&path).expect("a text")));
-            }
-        }
-    }
-    found
+/// The sources by hand of what a program can name, in the order in which the reference shows them.
+fn face() -> Vec<(String, String)> {
+    let root = fs::read_to_string("src/lib.rs").expect("a text");
+    let modules =
+        root.lines().filter_map(|line| line.trim_start_matches("pub ").strip_prefix("mod ")?.strip_suffix(';'));
+    let modules: Vec<_> = modules.filter(|module| !["leaf", "proved"].contains(module)).collect();
+    assert!(modules.len() > 10, "{modules:?}");
+    modules
+        .iter()
+        .map(|module| (module.to_string(), fs::read_to_string(format!("src/{module}.rs")).expect("a text")))
+        .collect()
 }
 
-/// An item: its head, and its documentation line by line.
-struct Item {
-    file: String,
+/// A public function, with its documentation and with that of the block in which it stands.
+struct Call {
+    name: String,
+    module: String,
     head: String,
     docs: Vec<String>,
-    /// Whether it is a macro for other crates.
-    is_exported: bool,
+    of_block: String,
 }
 
-impl Item {
+impl Call {
     /// Whether an example of it asserts.
     fn asserts(&self) -> bool {
-        let mut opened = None;
+        let mut is_inside = false;
         self.docs.iter().any(|line| {
-            if line.starts_with("```") {
-                opened = if opened.is_none() { Some(line.as_str()) } else { None };
-            }
-            opened == Some("```") && line.contains("assert")
+            is_inside ^= line.starts_with("```");
+            is_inside && line.contains("assert")
         })
     }
 
-    /// The name of a type, if it is one that is private.
-    fn private_type(&self) -> Option<&str> {
-        let name = self.head.trim_start().strip_prefix("struct ")?;
-        name.split(|ch: char| !ch.is_alphanumeric()).next()
-    }
-
-    /// Whether the reference shows it: a type, a call of a type, an impl of a trait for a type that is not private, a macro that is
-    /// exported, or a function that the root or `utils` names.
-    fn is_shown(&self, root: &[&str], private: &[&str]) -> bool {
-        let words: Vec<_> = self.head.split_whitespace().filter(|word| !["const", "unsafe"].contains(word)).collect();
-        let is_method = self.head.starts_with(' ');
-        match words[..] {
-            ["pub", "fn", name, ..] => is_method || root.contains(&name.split(['(', '<']).next().unwrap_or(name)),
-            ["pub", "struct" | "enum" | "type", ..] => true,
-            ["macro_rules!", ..] => self.is_exported,
-            [first, ..] if first.starts_with("impl") => match self.head.split_once(" for ") {
-                Some((_, of)) => {
-                    !private.contains(&of.split(|ch: char| !ch.is_alphanumeric()).next().unwrap_or_default())
-                }
-                None => false,
-            },
-            _ => false,
-        }
+    /// Whether it has a section.
+    fn has(&self, title: &str) -> bool {
+        self.docs.iter().any(|line| line.strip_prefix("# ") == Some(title))
     }
 }
 
-/// The items of a source.
-fn items_of(file: &str, text: &str) -> Vec<Item> {
-    let (mut items, mut docs, mut is_exported) = (Vec::new(), Vec::new(), false);
-    for line in text.lines() {
-        match line.trim_start().strip_prefix("///") {
-            Some(words) => docs.push(words.strip_prefix(' ').unwrap_or(words).to_string()),
-            None if line.trim_start().starts_with("#[") => is_exported |= line == "#[macro_export]",
-            None => {
-                let (file, head) = (file.to_string(), line.to_string());
-                items.push(Item { file, head, docs: take(&mut docs), is_exported: take(&mut is_exported) });
+/// The public functions of the face, but those that the reference does not show.
+fn calls() -> Vec<Call> {
+    let (mut calls, mut docs, mut of_block, mut is_hidden) = (Vec::new(), Vec::new(), String::new(), false);
+    for (module, text) in face() {
+        for line in text.lines() {
+            let bare = line.trim_start();
+            if let Some(words) = bare.strip_prefix("///") {
+                docs.push(words.trim_start().to_string());
+            } else if bare.starts_with("#[") {
+                is_hidden |= bare == "#[doc(hidden)]";
+            } else {
+                let (docs, is_hidden) = (std::mem::take(&mut docs), std::mem::take(&mut is_hidden));
+                let name = line
+                    .split_once("fn ")
+                    .filter(|_| bare.starts_with("pub ") && !bare.starts_with("pub("))
+                    .map(|(_, it)| it);
+                if line.starts_with("impl") {
+                    of_block = docs.join(" ");
+                } else if let Some(name) = name.filter(|_| !is_hidden) {
+                    let name = name.split(['(', '<']).next().expect("a name").to_string();
+                    let (module, head, of_block) = (module.clone(), bare.to_string(), of_block.clone());
+                    calls.push(Call { name, module, head, docs, of_block });
+                }
             }
         }
     }
-    items
+    assert!(calls.len() > 50, "{} calls", calls.len());
+    calls
 }
 
-/// Whether a file is of the core, which the reference does not show. So what the reference has to have is not sought there, until the calls
-/// of the crate are made of the core.
-fn is_core(file: &str) -> bool {
-    file.starts_with("src/proved") || file == "src/leaf.rs"
-}
-
-/// The items of all sources.
-fn items() -> Vec<Item> {
-    let sources = files(Path::new("src")).into_iter().filter(|(file, _)| !is_core(file));
-    sources.flat_map(|(file, text)| items_of(&file, &text)).collect()
-}
+/// Calls that say all in a line, so that an example would only repeat it.
+const WITHOUT_EXAMPLE: &[&str] = &[
+    "as_bytes",
+    "as_str",
+    "as_str",
+    "capacity",
+    "clear",
+    "deserialize",
+    "from_str_unchecked",
+    "from_utf8_unchecked",
+    "insert_str_unchecked",
+    "insert_unchecked",
+    "is_empty",
+    "is_full",
+    "len",
+    "push_str_unchecked",
+    "serialize",
+];
 
 #[test]
-fn each_item_has_an_example_that_asserts() {
-    let root = ["src/lib.rs", "src/utils.rs"].map(|file| fs::read_to_string(file).expect("a text")).concat();
-    let root: Vec<_> = root.split(|ch: char| !ch.is_alphanumeric() && ch != '_').collect();
-    let items = items();
-    let private: Vec<_> = items.iter().filter_map(Item::private_type).collect();
-    let shown: Vec<_> = items.iter().filter(|item| item.is_shown(&root, &private)).collect();
-    let without: Vec<_> = shown.iter().filter(|item| !item.asserts()).collect();
-    let told: Vec<_> = without.iter().map(|item| format!("{}: {}", item.file, item.head.trim())).collect();
-    assert!(told.is_empty(), "without an example that asserts:\n{}", told.join("\n"));
-    for head in [
-        "pub const fn new() -> Self {",
-        "impl fmt::Debug for Error {",
-        "pub unsafe fn shift<const N: usize>(",
-        "pub fn is_char_boundary<const N: usize>(",
-        "macro_rules! arraystring {",
-        "impl<const N: usize> Index<$range> for ArrayString<N> {",
-    ] {
-        assert!(shown.iter().any(|item| item.head.contains(head)), "`{head}` was not read");
+fn each_call_has_an_example_that_asserts() {
+    let mut without: Vec<_> = calls().into_iter().filter(|call| !call.asserts()).map(|call| call.name).collect();
+    without.sort_unstable();
+    assert_eq!(without, WITHOUT_EXAMPLE);
+}
+
+/// What a call refuses stands under `Errors`, and what it requires under `Safety`. No call but the index panics.
+#[test]
+fn each_refusal_has_its_section() {
+    for call in calls() {
+        let is_refusing = ["-> Result<", "-> fmt::Result"].iter().any(|it| call.head.contains(it));
+        assert_eq!(call.has("Errors"), is_refusing, "{}", call.name);
+        assert_eq!(call.has("Safety"), call.head.contains("unsafe fn "), "{}", call.name);
+        assert!(!call.has("Panics"), "{}", call.name);
+        assert_eq!(call.name.ends_with("_unchecked"), call.head.contains("unsafe fn "), "{}", call.name);
+    }
+    let panicking: Vec<_> = face().into_iter().filter(|(_, text)| text.contains("/// # Panics")).collect();
+    assert_eq!(panicking.iter().map(|(module, _)| module.as_str()).collect::<Vec<_>>(), ["lent"]);
+}
+
+/// The names that the tests of a folder have in their code.
+fn tried(folder: &Path, names: &mut BTreeSet<String>) {
+    for path in fs::read_dir(folder).expect("a folder").map(|entry| entry.expect("an entry").path()) {
+        if path.is_dir() {
+            tried(&path, names);
+        } else if !path.ends_with("documentation.rs") {
+            let text = fs::read_to_string(path).expect("a text");
+            let lines = text.lines().filter(|line| !line.trim_start().starts_with("//"));
+            let words = lines.flat_map(|line| line.split(|ch: char| !ch.is_alphanumeric() && ch != '_'));
+            names.extend(words.map(str::to_string));
+        }
     }
 }
 
+/// Those that are not are of serde: the repository tries them in `rust/with_serde`.
 #[test]
-fn what_became_of_a_precondition_replaces_it() {
-    for item in items() {
-        let heads = |title: &str| item.docs.iter().filter(|line| line.strip_prefix("# ") == Some(title)).count();
-        assert_eq!(heads("Precondition"), 0, "{}: {}", item.file, item.head);
-        let fates = heads("Safety") + heads("Panics") + heads("In Rust");
-        assert!(fates <= 1, "{}: {}", item.file, item.head);
-    }
+fn each_call_is_tried_by_a_test() {
+    let mut names = BTreeSet::new();
+    tried(Path::new("tests"), &mut names);
+    let untried: Vec<_> =
+        calls().into_iter().filter(|call| !names.contains(&call.name)).map(|call| call.name).collect();
+    assert_eq!(untried, ["serialize", "deserialize"]);
 }
 
-/// The lines of documentation.
+/// The constructors come first, and what most programs do without comes last.
+#[test]
+fn the_reference_begins_with_what_most_programs_need() {
+    let calls: Vec<_> = calls().into_iter().filter(|call| !["drain", "truncate"].contains(&&*call.module)).collect();
+    assert_eq!(calls[..2].iter().map(|call| call.name.as_str()).collect::<Vec<_>>(), ["new", "const_try_from_str"]);
+    assert!(calls.is_sorted_by_key(|call| call.name.ends_with("_unchecked")));
+    let last = calls.iter().filter(|call| call.of_block.starts_with("# Unchecked"));
+    assert!(last.map(|call| call.name.ends_with("_unchecked")).eq([true; 6]));
+}
+
+/// The calls whose block names sources, and which have no contract there, as the block says.
+const WITHOUT_CONTRACT: &[&str] =
+    &["from_utf8_lossy_truncate", "try_from_format", "try_from_utf16_lossy", "try_from_utf8_lossy"];
+
+/// The names that a call may have in the proved sources.
+fn proved_names(call: &str) -> [&str; 3] {
+    [call, call.strip_suffix("_truncate").unwrap_or(call), call.strip_suffix("_in_place").unwrap_or(call)]
+}
+
+/// Whether a source has a public function of one of some names.
+fn has_call(source: &str, names: &[&str]) -> bool {
+    let heads = source.lines().filter_map(|line| line.trim_start().strip_prefix("pub fn "));
+    heads.map(|head| head.split(['(', '<']).next().unwrap_or(head)).any(|name| names.contains(&name))
+}
+
+/// The documentation of a block names the sources of its calls, where their contracts are. They are there, and have these calls.
+#[test]
+fn the_sources_that_a_block_names_have_its_calls() {
+    let folder = Path::new("../../crates/arraystring_core/src/array_string");
+    if !folder.exists() {
+        return;
+    }
+    let (mut without, mut found, mut named) = (Vec::new(), 0, Vec::new());
+    for call in calls() {
+        if !call.of_block.starts_with("# ") || call.of_block.contains("have no contract") {
+            continue;
+        }
+        let files: Vec<_> = call.of_block.split('`').filter(|code| code.ends_with(".rt")).collect();
+        named = if call.of_block.contains("in the same files") {
+            named
+        } else {
+            files.iter().map(|it| it.to_string()).collect()
+        };
+        assert!(!named.is_empty(), "no source of {} is named", call.name);
+        let sources = named.iter().map(|file| {
+            let file = file.strip_prefix("crates/arraystring_core/src/array_string/").unwrap_or(file);
+            fs::read_to_string(folder.join(file)).unwrap_or_else(|_| panic!("{file} is named and not there"))
+        });
+        match sources.filter(|source| has_call(source, &proved_names(&call.name))).count() {
+            0 => without.push(call.name),
+            _ => found += 1,
+        }
+    }
+    without.sort_unstable();
+    assert_eq!(without, WITHOUT_CONTRACT);
+    assert!(found > 30, "{found}");
+}
+
+/// The fences of the blocks of a page that begin one.
+fn fences(page: &str) -> impl Iterator<Item = &str> {
+    page.lines().filter(|line| line.starts_with("```")).step_by(2)
+}
+
+/// The root has both pages as documentation, so that each block of theirs is run, but those that are no Rust.
+#[test]
+fn the_blocks_of_the_pages_are_run() {
+    let root = fs::read_to_string("src/lib.rs").expect("a text");
+    for page in ["README.md", "MOVING.md"] {
+        assert!(root.contains(&format!("doc = include_str!(\"../{page}\")")), "{page} is no documentation");
+        let text = fs::read_to_string(page).expect("a text");
+        for fence in fences(&text) {
+            let is_other = ["toml", "text", "sh", "console"].contains(&&fence[3..]);
+            let is_run = fence == "```" || fence == "```rust" || fence.starts_with("```compile_fail");
+            assert!(is_run || is_other, "{page}: `{fence}` is not run");
+        }
+    }
+    assert!(
+        fences(&fs::read_to_string("README.md").expect("a text")).any(|fence| fence == "```" || fence == "```rust")
+    );
+}
+
+/// Names with a `_` in them, as most calls have, that the page says and that are none of this crate's.
+const OF_OTHERS: &[&str] = &[
+    "from_utf16",
+    "from_utf16_lossy",
+    "from_utf8",
+    "from_utf8_lossy",
+    "insert_str",
+    "make_ascii_uppercase",
+    "next_back",
+    "push_str",
+    "split_at",
+    "split_once",
+    "try_from",
+];
+
+#[test]
+fn the_page_names_no_call_that_is_gone() {
+    let page = fs::read_to_string("README.md").expect("a text");
+    let is_letter = |ch: char| ch == '_' || ch.is_ascii_lowercase() || ch.is_ascii_digit();
+    let named: BTreeSet<_> = page.split('`').filter(|code| code.contains('_') && code.chars().all(is_letter)).collect();
+    let calls = calls();
+    let known: BTreeSet<_> = calls.iter().map(|call| call.name.as_str()).chain(OF_OTHERS.iter().copied()).collect();
+    let gone: Vec<_> = named.difference(&known).collect();
+    assert!(gone.is_empty(), "no call of the crate, and none of the names of others that a test lists: {gone:?}");
+}
+
+/// The lines of documentation of the face, and of the pages.
 fn documentation() -> Vec<(String, String)> {
-    let mut lines = Vec::new();
-    let pages = ["README.md", "FEATURES.md", "MOVING.md", "TRUST.md"]
+    let pages = ["README.md", "MOVING.md", "CHANGELOG.md"]
         .map(|page| (page.to_string(), fs::read_to_string(page).expect("a text")));
-    for (file, text) in files(Path::new("src")).into_iter().chain(pages) {
-        let is_page = file.ends_with(".md");
-        let is_shown = |line: &&str| is_page || ["///", "//!"].iter().any(|sign| line.trim_start().starts_with(sign));
+    let mut lines = Vec::new();
+    for (file, text) in face().into_iter().chain(pages) {
+        let is_shown = |line: &&str| {
+            file.ends_with(".md") || ["///", "//!"].iter().any(|sign| line.trim_start().starts_with(sign))
+        };
         lines.extend(text.lines().filter(is_shown).map(|line| (file.clone(), line.to_string())));
     }
     lines
-}
-
-#[test]
-fn no_word_of_the_proofs_is_shown() {
-    for (file, line) in documentation().into_iter().filter(|(file, _)| !is_core(file)) {
-        let mut words = line.split(|ch: char| !ch.is_alphanumeric() && ch != '_');
-        assert!(!words.any(|word| ["ghost", "Model"].contains(&word)), "{file}: {line}");
-        assert!(!line.contains("precondition of its `next`"), "{file}: {line}");
-    }
-}
-
-#[test]
-fn each_contract_is_folded_and_says_how_to_read_it() {
-    let mut count = 0;
-    for item in items() {
-        for (at, _) in item.docs.iter().enumerate().filter(|(_, line)| line.as_str() == "```text") {
-            let end = at + item.docs[at..].iter().position(|line| line == "```").expect("the end of a contract");
-            assert_eq!(item.docs[at - 2], "<details><summary>Contract</summary>", "{}: {}", item.file, item.head);
-            let below = ["", "[How to read a contract](crate::contracts)", "", "</details>"];
-            assert_eq!(item.docs[end + 1..end + 5], below, "{}: {}", item.file, item.head);
-            count += 1;
-        }
-    }
-    assert!(count >= 100, "{count} contracts");
-}
-
-/// Pages beside those of the crate, where the repository is around it.
-fn pages_of_the_repository() -> Vec<(String, String)> {
-    let pages = ["../../README.md", "../CONTRIBUTING.md", "../DECISIONS.md", "../SPEED.md"].map(Path::new).into_iter();
-    let read = |page: &Path| (page.display().to_string(), fs::read_to_string(page).expect("a text"));
-    let found = pages.filter(|page| page.exists()).map(read);
-    let folders = ["../../docs", "../with_serde/examples"].map(Path::new).into_iter().filter(|it| it.exists());
-    found.chain(folders.flat_map(files)).collect()
-}
-
-/// Whether a line casts to a number. What is copied from there would make 0 of 256.
-fn casts(line: &str) -> bool {
-    let words: Vec<_> = line.split(|ch: char| !ch.is_alphanumeric() && ch != '_').collect();
-    let numbers = ["u8", "u16", "u32", "u64", "usize", "i8", "i16", "i32", "i64", "isize"];
-    words.windows(2).any(|pair| pair[0] == "as" && numbers.contains(&pair[1]))
-}
-
-#[test]
-fn no_example_and_no_page_converts_by_a_cast() {
-    let mut lines = documentation();
-    let more = ["README.md", "FEATURES.md", "MOVING.md", "TRUST.md", "CHANGELOG.md"]
-        .map(|page| (page.to_string(), fs::read_to_string(page).expect("a text")));
-    let more = files(Path::new("examples")).into_iter().chain(more).chain(pages_of_the_repository());
-    lines.extend(
-        more.flat_map(|(file, text)| text.lines().map(|line| (file.clone(), line.to_string())).collect::<Vec<_>>()),
-    );
-    for (file, line) in &lines {
-        assert!(!casts(line), "{file}: {line}");
-    }
-    for file in ["src/array_string.rs", "src/owned_texts.rs", "examples/editor.rs", "README.md"] {
-        assert!(lines.iter().any(|(found, _)| found == file), "{file} was not read");
-    }
-    assert!(casts("assert_eq!(&string[at as u8 + 1..], \"text\");") && casts("(len as usize)"));
-    assert!(!casts("let at = u8::try_from(at)?; // u8, and `usize::from`"));
-}
-
-#[test]
-fn what_a_feature_adds_names_it() {
-    let (mut named, items) = (0, items());
-    let private: Vec<_> = items.iter().filter_map(Item::private_type).collect();
-    for (file, text) in files(Path::new("src")) {
-        let lines: Vec<_> = text.lines().collect();
-        for pair in lines.windows(2) {
-            let feature = pair[0].strip_prefix("#[cfg(feature = \"").and_then(|rest| rest.strip_suffix("\")]"));
-            let module =
-                pair[1].trim_start_matches("pub ").strip_prefix("mod ").and_then(|rest| rest.strip_suffix(';'));
-            let (Some(feature), Some(module)) = (feature, module) else { continue };
-            let source = format!("{}/{module}.rs", file.trim_end_matches(".rs").trim_end_matches("/lib"));
-            let said = format!("With the feature `{feature}`.");
-            let is_impl = |item: &&Item| item.head.trim_start().starts_with("impl") && item.is_shown(&[], &private);
-            for item in items.iter().filter(|item| item.file == source).filter(is_impl) {
-                assert!(item.docs.iter().any(|line| line.ends_with(&said)), "{source}: {}", item.head);
-                named += 1;
-            }
-        }
-    }
-    assert_eq!(named, 28, "the impls of `into_owned`, `owned_texts`, `paths` and `serde_traits`");
-}
-
-/// The items of the file of a type in the order of rustdoc: those of its modules, one after the other, and then its own.
-fn in_order(file: &str) -> Vec<Item> {
-    let (path, read) = (Path::new(file), |path: &Path| fs::read_to_string(path).expect("a text"));
-    let (mut modules, mut own, mut place, mut is_inside) = (Vec::new(), Vec::new(), None, false);
-    for line in read(path).lines() {
-        if let Some(named) = line.strip_prefix("#[path = \"").and_then(|rest| rest.strip_suffix("\"]")) {
-            place = Some(path.with_file_name(named));
-        } else if let Some(name) = line.strip_prefix("mod ").and_then(|rest| rest.strip_suffix(';')) {
-            let place = place.take().unwrap_or_else(|| path.with_extension("").join(format!("{name}.rs")));
-            modules.push(read(&place));
-        } else {
-            is_inside = (is_inside || line.starts_with("mod ")) && line != "}";
-            if is_inside { &mut modules } else { &mut own }.push(line.to_string());
-        }
-    }
-    modules.append(&mut own);
-    items_of(file, &modules.join("\n"))
-}
-
-#[test]
-fn what_most_programs_do_without_stands_in_the_last_block_of_its_type() {
-    for (file, wanted) in [("src/array_string.rs", 8), ("src/cache_string.rs", 4)] {
-        let (mut calls, mut titles, mut is_last) = (Vec::new(), 0, false);
-        for item in in_order(file) {
-            let head = item.head.trim_start();
-            if head.starts_with("impl") {
-                is_last = item.docs.first().is_some_and(|line| line == "# Unchecked");
-                titles += usize::from(is_last);
-            } else if let Some((_, name)) = head.strip_prefix("pub ").and_then(|head| head.split_once("fn ")) {
-                let name = name.split(['(', '<']).next().unwrap_or_default();
-                assert_eq!(is_last, name.ends_with("_unchecked"), "{file}: {name}");
-                calls.push((is_last, name.to_string()));
-            }
-        }
-        assert!(calls.is_sorted_by_key(|(is_last, _)| *is_last), "{file}: {calls:?}");
-        assert_eq!((calls.iter().filter(|(is_last, _)| *is_last).count(), titles), (wanted, 1), "{file}: {calls:?}");
-    }
-}
-
-#[test]
-fn what_is_said_of_an_iterator_is_true_of_the_call() {
-    let mut count = 0;
-    for item in items() {
-        let said = item.docs.join(" ");
-        if !said.contains("The iterator may be endless: the call stops at the first ") {
-            continue;
-        }
-        let (takes_characters, adds) = (item.head.contains("_chars<"), item.head.contains("fn extend_"));
-        assert_eq!(said.contains("first character that does not fit."), takes_characters, "{}", item.head);
-        assert_eq!(said.contains("empty pieces"), !takes_characters, "{}", item.head);
-        assert_eq!(said.contains("Where the iterator panics, the text has"), adds, "{}", item.head);
-        count += 1;
-    }
-    assert_eq!(count, 12, "the safe calls over an iterator");
 }
 
 #[test]
@@ -286,92 +265,11 @@ fn no_link_leaves_the_crate() {
     }
 }
 
-/// The comments before the `unsafe` blocks of a source, each in one line, with what they belong to. (Words between backticks are none.)
-fn reasons(text: &str) -> Vec<(String, &str)> {
-    let lines: Vec<_> = text.lines().collect();
-    let bare = |at: usize| lines[at].trim().trim_start_matches("///").trim_start();
-    let blocks = (0..lines.len()).filter(|at| lines[*at].contains("unsafe {") && !lines[*at].contains("`unsafe {"));
-    let comment = |at: usize| {
-        let start = (0..at).rev().take_while(|before| bare(*before).starts_with("// ")).last().unwrap_or(at);
-        (start..at).map(|at| bare(at).trim_start_matches("// ")).collect::<Vec<_>>().join(" ")
-    };
-    blocks.map(|at| (comment(at), lines[at])).collect()
-}
-
-/// Words that a reader of the package alone can't follow.
-const OF_THE_PROOFS: &[&str] =
-    &["the proof of", "clause", "requires", "ensures", "precondition", "invariant", "boundary self", "≤", "≡", "2 ^"];
-
-/// What is wrong with the reason of a block, if anything.
-fn fault(reason: &str) -> Option<String> {
-    let Some((_, said)) = reason.split_once("SAFETY: ") else { return Some("no line `SAFETY`".to_string()) };
-    let word = OF_THE_PROOFS.iter().find(|word| said.contains(*word));
-    word.map(|word| format!("`{word}` in `{said}`"))
-}
-
-#[test]
-fn each_unsafe_block_has_its_reason_in_words_of_rust() {
-    let mut count = 0;
-    for (file, text) in files(Path::new("src")) {
-        for (reason, line) in reasons(&text) {
-            assert_eq!(fault(&reason), None, "{file}: {line}");
-            count += 1;
-        }
-    }
-    assert!(count > 100, "{count} blocks");
-    let planted = |comment: &str| reasons(&format!("{comment}\n    let a = unsafe {{ f() }};\n"))[0].0.clone();
-    let wrong = [
-        "    // SAFETY: the proof of `f` shows `order` of `g`.",
-        "    // SAFETY: at most\n    // `IsTrue (boundary self.old.text at)`.",
-    ];
-    for comment in ["", "    // It is so.", "    // SAFETY: so it is.\n\n", wrong[0], wrong[1]] {
-        assert!(fault(&planted(comment)).is_some(), "{comment}");
-    }
-    for comment in ["    // SAFETY: so it is.", "    // It.\n    // SAFETY: `a <= b`:\n    // tested above."] {
-        assert_eq!(fault(&planted(comment)), None, "{comment}");
-    }
-}
-
-/// What is wrong with the section on safety of an `unsafe fn`, if anything. A private one has a line for each fact.
-fn fault_of_section(item: &Item) -> Option<String> {
-    let section = item.docs.iter().skip_while(|line| *line != "# Safety").skip(1);
-    let lines: Vec<_> =
-        section.take_while(|line| !line.starts_with(['#', '<'])).filter(|line| !line.is_empty()).collect();
-    let is_public = item.head.trim_start().starts_with("pub ");
-    match lines.iter().find(|line| !is_public && !line.starts_with("- ")) {
-        _ if lines.is_empty() => Some("no section `Safety`".to_string()),
-        Some(line) => Some(format!("no fact: {line}")),
-        None => lines.iter().find_map(|line| fault(&format!("SAFETY: {line}"))),
-    }
-}
-
-#[test]
-fn each_unsafe_function_says_what_it_requires_in_words_of_rust() {
-    let is_by_hand = |file: &str| fs::read_to_string(file).expect("a text").starts_with("// By hand");
-    let is_proved = |item: &&Item| item.head.contains("unsafe fn ") && !is_by_hand(&item.file);
-    let items = items();
-    let found: Vec<_> = items.iter().filter(is_proved).collect();
-    assert!(!found.is_empty());
-    for item in found {
-        assert_eq!(fault_of_section(item), None, "{}: {}", item.file, item.head);
-    }
-    let planted = |head: &str, docs: &[&str]| {
-        let docs = docs.iter().map(|line| line.to_string()).collect();
-        fault_of_section(&Item { file: String::new(), head: head.to_string(), docs, is_exported: false })
-    };
-    for docs in [&["It."][..], &["# Safety", ""], &["# Safety", "", "- `a <= b`", "it"], &["# Safety", "", "- `a ≤ b`"]]
-    {
-        assert!(planted("unsafe fn f() {", docs).is_some(), "{docs:?}");
-    }
-    assert_eq!(planted("unsafe fn f() {", &["# Safety", "", "- `a <= b`", "- it is UTF-8", "", "<details>"]), None);
-    assert_eq!(planted("pub unsafe fn f() {", &["# Safety", "", "It must fit."]), None);
-}
-
 /// The parts of a page that stand for themselves: paragraphs, items of a list and rows of a table, without blocks of code.
-fn parts(page: &str) -> impl Iterator<Item = String> {
+fn parts(page: &str) -> Vec<String> {
     let text: String = page.split("\n```").step_by(2).collect();
     let text = text.replace("\n- ", "\n\n- ").replace("\n| ", "\n\n| ");
-    text.split("\n\n").map(str::to_string).collect::<Vec<_>>().into_iter()
+    text.split("\n\n").map(str::to_string).collect()
 }
 
 /// Whether some code is a path.
@@ -385,31 +283,30 @@ fn is_path(code: &str) -> bool {
 /// This runs in the package, too, which lacks more.
 #[test]
 fn a_page_says_of_a_file_that_the_package_lacks_where_it_is() {
-    let folders = ["crates/", "docs/", "rust/"];
-    let mut count = 0;
-    for page in ["README.md", "FEATURES.md", "MOVING.md", "TRUST.md", "CHANGELOG.md"] {
+    for page in ["README.md", "MOVING.md", "CHANGELOG.md"] {
         let text = fs::read_to_string(page).expect("a text");
         let words: Vec<_> = text.split_whitespace().collect();
         let says_of_folders =
             words.join(" ").contains("A path that begins with `crates/`, `docs/` or `rust/` is one of the repository");
+        let mut told = BTreeSet::new();
         for part in parts(&text) {
             for path in part.split('`').skip(1).step_by(2).filter(|code| is_path(code)) {
                 let is_there = [path.to_string(), format!("src/{path}")].iter().any(|path| Path::new(path).exists());
-                let is_told = says_of_folders && folders.iter().any(|folder| path.starts_with(folder));
-                assert!(is_there || is_told || part.contains("repository"), "{page}: {path} in {part}");
-                count += 1;
+                let is_told =
+                    says_of_folders && ["crates/", "docs/", "rust/"].iter().any(|folder| path.starts_with(folder));
+                if part.contains("repository") {
+                    told.insert(path.to_string());
+                }
+                assert!(is_there || is_told || told.contains(path), "{page}: {path} in {part}");
             }
         }
     }
-    assert!(count >= 10, "{count} paths");
 }
 
 #[test]
-fn the_pages_say_which_rust_is_needed() {
+fn the_page_says_which_rust_is_needed() {
     let said = format!("Rust {} or later", env!("CARGO_PKG_RUST_VERSION"));
-    for page in ["README.md", "MOVING.md"] {
-        assert!(fs::read_to_string(page).expect("a text").contains(&said), "{page}: `{said}` is not there");
-    }
+    assert!(fs::read_to_string("README.md").expect("a text").contains(&said), "`{said}` is not there");
 }
 
 /// Nothing else tells that one of these is gone.
@@ -426,4 +323,20 @@ fn the_root_denies_what_no_test_sees() {
     ] {
         assert!(denied.contains(&lint), "{lint} is none of {denied:?}");
     }
+}
+
+/// How often a source has `unsafe`, as a block or before a `fn`.
+fn unsafe_code(text: &str) -> usize {
+    let lines = text.lines().filter(|line| !line.trim_start().starts_with("//"));
+    lines.map(|line| line.matches("unsafe {").count() + line.matches("unsafe fn ").count()).sum()
+}
+
+/// The face has the text that is lent to be written, and the calls that leave a test to their caller.
+#[test]
+fn the_face_is_unsafe_in_two_places() {
+    let counts: BTreeMap<_, _> = face().into_iter().map(|(module, text)| (module, unsafe_code(&text))).collect();
+    let found: Vec<_> =
+        counts.iter().filter(|(_, count)| **count > 0).map(|(module, count)| (module.as_str(), *count)).collect();
+    assert_eq!(found, [("lent", 1), ("unchecked", 6)]);
+    assert_eq!(unsafe_code("unsafe fn f() {\n    // unsafe {\n    unsafe { g() }\n}"), 2);
 }

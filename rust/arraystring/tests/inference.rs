@@ -19,7 +19,7 @@ use std::num::{ParseIntError, TryFromIntError};
 use std::path::{Path, PathBuf};
 use std::rc::Rc;
 
-use arraystring::{ArrayString, CacheString, Error, OutOfBounds, Utf8, Utf16};
+use arraystring::{ArrayString, Error, OutOfBounds, Utf8, Utf16, arraystring};
 
 /// Asserts a sign between a text and others, all of which are "b".
 macro_rules! signs {
@@ -197,6 +197,35 @@ fn texts_are_in_order_in_a_younger_rust() {
     signs!((t, s, b, c) c => < [(*t).as_ref(), &*(*t).as_ref(), t.as_ref(), &*t.as_ref()]);
 }
 
+/// Comparisons that have no string of this crate in them, and that are compiled all the same where it is loaded. An impl of it
+/// for `str` or `&str` could take that away: with one order of `str` more, rustc no longer infers what stands on the right.
+#[test]
+fn an_order_is_inferred() {
+    let (string, name) = (String::from("b"), "b");
+    assert_eq!(("a" < &string, "b" <= &string, "a" > &string, "a" >= &string), (true, true, false, false));
+    assert!(name > "a".as_ref() && "a" < string.as_ref() && string.as_str() >= string.as_ref());
+    assert!("a" < string.borrow() && "a" < name.into() && "a" > Default::default());
+    let (boxed, shared, lent): (Box<str>, Rc<str>, Cow<str>) = (name.into(), name.into(), name.into());
+    assert!("a" < &boxed && "a" < &shared && "a" < &lent && *"a" < *string);
+    assert_eq!(("a".partial_cmp(&string), "b".partial_cmp(string.as_ref())), (Some("a".cmp("b")), Some("b".cmp("b"))));
+    assert!(("a".."c").contains(&string.as_ref()) && ("a"..="c").contains(&&*string));
+    assert!(Some("a") < Some(&string).map(|string| string.as_ref()) && ("a", 2) < (&string, 1));
+}
+
+/// `==` of `str` has many impls by std, so that it infers nothing there with this crate or without it.
+#[test]
+fn texts_are_equal_in_few_words() {
+    let string = String::from("b");
+    assert_eq!("b", string);
+    assert_eq!(string, "b");
+    assert_eq!(&string, "b");
+    assert_eq!(*"b", *string);
+    assert!("b" == &string && "b" == &*string && *"b" == string);
+    assert!(["a", "b"].contains(&string.as_str()) && ["a", "b"].contains(&&*string));
+    assert!(Some("b") == Some(&string).map(|string| string.as_ref()));
+    assert!([string.clone()].iter().eq(["b"].iter().copied()) && vec![string] == ["b"]);
+}
+
 #[test]
 fn texts_become_each_other() {
     becomes!((t, s, b, c) &str: [
@@ -335,7 +364,7 @@ fn the_error_of_a_format_is_inferred_beside_those_of_a_string() {
             Ok(())
         }
     }
-    let mut line = Line("a".into());
+    let mut line = Line(arraystring!("a"));
     assert_eq!((write!(line, "b"), line.to_string()), (Ok(()), "a.b.abab".to_string()));
     assert_eq!((write!(line, "cde"), line.0.as_str()), (Err(fmt::Error), "ab"));
 }
@@ -343,18 +372,19 @@ fn the_error_of_a_format_is_inferred_beside_those_of_a_string() {
 /// What `?`, `into` and `map_err` make of the errors of this crate and of std's.
 #[test]
 fn an_error_of_a_string_is_made_of_others() -> Result<(), Error> {
-    let mut s = ArrayString::<8>::from("ab");
+    let mut s = ArrayString::<8>::from_str_truncate("ab");
     s.try_push('c')?;
     s.try_insert(0, 'd')?;
     s.truncate(3)?;
     write!(s, "e")?;
     s.try_write(format_args!("f"))?;
-    ArrayString::<4>::from_utf16(&[0x61])?;
+    ArrayString::<4>::from_utf16_truncate(&[0x61])?;
     let lone = || char::decode_utf16([0xD800]).next().expect("an item").map(drop);
-    s.remove(u8::try_from(0usize).or(Err(Error::OutOfBounds))?)?;
-    s.remove(u8::try_from(0usize).map_err(|_| Error::OutOfBounds)?)?;
-    s.remove(u8::try_from(0usize).ok().ok_or(OutOfBounds)?)?;
-    assert_eq!(s, "ef");
+    s.remove(0)?;
+    s.remove(usize::try_from(0u64).or(Err(Error::OutOfBounds))?)?;
+    s.remove(usize::try_from(0u64).map_err(|_| OutOfBounds)?)?;
+    s.remove(0).ok().ok_or(OutOfBounds)?;
+    assert_eq!(s, "f");
     let tried: [fn(&mut ArrayString<8>) -> Result<(), Error>; 8] = [
         |s| s.try_push_str("ghijklmn").map_err(Into::into),
         |s| s.try_push_str("ghijklmn").map_err(Error::from),
@@ -370,7 +400,7 @@ fn an_error_of_a_string_is_made_of_others() -> Result<(), Error> {
     assert_eq!(made, [Error::Utf8, Error::Utf16, Error::OutOfBounds, Error::OutOfBounds]);
     assert_eq!((lone().map_err(Utf16::from), lone().map_err(Error::from)), (Err(Utf16), Err(Error::Utf16)));
     let boxed: [Box<dyn std::error::Error>; 2] = [OutOfBounds.into(), Error::Utf8.into()];
-    assert_eq!(boxed.map(|error| error.to_string()), ["OutOfBounds", "Utf8"]);
+    assert_eq!(boxed.map(|error| error.to_string()), [OutOfBounds.to_string(), Error::Utf8.to_string()]);
     Ok(())
 }
 
@@ -407,10 +437,10 @@ fn an_error_of_a_number_is_inferred() {
         Ok(at.max(u8::try_from(given).map_err(Box::new)?).max("7".parse::<u8>()?))
     }
     fn own(given: usize) -> Result<u8, Own> {
-        let mut s = ArrayString::<8>::from("ab");
-        s.try_insert(u8::try_from(given)?, 'c')?;
+        let mut s = ArrayString::<8>::from_str_truncate("ab");
+        s.try_insert(u8::try_from(given)?.into(), 'c')?;
         s.try_push('d').map_err(Error::from)?;
-        s.remove(given.try_into()?)?;
+        s.remove(given)?;
         Ok("7".parse::<u8>()?.max(u8::try_from(given).map_err(Own::from)?))
     }
     fn parsed(given: &str) -> Result<u8, ParseIntError> {
@@ -430,48 +460,99 @@ fn an_error_of_a_number_is_inferred() {
 
 /// Items of each kind of text, and what is summed of them.
 #[test]
-fn what_is_collected_is_inferred() {
+fn what_is_collected_is_inferred() -> Result<(), OutOfBounds> {
     type Name = ArrayString<8>;
-    let names = [Name::from("a"), Name::from("é")];
-    let keys = [CacheString::from("b"), CacheString::from("c")];
+    let names = [Name::try_from_str("a")?, Name::try_from_str("é")?];
+    let keys: [ArrayString<63>; 2] = ["b".try_into()?, 'c'.try_into()?];
     let mixed = || names.iter().map(|name| name.as_str()).chain(keys.iter().map(|key| key.as_str())).chain(["d"]);
-    let made: [Name; 9] = [
-        mixed().collect(),
-        mixed().flat_map(|text| text.chars()).collect(),
-        mixed().flat_map(str::chars).collect(),
-        mixed().map(|text| text).collect::<Vec<_>>().iter().copied().collect(),
-        Name::from_iter(mixed()),
-        FromIterator::from_iter(mixed()),
-        Name::from_iterator(mixed()),
-        mixed().fold(Name::new(), |joined, text| joined + text),
-        mixed().map(Some).collect::<Option<_>>().expect("each is there"),
+    let made: [Name; 7] = [
+        Name::try_from_iterator(mixed())?,
+        ArrayString::from_iterator_truncate(mixed()),
+        Name::try_from_chars(mixed().flat_map(|text| text.chars()))?,
+        ArrayString::from_chars_truncate(mixed().flat_map(str::chars)),
+        mixed().collect::<String>().parse()?,
+        mixed().try_fold(Name::new(), |mut joined, text| joined.try_push_str(text).map(|()| joined))?,
+        mixed().map(Name::try_from).collect::<Result<Vec<_>, _>>()?.concat().as_str().try_into()?,
     ];
     assert!(made.iter().all(|made| made == "aébcd"), "{made:?}");
-    let mut name = Name::new();
-    name.extend(names.iter().map(|name| name.as_str()));
-    name.extend(names.iter().map(|name| &**name));
-    name.extend(['b', 'c']);
-    assert_eq!(name, "aéaébc");
-    let mut key = CacheString::new();
-    key.extend(mixed());
-    key.extend(&['e', 'f']);
-    key.extend(keys.iter().flat_map(|key| key.chars()));
-    assert_eq!(key, "aébcdefbc");
     let sizes: [usize; 4] = [
-        names.iter().map(|name| usize::from(name.len())).sum(),
+        names.iter().map(|name| name.len()).sum(),
         mixed().map(str::len).sum::<usize>() - 3,
         mixed().map(|text| text.len()).take(2).sum(),
         names.iter().map(|name| name.chars().count() + 1).sum::<usize>() - 1,
     ];
     assert_eq!(sizes, [3; 4]);
-    assert_eq!(names.iter().map(|name| name.len()).sum::<u8>(), 3);
-    assert_eq!(names.iter().map(|name| name.len()).collect::<Vec<_>>().iter().sum::<u8>(), 3);
     let owned = [String::from("a"), String::from("b")];
     let (mut joined, lent) = (owned.concat(), owned.iter().map(|text| text.as_str()).collect::<String>());
     joined.extend(owned.iter().map(|text| &**text));
     joined.extend(owned.clone());
     joined.extend(['c'].iter());
     assert_eq!((&*joined, &*lent, &*owned.iter().cloned().collect::<String>()), ("abababc", "ab", "ab"));
+    Ok(())
+}
+
+/// What lends a text, bytes or units is taken where they are asked for, by a `&` before it or as the item of an iterator.
+#[test]
+fn what_lends_a_text_is_taken() -> Result<(), Error> {
+    type Name = ArrayString<8>;
+    let (owned, boxed, name) = (String::from("aé"), Box::<str>::from("aé"), Name::try_from_str("aé")?);
+    let (lent, bytes, units) = (Cow::from("aé"), owned.clone().into_bytes(), vec![0x61, 0xE9]);
+    let made = [
+        Name::try_from_str(&owned)?,
+        Name::try_from_str(&boxed)?,
+        Name::try_from_str(&lent)?,
+        Name::try_from_str(&name)?,
+        Name::from_str_truncate(&owned),
+        Name::try_from_utf8(&bytes)?,
+        Name::try_from_utf8(owned.as_bytes())?,
+        Name::try_from_utf8(b"a\xC3\xA9")?,
+        Name::try_from_utf8_lossy(name.as_bytes())?,
+        Name::from_utf8_truncate(&bytes)?,
+        Name::try_from_utf16(&units)?,
+        Name::try_from_utf16(&[0x61, 0xE9])?,
+        Name::from_utf16_lossy_truncate(&units),
+        Name::try_from_iterator([&owned])?,
+        Name::try_from_iterator([owned.clone()])?,
+        Name::try_from_iterator([&boxed])?,
+        Name::try_from_iterator([&*lent])?,
+        Name::try_from_iterator([name])?,
+        Name::try_from_iterator(&[name])?,
+        Name::try_from_iterator(vec!["a", "é"])?,
+        Name::try_from_iterator(["a", "é"].iter())?,
+        Name::try_from_iterator(Some(&*owned))?,
+        Name::try_from_chars(owned.chars())?,
+        Name::try_from_chars(['a', 'é'])?,
+        Name::try_from_format(format_args!("{owned}"))?,
+        arraystring::try_format!("{}{}", 'a', 'é')?,
+        arraystring!("aé"),
+    ];
+    assert_eq!(made, [name; 27]);
+    let mut edited = Name::new();
+    edited.try_push_str(&owned)?;
+    edited.try_insert_str(0, &name)?;
+    edited.try_extend_strs([&owned[..1]])?;
+    assert_eq!(edited.push_str_truncate(&lent), "é");
+    assert_eq!(edited, "aéaéaa");
+    edited.replace_range(..3, &boxed[..1])?;
+    edited.replace_range(1..=3, "")?;
+    assert_eq!((edited.insert_str_truncate(edited.len(), &owned), edited.as_str()), (Ok(""), "aaaaé"));
+    Ok(())
+}
+
+/// What `find` and `len` answer is what an index is.
+#[test]
+fn an_index_is_that_of_str() -> Result<(), Box<dyn std::error::Error>> {
+    let mut line = ArrayString::<16>::try_from_str("key=väl=x")?;
+    let at = line.find('=').ok_or("no sign")?;
+    line.try_insert(at, ' ')?;
+    line.try_insert_str(at + 2, " ")?;
+    assert_eq!((&line[..at], &line[at + 3..], line.as_str()), ("key", "väl=x", "key = väl=x"));
+    let last = line.rfind('=').ok_or("no sign")?;
+    assert_eq!((line.split_off(last)?.as_str(), line.remove(at)?), ("=x", ' '));
+    line.truncate(line.trim_end_matches('l').len())?;
+    let parts = line.match_indices(['=', ' ']).map(|(at, _)| at).collect::<Vec<usize>>();
+    assert_eq!((parts, line.drain(..at)?.count(), line.as_str()), (vec![3, 4], 3, "= vä"));
+    Ok(())
 }
 
 /// Paths and names of the operating system, made of std's texts.

@@ -1,11 +1,16 @@
-//! Every call that panics, by the words of its panic and by the line that it names: as the index of `str` does, and no other call.
+//! Every call that panics, by the words of its panic and by the line that it names: the index does, as that of `String`, and so does what
+//! `arraystring!` is made of. No other call panics, whatever it is given.
 
 use std::cell::RefCell;
-use std::ops::Bound;
+use std::fmt::Write;
+use std::ops::{Bound, RangeBounds};
 use std::panic::{AssertUnwindSafe, catch_unwind, set_hook};
 use std::sync::Once;
 
-use arraystring::{ArrayString, CacheString, Error};
+use arraystring::{ArrayString, MaxString};
+use inputs::{CHARS, behind, texts_of};
+
+mod inputs;
 
 /// The file and the line that a panic names.
 type Place = (String, u32);
@@ -42,61 +47,42 @@ macro_rules! words {
     }};
 }
 
+/// A string of a text that fits.
+fn string<const N: usize>(text: &str) -> ArrayString<N> {
+    ArrayString::try_from_str(text).expect("room")
+}
+
 /// The comparison of places sees a call that is one line off, so the tests below can fail.
 #[test]
 fn a_call_on_another_line_is_told() {
     let line = line!() + 1;
-    let of_string = || _ = &ArrayString::<4>::from("abc")[2..9];
+    let of_string = || _ = &string::<4>("abc")[2..9];
     assert!(catch_unwind(|| words!(of_string())).is_err());
     assert_eq!(panic_of(of_string).1, (file!().to_string(), line));
     let of_str = || _ = &"abc"[2..9];
     assert!(catch_unwind(|| words!(of_str())).is_err());
-    assert_eq!(words!(&ArrayString::<4>::from("abc")[2..9]), panic_of(of_str).0);
+    assert_eq!(words!(&string::<4>("abc")[2..9]), panic_of(of_str).0);
 }
 
-#[test]
-fn parts_panic_as_those_of_str() {
-    let text = "aé€🤔";
-    let string = ArrayString::<12>::from(text);
-    let (mut parts, mut refused) = (0, 0);
-    for start in 0..=13u8 {
-        for end in 0..=13u8 {
-            let (from, to) = (start as usize, end as usize);
-            if let Some(part) = text.get(from..to) {
-                assert_eq!((string.slice(start..end), &string[start..end]), (part, part));
-                parts += 1;
-                continue;
-            }
-            let wanted = words!(&text[from..to]);
-            let mut other = string;
-            assert_eq!(words!(string.slice(start..end)), wanted);
-            assert_eq!(words!(&string[start..end]), wanted);
-            assert_eq!(words!(&mut other[start..end]), wanted);
-            assert_eq!(words!(other.make_ascii_uppercase_in(start..end)), wanted);
-            assert_eq!(words!(other.make_ascii_lowercase_in(start..end)), wanted);
-            assert_eq!(other, string);
-            refused += 1;
-        }
-    }
-    // Between each two of five boundaries.
-    assert_eq!((parts, refused), (15, 14 * 14 - 15));
-}
-
-/// Asserts that a part panics where that of the `str` does, with the same words, and is the same one elsewhere. Returns whether it
-/// panics.
-macro_rules! as_str_does {
-    ($string:expr, $text:expr, $range:expr, $wide:expr) => {{
-        let (string, text): (&ArrayString<12>, &str) = ($string, $text);
-        match text.get($wide) {
+/// Asserts that a part panics where that of a `String` does, with the same words and at the same place, and is the same one elsewhere.
+/// Returns whether it panics.
+macro_rules! as_string_does {
+    ($string:expr, $range:expr) => {{
+        let (mut string, mut text, range) = ($string, $string.to_string(), $range);
+        match text.get(range.clone()) {
             Some(part) => {
-                assert_eq!((string.slice($range), &string[$range], string.get($range)), (part, part, Some(part)));
+                assert_eq!((&string[range.clone()], string.get(range.clone())), (part, Some(part)));
+                assert_eq!(&mut string[range.clone()], part);
                 false
             }
             None => {
-                let wanted = words!(&text[$wide]);
-                assert_eq!(words!(&string[$range]), wanted);
-                assert_eq!(words!(string.slice($range)), wanted);
-                assert_eq!(string.get($range), None);
+                let before = string;
+                let wanted = words!(&text[range.clone()]);
+                assert_eq!(words!(&mut text[range.clone()]), wanted);
+                assert_eq!(words!(&string[range.clone()]), wanted);
+                assert_eq!(words!(&mut string[range.clone()]), wanted);
+                assert_eq!(words!(string[range.clone()].make_ascii_uppercase()), wanted);
+                assert_eq!((string.get(range), string), (None, before));
                 true
             }
         }
@@ -104,75 +90,58 @@ macro_rules! as_str_does {
 }
 
 /// What a text of at most 12 bytes is asked for.
-const ENDS: [u8; 19] = [0, 1, 2, 3, 4, 5, 6, 7, 8, 9, 10, 11, 12, 13, 127, 128, 253, 254, 255];
+const ENDS: [usize; 21] =
+    [0, 1, 2, 3, 4, 5, 6, 7, 8, 9, 10, 11, 12, 13, 127, 254, 255, 256, 257, usize::MAX - 1, usize::MAX];
 
 #[test]
-fn each_kind_of_range_panics_as_that_of_str() {
+fn each_kind_of_range_panics_as_that_of_a_string() {
     let (mut made, mut panicked) = (0, 0);
     for text in ["", "a", "aé€🤔", "🤔🤔🤔", "abcdefghijkl"] {
-        for offset in 0..=12 - text.len() {
-            let mut string = ArrayString::<12>::from(".".repeat(offset).as_str());
-            string.push_str(text);
-            assert!(string.drain(..offset as u8).is_ok());
+        for offset in [0, 12 - text.len()] {
+            let string = behind::<12>(offset, text);
             assert_eq!(&string[..], text);
             for end in ENDS {
-                let to = end as usize;
-                // 256 is past each text; std counts an included end of its own from there on.
-                let panics = [
-                    as_str_does!(&string, text, end.., to..),
-                    as_str_does!(&string, text, ..end, ..to),
-                    as_str_does!(&string, text, ..=end, ..to + 1),
+                let mut panics = vec![
+                    as_string_does!(string, end..),
+                    as_string_does!(string, ..end),
+                    as_string_does!(string, ..=end),
                 ];
+                panics.extend(ENDS.map(|start| as_string_does!(string, start..end)));
+                panics.extend(ENDS.map(|start| as_string_does!(string, start..=end)));
                 made += panics.len();
                 panicked += panics.iter().filter(|panics| **panics).count();
             }
         }
     }
-    // The texts have 13, 12, 3, 1 and 1 offsets. Of the 19 ends 1, 2, 5, 4 and 13 are boundaries, and one less is one that is included.
-    assert_eq!(made, 3 * 19 * (13 + 12 + 3 + 1 + 1));
-    let parts = [(13, 1), (12, 2), (3, 5), (1, 4), (1, 13)].map(|(offsets, boundaries)| offsets * (3 * boundaries - 1));
-    assert_eq!(panicked, made - parts.iter().sum::<usize>());
+    assert_eq!(made, 5 * 2 * 21 * (3 + 2 * 21));
+    // A text of so many boundaries has a part from each and to each, one to the byte before each but the first, and one between each two,
+    // which are given with the end behind the part and, but for the empty one at the front, with the last byte in it.
+    let parts = [1, 2, 5, 4, 13].map(|count| 3 * count - 1 + count * (count + 1) - 1);
+    assert_eq!(made - panicked, 2 * parts.iter().sum::<usize>());
 }
 
 #[test]
 fn a_full_text_has_no_end_past_it() {
-    let text = "x".repeat(255);
-    let full = ArrayString::<255>::from(text.as_str());
-    for end in 0..=254u8 {
-        assert_eq!((full[..=end].len(), full[end..].len()), (end as usize + 1, 255 - end as usize));
+    let full = string::<255>(&"x".repeat(255));
+    for end in 0..=254 {
+        assert_eq!((full[..=end].len(), full[end..].len()), (end + 1, 255 - end));
     }
     assert_eq!((full[..].len(), full[255..].len()), (255, 0));
-    words!(&full[..=255]);
+    assert!(as_string_does!(full, ..=255) && as_string_does!(full, 256..) && as_string_does!(full, 0..256));
 }
 
+/// An index that is 256 more is no index that is there.
 #[test]
-fn a_part_of_the_array_that_is_no_text_is_not_changed() {
-    let mut parts = 0;
-    for len in 0..8u8 {
-        let mut string = ArrayString::<8>::from("abcdefgh");
+fn a_part_of_the_array_that_is_no_text_is_not_lent() {
+    for len in 0..8 {
+        let mut string = string::<8>("abcdefgh");
         assert!(string.truncate(len).is_ok());
-        for start in 0..=9 {
-            for end in (0..=9).filter(|end| start > *end || *end > len) {
-                words!(string.make_ascii_uppercase_in(start..end));
-                words!(string.make_ascii_lowercase_in(start..end));
-                assert_eq!(string, &"abcdefgh"[..len as usize]);
-                parts += 1;
+        for end in (len + 1..=9).chain([256, 256 + len]) {
+            for start in [0, len, end, 256] {
+                assert!(as_string_does!(string, start..end), "{start} {end}");
             }
         }
-        string.make_ascii_uppercase();
-        assert_eq!(string, &"ABCDEFGH"[..len as usize]);
     }
-    // Of the hundred pairs those that are in the text are 1, 3, 6 and so on.
-    assert_eq!(parts, 8 * 100 - (1 + 3 + 6 + 10 + 15 + 21 + 28 + 36));
-}
-
-#[test]
-fn calls_of_the_string_inside_name_their_caller_too() {
-    let mut cached = CacheString::from("abc");
-    let wanted = words!(&"abc"[2..9]);
-    assert_eq!([words!(&cached[2..9]), words!(cached.slice(2..9))], [wanted.clone(), wanted.clone()]);
-    assert_eq!(words!(cached.make_ascii_uppercase_in(2..9)), wanted);
-    assert_eq!((words!(cached.make_ascii_lowercase_in(2..9)), cached.as_str()), (wanted, "abc"));
 }
 
 #[test]
@@ -184,132 +153,134 @@ fn what_does_not_fit_into_a_constant_names_its_line() {
             assert_eq!(words!(ArrayString::<4>::of_constant(&text)), wanted);
         }
         if len > 255 {
-            assert_eq!(words!(ArrayString::<255>::of_constant(&text)), wanted);
-            assert_eq!(words!(ArrayString::<300>::of_constant(&text)), wanted);
+            assert_eq!(words!(MaxString::of_constant(&text)), wanted);
         } else {
-            assert_eq!(ArrayString::<300>::of_constant(&text).as_str(), text);
+            assert_eq!(MaxString::of_constant(&text).as_str(), text);
         }
     }
 }
 
-/// Asserts of each call on a range what `str` does from one index to another. What is removed ends at 255 at most.
-macro_rules! calls_do {
-    ($string:expr, $range:expr, $from:expr, $to:expr) => {{
-        let (string, from, to) = ($string, $from, $to);
-        let text = string.as_str();
-        assert_eq!(string.get($range), text.get(from..to), "{from}..{to}");
-        let (mut upper, mut lower) = (*string, *string);
-        if text.get(from..to).is_some() {
-            assert_eq!(string.slice($range), &text[from..to], "{from}..{to}");
-            let (mut wanted_upper, mut wanted_lower) = (text.to_string(), text.to_string());
-            wanted_upper[from..to].make_ascii_uppercase();
-            wanted_lower[from..to].make_ascii_lowercase();
-            upper.make_ascii_uppercase_in($range);
-            lower.make_ascii_lowercase_in($range);
-            assert_eq!((upper.as_str(), lower.as_str()), (&*wanted_upper, &*wanted_lower), "{from}..{to}");
-        } else {
-            let wanted = words!(&text[from..to]);
-            assert_eq!(words!(string.slice($range)), wanted);
-            assert_eq!(words!(upper.make_ascii_uppercase_in($range)), wanted);
-            assert_eq!(words!(lower.make_ascii_lowercase_in($range)), wanted);
-            assert_eq!((upper, lower), (*string, *string));
-        }
-        let (from, to) = (from.min(255), to.min(255));
-        let is_within = from <= to && to <= text.len();
-        let (mut drained, mut replaced) = (*string, *string);
-        let (drain, replacement) = (drained.drain($range), replaced.replace_range($range, ""));
-        if let Some(part) = text.get(from..to) {
-            let left = [&text[..from], &text[to..]].concat();
-            assert_eq!((drain.expect("a part").as_str(), replacement), (part, Ok(())), "{from}..{to}");
-            assert_eq!((drained.as_str(), replaced.as_str()), (&*left, &*left), "{from}..{to}");
-        } else {
-            let refusal = if is_within { Error::Utf8 } else { Error::OutOfBounds };
-            assert_eq!((drain.map(drop), replacement), (Err(refusal), Err(refusal)), "{from}..{to}");
-            assert_eq!((drained, replaced), (*string, *string));
-        }
-    }};
+/// Indices in a text, at its end and behind it, as bytes count and as they don't.
+fn indices(len: usize) -> impl Iterator<Item = usize> {
+    let few = if len < 20 { 0..len } else { len - 3..len };
+    few.chain([len, len + 1, 127, 254, 255, 256, 257, 256 + len, 65_536, usize::MAX - 1, usize::MAX])
 }
 
-/// Asserts of the index what `str` does from one index to another.
-macro_rules! index_does {
-    ($string:expr, $range:expr, $from:expr, $to:expr) => {{
-        let (string, from, to) = ($string, $from, $to);
-        let (mut lent, mut text) = (*string, string.to_string());
-        if text.get(from..to).is_some() {
-            assert_eq!(
-                (&string[$range], &mut lent[$range]),
-                (&text[from..to], &mut text.clone()[from..to]),
-                "{from}..{to}"
-            );
-            lent[$range].make_ascii_uppercase();
-            text[from..to].make_ascii_uppercase();
-            assert_eq!(lent.as_str(), text, "{from}..{to}");
-        } else {
-            let wanted = words!(&text[from..to]);
-            assert_eq!(words!(&string[$range]), wanted);
-            assert_eq!(words!(&mut lent[$range]), wanted);
-        }
-    }};
+/// Makes each call on a range, of which none may panic.
+fn edits_a_range<const N: usize>(string: ArrayString<N>, range: impl RangeBounds<usize> + Clone, text: &str) {
+    let (mut drained, mut replaced) = (string, string);
+    let drain = drained.drain(range.clone()).map(|drain| drain.rev().count());
+    let replacement = replaced.replace_range(range, text);
+    assert!(drain.is_ok() || drained == string, "{string:?}");
+    assert!(replacement.is_ok() || replaced == string, "{string:?}");
 }
 
-/// Strings that are full or nearly, of letters and with a wide character at the end, at the first offset and the last.
-fn nearly_full<const N: usize>() -> Vec<ArrayString<N>> {
-    let capacity = ArrayString::<N>::capacity() as usize;
-    let mut strings = Vec::new();
-    for len in capacity.saturating_sub(5)..=capacity {
-        for end in ["", "a", "é", "€", "🤔"].into_iter().filter(|end| end.len() <= len) {
-            let text = format!("{}{end}", "m".repeat(len - end.len()));
-            for offset in [0, capacity - len] {
-                let mut string = ArrayString::<N>::from("~".repeat(offset).as_str());
-                string.push_str(&text);
-                assert!(string.drain(..offset as u8).is_ok());
-                assert_eq!(string.as_str(), text);
-                strings.push(string);
-            }
-        }
+/// Makes each call with an index or a range at some place, and with a text.
+fn edits_at<const N: usize>(string: ArrayString<N>, at: usize, text: &str) {
+    let calls: [&dyn Fn(&mut ArrayString<N>) -> bool; 6] = [
+        &|it| it.try_insert(at, 'é').is_ok(),
+        &|it| it.try_insert_str(at, text).is_ok(),
+        &|it| it.insert_str_truncate(at, text).is_ok(),
+        &|it| it.remove(at).is_ok(),
+        &|it| it.truncate(at).is_ok(),
+        &|it| it.split_off(at).is_ok(),
+    ];
+    for call in calls {
+        let mut edited = string;
+        assert!(call(&mut edited) || edited == string, "{string:?} at {at} with {text:?}");
     }
-    strings
+    edits_a_range(string, at.., text);
+    edits_a_range(string, ..at, text);
+    edits_a_range(string, ..=at, text);
+    for end in [0, 1, string.len(), at, at.saturating_sub(1), at.saturating_add(1), 256, usize::MAX] {
+        edits_a_range(string, at..end, text);
+        edits_a_range(string, at..=end, text);
+        edits_a_range(string, (Bound::Excluded(at), Bound::Excluded(end)), text);
+        edits_a_range(string, (Bound::Excluded(at), Bound::Included(end)), text);
+        edits_a_range(string, (Bound::Excluded(end), Bound::Unbounded), text);
+        let mut walked = at..=end;
+        _ = (walked.next(), walked.next_back());
+        edits_a_range(string, walked, text);
+    }
 }
 
-/// Every kind of range with both ends from 250 to 255.
-fn ranges_at_the_end_of_a_byte<const N: usize>() {
-    for string in &nearly_full::<N>() {
-        let len = string.len() as usize;
-        calls_do!(string, .., 0, len);
-        index_does!(string, .., 0, len);
-        for (bound, at) in (250..=255u8).map(|bound| (bound, bound as usize)) {
-            index_does!(string, bound.., at, len);
-            index_does!(string, ..bound, 0, at);
-            index_does!(string, ..=bound, 0, at + 1);
-            for (end, to) in (250..=255u8).map(|end| (end, end as usize)) {
-                index_does!(string, bound..end, at, to);
-                index_does!(string, bound..=end, at, to + 1);
-            }
-        }
-        let bounds =
-            || (250..=255u8).flat_map(|at| [Bound::Included(at), Bound::Excluded(at)]).chain([Bound::Unbounded]);
-        for (start, end) in bounds().flat_map(|start| bounds().map(move |end| (start, end))) {
-            let from = match start {
-                Bound::Included(at) => at as usize,
-                Bound::Excluded(at) => at as usize + 1,
-                Bound::Unbounded => 0,
-            };
-            let to = match end {
-                Bound::Included(at) => at as usize + 1,
-                Bound::Excluded(at) => at as usize,
-                Bound::Unbounded => len,
-            };
-            calls_do!(string, (start, end), from, to);
-        }
+/// Makes each call that adds a text, or makes a string of it.
+fn adds<const N: usize>(string: ArrayString<N>, text: &str) {
+    let units: Vec<u16> = text.encode_utf16().collect();
+    let adding: [&dyn Fn(&mut ArrayString<N>) -> bool; 9] = [
+        &|it| it.try_push_str(text).is_ok(),
+        &|it| it.push_str_truncate(text).is_empty(),
+        &|it| it.try_extend_chars(text.chars()).is_ok(),
+        &|it| it.try_extend_strs([text, text]).is_ok(),
+        &|it| it.extend_chars_truncate(text.chars()),
+        &|it| it.extend_strs_truncate([text, text]),
+        &|it| it.try_write(format_args!("{text:>9}")).is_ok(),
+        &|it| it.write_truncate(format_args!("{text:>9}")).is_ok(),
+        &|it| it.write_str(text).is_ok(),
+    ];
+    for call in adding {
+        let mut edited = string;
+        call(&mut edited);
+        assert!(edited.starts_with(string.as_str()), "{string:?} with {text:?}");
     }
+    let making: [ArrayString<N>; 12] = [
+        ArrayString::try_from_str(text).unwrap_or_default(),
+        ArrayString::const_try_from_str(text).unwrap_or_default(),
+        ArrayString::from_str_truncate(text),
+        ArrayString::try_from_utf8(text.as_bytes()).unwrap_or_default(),
+        ArrayString::from_utf8_truncate(&text.as_bytes()[text.len() / 2..]).unwrap_or_default(),
+        ArrayString::try_from_utf8_lossy(&text.as_bytes()[text.len() / 2..]).unwrap_or_default(),
+        ArrayString::from_utf8_lossy_truncate(&text.as_bytes()[text.len() / 2..]),
+        ArrayString::try_from_utf16(&units[units.len() / 2..]).unwrap_or_default(),
+        ArrayString::from_utf16_truncate(&units[units.len() / 2..]).unwrap_or_default(),
+        ArrayString::try_from_utf16_lossy(&units[units.len() / 2..]).unwrap_or_default(),
+        ArrayString::from_utf16_lossy_truncate(&units[..units.len().div_ceil(2)]),
+        ArrayString::try_from_format(format_args!("{text}")).unwrap_or_default(),
+    ];
+    assert!(making.iter().all(|made| made.len() <= N), "{text:?}");
+}
+
+/// Makes each call that is given no text.
+fn walks<const N: usize>(string: ArrayString<N>) {
+    let text = string.as_str();
+    let (mut trimmed, mut kept, mut cleared, mut popped) = (string, string, string, string);
+    trimmed.trim_in_place();
+    kept.retain(|ch| ch.is_ascii());
+    cleared.clear();
+    while popped.pop().is_some() {}
+    for ch in CHARS {
+        let mut pushed = string;
+        assert_eq!(pushed.try_push(ch).is_ok(), pushed != string || ch.len_utf8() + string.len() <= N);
+    }
+    let ascii: String = text.chars().filter(char::is_ascii).collect();
+    assert_eq!((trimmed.as_str(), kept.as_str()), (text.trim(), ascii.as_str()));
+    assert!(cleared.is_empty() && popped.is_empty() && string.widen::<255>() == text);
+    assert_eq!((string.remaining_capacity(), string.is_full()), (N - text.len(), N == text.len()));
 }
 
 #[test]
-fn each_kind_of_range_is_as_that_of_str_at_the_end_of_a_byte() {
-    ranges_at_the_end_of_a_byte::<255>();
-    ranges_at_the_end_of_a_byte::<300>();
-    ranges_at_the_end_of_a_byte::<254>();
-    ranges_at_the_end_of_a_byte::<251>();
-    ranges_at_the_end_of_a_byte::<63>();
-    ranges_at_the_end_of_a_byte::<0>();
+fn no_other_call_panics() {
+    fn at<const N: usize>() {
+        let lengths = (0..=N).filter(|len| N < 20 || *len < 2 || *len + 2 >= N);
+        for (len, offset) in lengths.flat_map(|len| [(len, 0), (len, N)]) {
+            for text in texts_of(len) {
+                let string = behind::<N>(offset, &text);
+                walks(string);
+                for given in [0, 1, 2, (N - len).saturating_sub(1), N - len, N - len + 1, 255, 256, 300, 520] {
+                    texts_of(given).iter().for_each(|given| adds(string, given));
+                }
+                for given in [0, 1, N - len, N - len + 1, 256] {
+                    let [_, given, _] = texts_of(given);
+                    indices(len).for_each(|index| edits_at(string, index, &given));
+                }
+            }
+        }
+    }
+    at::<0>();
+    at::<1>();
+    at::<2>();
+    at::<5>();
+    at::<8>();
+    at::<128>();
+    at::<255>();
 }

@@ -13,7 +13,7 @@ struct Guest {
     /// Refused where it does not fit.
     name: Name,
     /// Cut where it does not fit.
-    #[serde(with = "arraystring::cut")]
+    #[serde(with = "arraystring::truncate")]
     note: CacheString,
     nickname: Option<Name>,
     wishes: Vec<ArrayString<5>>,

@@ -1,8 +1,30 @@
-//! A string that is cut where it does not fit, as the item of a list: `with = "arraystring::cut"` is for fields.
+//! A string that is cut where it does not fit, as the item of a list: `with = "arraystring::truncate"` is for fields.
+//!
+//! # A capacity above 255
+//!
+//! It does not compile where a string is read, whole or cut:
+//!
+//! ```compile_fail,E0080
+//! let read: Result<arraystring::ArrayString<256>, _> = serde_json::from_str("\"ab\"");
+//! ```
+//!
+//! ```compile_fail,E0080
+//! let read: Result<with_serde::Truncated<256>, _> = serde_json::from_str("\"ab\"");
+//! ```
+//!
+//! The greatest capacity that there is does:
+//!
+//! ```
+//! let read: Result<arraystring::ArrayString<255>, _> = serde_json::from_str("\"ab\"");
+//! assert!(read.is_ok_and(|read| read == "ab"));
+//! let read: Result<with_serde::Truncated<255>, _> = serde_json::from_str("\"ab\"");
+//! assert!(read.is_ok_and(|read| read.0 == "ab"));
+//! ```
 
+use arraystring::ArrayString;
 use serde::{Deserialize, Serialize};
 
 /// A string whose text is cut.
 #[derive(Clone, Copy, Debug, Deserialize, PartialEq, Serialize)]
-#[serde(bound(deserialize = "T: for<'a> From<&'a str>", serialize = "T: AsRef<str>"), transparent)]
-pub struct Cut<T>(#[serde(with = "arraystring::cut")] pub T);
+#[serde(transparent)]
+pub struct Truncated<const N: usize>(#[serde(with = "arraystring::truncate")] pub ArrayString<N>);

@@ -1,19 +1,17 @@
 //! Texts and bytes of each length, a fault of UTF-8 at each place, and what a refusal says: a format may show its numbers and bytes
 //! in another way than by words.
 
-use std::fmt::{self, Debug, Display};
-use std::str::FromStr;
+use std::fmt::{self, Display};
 
-use arraystring::error::OutOfBounds;
-use arraystring::{ArrayString, CacheString};
+use arraystring::ArrayString;
 use inputs::{GIVEN, cut, texts_of};
+use serde::Deserialize;
 use serde::de::value::{
     BorrowedBytesDeserializer, BorrowedStrDeserializer, BytesDeserializer, CharDeserializer, StrDeserializer,
     StringDeserializer, U64Deserializer, UnitDeserializer,
 };
-use serde::de::{DeserializeOwned, Error, Expected, IntoDeserializer, Unexpected};
-use serde::{Deserialize, Serialize};
-use with_serde::Cut;
+use serde::de::{Error, Expected, IntoDeserializer, Unexpected};
+use with_serde::Truncated;
 
 mod inputs;
 
@@ -60,31 +58,6 @@ impl Error for Refusal {
     }
 }
 
-/// What the strings of these tests can.
-trait Text:
-    AsRef<str>
-    + FromStr<Err = OutOfBounds>
-    + for<'a> From<&'a str>
-    + Copy
-    + Debug
-    + PartialEq
-    + Serialize
-    + DeserializeOwned
-{
-}
-
-impl<T> Text for T where
-    T: AsRef<str>
-        + FromStr<Err = OutOfBounds>
-        + for<'a> From<&'a str>
-        + Copy
-        + Debug
-        + PartialEq
-        + Serialize
-        + DeserializeOwned
-{
-}
-
 /// What comes of a text by each way in which it is given.
 fn each_way<'a, T: Deserialize<'a>>(text: &'a str) -> [Result<T, Refusal>; 5] {
     let copied: StrDeserializer<Refusal> = text.into_deserializer();
@@ -100,22 +73,22 @@ fn each_way<'a, T: Deserialize<'a>>(text: &'a str) -> [Result<T, Refusal>; 5] {
 }
 
 /// Asserts what comes of texts of each length at a capacity, and returns how many were tried.
-fn texts_at<T: Text>(capacity: usize) -> usize {
-    let (mut count, [whole, _]) = (0, expected(capacity));
+fn texts_at<const N: usize>() -> usize {
+    let (mut count, [whole, _]) = (0, expected(N));
     for text in GIVEN.flat_map(texts_of) {
-        let kept = cut(&text, capacity);
-        for read in each_way::<T>(&text) {
+        let kept = cut(&text, N);
+        for read in each_way::<ArrayString<N>>(&text) {
             match read {
-                Ok(read) => assert_eq!((read.as_ref(), text.as_str()), (kept, kept)),
+                Ok(read) => assert_eq!((read.as_str(), text.as_str()), (kept, kept)),
                 Err(refusal) => {
-                    assert!(text.len() > capacity, "{text:?}");
+                    assert!(text.len() > N, "{text:?}");
                     assert_eq!(refusal, Refusal::Length(text.len(), whole.clone()));
                 }
             }
             count += 1;
         }
-        for read in each_way::<Cut<T>>(&text) {
-            assert_eq!(read.expect("it is cut").0.as_ref(), kept);
+        for read in each_way::<Truncated<N>>(&text) {
+            assert_eq!(read.expect("it is cut").0.as_str(), kept);
             count += 1;
         }
     }
@@ -125,35 +98,27 @@ fn texts_at<T: Text>(capacity: usize) -> usize {
 /// Calls a generic test at some capacities, and collects what it returns.
 macro_rules! at_capacities {
     ($test:ident) => {
-        [
-            $test::<ArrayString<0>>(0),
-            $test::<ArrayString<1>>(1),
-            $test::<ArrayString<8>>(8),
-            $test::<CacheString>(63),
-            $test::<ArrayString<254>>(254),
-            $test::<ArrayString<255>>(255),
-            $test::<ArrayString<300>>(255),
-        ]
+        [$test::<0>(), $test::<1>(), $test::<8>(), $test::<63>(), $test::<254>(), $test::<255>()]
     };
 }
 
 #[test]
 fn texts_and_bytes_of_each_length() {
     // Three texts of each length, by five ways, to be read whole and to be cut.
-    assert_eq!(at_capacities!(texts_at), [601 * 3 * 5 * 2; 7]);
+    assert_eq!(at_capacities!(texts_at), [601 * 3 * 5 * 2; 6]);
 }
 
 /// Asserts that bytes are refused, however they are given, and returns how often they were.
-fn are_refused<T: Text>(capacity: usize, bytes: &[u8]) -> usize {
+fn are_refused<const N: usize>(bytes: &[u8]) -> usize {
     let copied = || -> BytesDeserializer<Refusal> { bytes.into_deserializer() };
     let lent = || BorrowedBytesDeserializer::<Refusal>::new(bytes);
     let refusals = [
-        T::deserialize(copied()).err(),
-        T::deserialize(lent()).err(),
-        Cut::<T>::deserialize(copied()).err(),
-        Cut::<T>::deserialize(lent()).err(),
+        ArrayString::<N>::deserialize(copied()).err(),
+        ArrayString::<N>::deserialize(lent()).err(),
+        Truncated::<N>::deserialize(copied()).err(),
+        Truncated::<N>::deserialize(lent()).err(),
     ];
-    let [whole, cut] = expected(capacity).map(|expected| Some(Refusal::Bytes(bytes.to_vec(), expected)));
+    let [whole, cut] = expected(N).map(|expected| Some(Refusal::Bytes(bytes.to_vec(), expected)));
     assert_eq!(refusals, [whole.clone(), whole, cut.clone(), cut]);
     refusals.len()
 }
@@ -163,7 +128,7 @@ const LENGTHS: [usize; 17] = [1, 2, 3, 7, 8, 9, 62, 63, 64, 254, 255, 256, 300, 
 
 /// Puts a fault at each place of bytes of these lengths: a byte that no text has, one that begins no character, and one whose
 /// character is not there. Returns how often it was refused.
-fn faults_at<T: Text>(capacity: usize) -> usize {
+fn faults_at<const N: usize>() -> usize {
     let mut count = 0;
     for len in LENGTHS {
         let [text, ..] = texts_of(len);
@@ -171,7 +136,7 @@ fn faults_at<T: Text>(capacity: usize) -> usize {
             for fault in [0xFF, 0x80, 0xE2] {
                 let mut bytes = text.clone().into_bytes();
                 bytes[at] = fault;
-                count += are_refused::<T>(capacity, &bytes);
+                count += are_refused::<N>(&bytes);
             }
         }
     }
@@ -180,21 +145,21 @@ fn faults_at<T: Text>(capacity: usize) -> usize {
 
 #[test]
 fn a_fault_at_each_place() {
-    assert_eq!(at_capacities!(faults_at), [4 * 3 * LENGTHS.iter().sum::<usize>(); 7]);
+    assert_eq!(at_capacities!(faults_at), [4 * 3 * LENGTHS.iter().sum::<usize>(); 6]);
 }
 
 /// Takes each byte away from texts of wide characters, and asserts what std says is left.
-fn bytes_without_one<T: Text>(capacity: usize) -> usize {
+fn bytes_without_one<const N: usize>() -> usize {
     let mut refused = 0;
     for text in LENGTHS.into_iter().flat_map(|len| texts_of(len).into_iter().skip(1)) {
         for at in 0..text.len() {
             let mut bytes = text.clone().into_bytes();
             bytes.remove(at);
             match std::str::from_utf8(&bytes) {
-                Err(_) => refused += are_refused::<T>(capacity, &bytes),
+                Err(_) => refused += are_refused::<N>(&bytes),
                 Ok(left) => {
-                    let read = Cut::<T>::deserialize(BorrowedBytesDeserializer::<Refusal>::new(&bytes));
-                    assert_eq!(read.expect("a text").0.as_ref(), cut(left, capacity));
+                    let read = Truncated::<N>::deserialize(BorrowedBytesDeserializer::<Refusal>::new(&bytes));
+                    assert_eq!(read.expect("a text").0.as_str(), cut(left, N));
                 }
             }
         }
@@ -207,21 +172,21 @@ fn a_character_without_a_byte() {
     // Each byte of a wider character, in four ways.
     let texts = LENGTHS.into_iter().flat_map(|len| texts_of(len).into_iter().skip(1));
     let wide: usize = texts.map(|text| text.bytes().filter(|byte| !byte.is_ascii()).count()).sum();
-    assert_eq!(at_capacities!(bytes_without_one), [4 * wide; 7]);
+    assert_eq!(at_capacities!(bytes_without_one), [4 * wide; 6]);
 }
 
 /// Asserts what comes of a character that a format gives as one.
-fn characters_at<T: Text>(capacity: usize) -> usize {
-    let (mut count, [expected, _]) = (0, expected(capacity));
+fn characters_at<const N: usize>() -> usize {
+    let (mut count, [expected, _]) = (0, expected(N));
     for ch in ['\0', 'a', '\u{7F}', '\u{80}', 'é', '\u{7FF}', '\u{800}', '€', '\u{FFFF}', '\u{10000}', '\u{10FFFF}']
     {
         let given = || -> CharDeserializer<Refusal> { ch.into_deserializer() };
         let text = ch.to_string();
-        let whole = T::deserialize(given()).map(|read| read.as_ref().to_string());
+        let whole = ArrayString::<N>::deserialize(given()).map(|read| read.to_string());
         let refusal = || Refusal::Length(ch.len_utf8(), expected.clone());
-        assert_eq!(whole, if text.len() <= capacity { Ok(text.clone()) } else { Err(refusal()) });
-        let read = Cut::<T>::deserialize(given());
-        assert_eq!(read.expect("it is cut").0.as_ref(), cut(&text, capacity));
+        assert_eq!(whole, if text.len() <= N { Ok(text.clone()) } else { Err(refusal()) });
+        let read = Truncated::<N>::deserialize(given());
+        assert_eq!(read.expect("it is cut").0.as_str(), cut(&text, N));
         count += 1;
     }
     count
@@ -229,9 +194,8 @@ fn characters_at<T: Text>(capacity: usize) -> usize {
 
 #[test]
 fn a_character_is_a_text() {
-    let at_small =
-        [characters_at::<ArrayString<2>>(2), characters_at::<ArrayString<3>>(3), characters_at::<ArrayString<4>>(4)];
-    assert_eq!((at_small, at_capacities!(characters_at)), ([11; 3], [11; 7]));
+    let at_small = [characters_at::<2>(), characters_at::<3>(), characters_at::<4>()];
+    assert_eq!((at_small, at_capacities!(characters_at)), ([11; 3], [11; 6]));
 }
 
 #[test]
@@ -239,19 +203,19 @@ fn other_types_say_what_was_expected() {
     let number = |number: u64| -> U64Deserializer<Refusal> { number.into_deserializer() };
     let unit = || -> UnitDeserializer<Refusal> { ().into_deserializer() };
     let [whole, cut] = expected(63).map(Refusal::Type);
-    assert_eq!(CacheString::deserialize(number(7)).as_ref(), Err(&whole));
-    assert_eq!(Cut::<CacheString>::deserialize(number(0)).as_ref(), Err(&cut));
-    assert_eq!(CacheString::deserialize(unit()).as_ref(), Err(&whole));
-    assert_eq!(Cut::<CacheString>::deserialize(unit()).as_ref(), Err(&cut));
+    assert_eq!(ArrayString::<63>::deserialize(number(7)).as_ref(), Err(&whole));
+    assert_eq!(Truncated::<63>::deserialize(number(0)).as_ref(), Err(&cut));
+    assert_eq!(ArrayString::<63>::deserialize(unit()).as_ref(), Err(&whole));
+    assert_eq!(Truncated::<63>::deserialize(unit()).as_ref(), Err(&cut));
 }
 
 /// Asserts the words of a refusal, and what is written, by JSON.
-fn words_at<T: Text>(capacity: usize) -> usize {
-    let (mut refused, [expected, _]) = (0, expected(capacity));
+fn words_at<const N: usize>() -> usize {
+    let (mut refused, [expected, _]) = (0, expected(N));
     for text in GIVEN.flat_map(texts_of) {
         let json = serde_json::to_string(&text).unwrap();
-        match serde_json::from_str::<T>(&json) {
-            Ok(read) => assert_eq!((serde_json::to_string(&read).unwrap(), text.len() <= capacity), (json, true)),
+        match serde_json::from_str::<ArrayString<N>>(&json) {
+            Ok(read) => assert_eq!((serde_json::to_string(&read).unwrap(), text.len() <= N), (json, true)),
             Err(refusal) => {
                 let words = format!("invalid length {}, expected {expected} at line 1", text.len());
                 assert!(refusal.to_string().starts_with(&words), "{refusal}");
@@ -264,5 +228,5 @@ fn words_at<T: Text>(capacity: usize) -> usize {
 
 #[test]
 fn the_words_of_a_refusal_have_the_length() {
-    assert_eq!(at_capacities!(words_at), [0, 1, 8, 63, 254, 255, 255].map(|capacity| 3 * (600 - capacity)));
+    assert_eq!(at_capacities!(words_at), [0, 1, 8, 63, 254, 255].map(|capacity| 3 * (600 - capacity)));
 }

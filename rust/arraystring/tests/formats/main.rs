@@ -1,75 +1,30 @@
-//! What is printed under each format, beside what std prints. A string is printed as its `str` is. No format pads, cuts or signs an
-//! error, a drain or units.
+//! What is printed under each format, beside what std prints. A string is printed as its `str` is, and so are the words of an error: a
+//! width pads them, and a precision shortens them. `Debug` of the types is what `derive` makes of their parts.
+
+#[path = "../inputs/mod.rs"]
+mod inputs;
+
+mod written;
 
 use std::fmt::{Debug, Display, Write};
 
-use arraystring::error::{OutOfBounds, Utf8, Utf16};
-use arraystring::utf16::{Unit16, Units};
-use arraystring::{ArrayString, CacheString, Drain, Error, MaxString};
-use inputs::{behind, mixed, texts_of};
-
-mod inputs;
-
-/// Prints a value that no format changes, under each kind of format of `Display`.
-fn displayed<T: Display>(value: T, wanted: &str) {
-    assert_eq!(value.to_string(), wanted);
-    for width in 0..=40 {
-        assert_eq!(format!("{value:width$}"), wanted);
-        assert_eq!(format!("{value:>width$}{value:<width$}{value:^width$}"), wanted.repeat(3));
-        assert_eq!(format!("{value:*>width$}{value:é<width$}{value:0^width$}"), wanted.repeat(3));
-        assert_eq!(format!("{value:0width$}{value:+width$}{value:#width$}"), wanted.repeat(3));
-        assert_eq!(format!("{value:.width$}{value:+#.width$}"), wanted.repeat(2));
-        for precision in 0..=12 {
-            assert_eq!(format!("{value:width$.precision$}{value:*^+#0width$.precision$}"), wanted.repeat(2));
-        }
-    }
-    assert_eq!(format!("{value:+}{value:-}{value:#}{value:+#}"), wanted.repeat(4));
-}
-
-/// Prints a value under each kind of format of `Debug` that is no text of std's own.
-fn debugged<T: Debug>(value: T, wanted: &str) {
-    assert_eq!(format!("{value:?}{value:x?}{value:X?}{value:+?}"), wanted.repeat(4));
-    for width in 0..=20 {
-        assert_eq!(format!("{value:width$?}{value:>width$?}{value:0width$?}{value:.width$?}"), wanted.repeat(4));
-    }
-    assert_eq!(format!("{value:#?}{value:#x?}{value:+#?}"), wanted.repeat(3));
-}
-
-#[test]
-fn an_error_is_its_name_under_each_format() {
-    for (error, name) in [(Error::Utf8, "Utf8"), (Error::Utf16, "Utf16"), (Error::OutOfBounds, "OutOfBounds")] {
-        displayed(error, name);
-        displayed(&error as &dyn std::error::Error, name);
-        debugged(error, &format!("Error::{name}"));
-    }
-    displayed(Utf8, "Utf8");
-    displayed(Utf16, "Utf16");
-    displayed(OutOfBounds, "OutOfBounds");
-    debugged(Utf8, "Utf8");
-    debugged(Utf16, "Utf16");
-    debugged(OutOfBounds, "OutOfBounds");
-}
+use arraystring::{ArrayString, Drain, Error, MaxString, OutOfBounds, Utf8, Utf16};
+use inputs::{behind, texts_of};
 
 const TEXTS: &[&str] =
     &["", "a", "aé€🤔", "\0", "a\0b", "\"", "\\", "\n\t\r", "\u{7F}\u{80}", "'", "+", "\u{301}", "0123456789abcdef"];
 
-/// What a derived `Debug` prints of fields like those of a drain and of units, under their names.
+/// What a derived `Debug` prints of parts like those of a drain and of the errors, under their names.
 mod derived {
     #[derive(Debug)]
     #[allow(dead_code)]
     pub struct Drain<'a>(pub &'a str);
 
     #[derive(Debug)]
-    #[allow(dead_code)]
-    pub struct Units<'a> {
-        pub rest: &'a [u16],
-    }
-
-    #[derive(Debug)]
-    #[allow(dead_code)]
-    pub enum Unit16 {
-        Char(char),
-        Lone(u16),
+    pub enum Error {
+        Utf8,
+        Utf16,
+        OutOfBounds,
     }
 }
 
@@ -146,12 +101,9 @@ fn a_string_prints_as_its_text_under_each_format() {
         .flat_map(|width| (0..10).map(move |precision| (width * width / 8, precision * precision / 4)))
         .collect();
     for text in TEXTS {
-        let (string, cached) = (ArrayString::<23>::from(*text), CacheString::from_str_truncate(text));
+        let mut string = ArrayString::<23>::try_from_str(text).expect("room");
         assert_eq!(prints_as_its_text(&string, text, &options), count_of(17 * 10));
-        assert_eq!(prints_as_its_text(&cached, text, &options), count_of(17 * 10));
-        assert_eq!((string.to_string(), cached.to_string()), (text.to_string(), text.to_string()));
-        assert_eq!((words(string), words(cached)), (words(text), words(text)));
-        let mut string = string;
+        assert_eq!((string.to_string(), words(string)), (text.to_string(), words(text)));
         assert_eq!(words(string.drain(..)), words(Ok::<_, Error>(derived::Drain(text))));
     }
 }
@@ -170,32 +122,58 @@ fn a_string_of_each_length_prints_as_its_text() {
             let options = edges_of(text.chars().count());
             let string = behind::<255>((255 - len) / 2, text);
             assert_eq!(prints_as_its_text(&string, text, &options), count_of(7));
-            if len <= 63 {
-                let cached = CacheString(behind::<63>(63 - len, text));
-                assert_eq!(prints_as_its_text(&cached, text, &options), count_of(7));
-            }
         }
     }
+}
+
+/// Asserts that an error prints its words, and that its `Debug` is derived.
+fn prints_its_words<T: Display + Debug, D: Debug>(error: T, text: &str, derived: D) {
+    for width in 0..=text.len() + 3 {
+        for precision in [0, 1, 3, 8, text.len() - 1, text.len(), text.len() + 1, width] {
+            assert_eq!(displays(&error, width, precision), displays(&text, width, precision));
+        }
+        assert_eq!(debugs(&error, width, 2), debugs(&derived, width, 2));
+    }
+    assert_eq!((error.to_string().as_str(), words(&error)), (text, words(derived)));
+}
+
+#[test]
+fn an_error_prints_its_words_under_each_format() {
+    let utf8 = "not UTF-8, or an index inside a character";
+    prints_its_words(Error::Utf8, utf8, derived::Error::Utf8);
+    prints_its_words(Error::Utf16, "not UTF-16", derived::Error::Utf16);
+    prints_its_words(Error::OutOfBounds, "larger than the capacity, or outside the text", derived::Error::OutOfBounds);
+    prints_its_words(Utf8, utf8, derived::Error::Utf8);
+    prints_its_words(Utf16, "not UTF-16", derived::Error::Utf16);
+    prints_its_words(OutOfBounds, "larger than the capacity", derived::Error::OutOfBounds);
+    // One of std's does so, too.
+    let number = "x".parse::<u8>().expect_err("no number");
+    assert_eq!(displays(&number, 40, 9), displays(&number.to_string(), 40, 9));
 }
 
 /// A width and a precision count characters, as those of `str` do.
 #[test]
 fn what_a_format_prints() {
-    let (string, cached) = (ArrayString::<10>::from("aé€🤔"), CacheString::from("a\"b\n"));
+    let string = ArrayString::<10>::try_from_str("aé€🤔").expect("room");
+    let quoted = ArrayString::<63>::try_from_str("a\"b\n").expect("room");
     assert_eq!(format!("{string}|{string:6}|{string:>6}|{string:^6}"), "aé€🤔|aé€🤔  |  aé€🤔| aé€🤔 ");
     assert_eq!(format!("{string:.0}|{string:.2}|{string:.9}|{string:*^7.3}"), "|aé|aé€🤔|**aé€**");
     assert_eq!(format!("{string:?}|{string:#?}|{:?}", Some(string)), r#""aé€🤔"|"aé€🤔"|Some("aé€🤔")"#);
-    assert_eq!(format!("{cached:?}|{:?}", [cached]), r#""a\"b\n"|["a\"b\n"]"#);
+    assert_eq!(format!("{quoted:?}|{:?}", [quoted]), r#""a\"b\n"|["a\"b\n"]"#);
+    assert_eq!(
+        format!("{OutOfBounds:>26}|{OutOfBounds:.6}|{OutOfBounds:?}"),
+        "  larger than the capacity|larger|OutOfBounds"
+    );
 }
 
 /// Asserts that a `write!` of a padded text leaves what it leaves of a `str`, and refuses what does not fit. Returns whether it did.
 fn is_refused<const N: usize>(held: &str, text: &str, width: usize, precision: usize) -> usize {
-    let string = ArrayString::<N>::from(text);
+    let string = ArrayString::<N>::try_from_str(text).expect("room");
     let mut refused = 0;
     macro_rules! written {
         ($($format:literal)*) => {$({
             let whole = held.to_string() + &format!($format, &*string, width, precision);
-            let mut lines = [ArrayString::<N>::from(held); 4];
+            let mut lines = [ArrayString::<N>::try_from_str(held).expect("room"); 4];
             let is_ok = write!(lines[0], $format, string, width, precision).is_ok();
             assert_eq!(is_ok, whole.len() <= N, "{held} {string:?} {width} {precision}");
             assert_eq!(write!(lines[1], $format, &*string, width, precision).is_ok(), is_ok);
@@ -203,8 +181,8 @@ fn is_refused<const N: usize>(held: &str, text: &str, width: usize, precision: u
             assert!(lines[0].starts_with(held) && whole.starts_with(&*lines[0]) && (lines[0] == *whole) == is_ok);
             assert_eq!(lines[2].try_write(format_args!($format, string, width, precision)).is_ok(), is_ok);
             assert_eq!(lines[2], if is_ok { &*whole } else { held });
-            assert_eq!(lines[3].write_truncated(format_args!($format, string, width, precision)), Ok(!is_ok));
-            assert_eq!(lines[3], ArrayString::<N>::from(&*whole));
+            assert_eq!(lines[3].write_truncate(format_args!($format, string, width, precision)), Ok(!is_ok));
+            assert_eq!(lines[3], ArrayString::<N>::from_str_truncate(&whole));
             refused += usize::from(!is_ok);
         })*};
     }
@@ -235,14 +213,14 @@ fn padding_that_does_not_fit_is_refused() {
     at::<10>();
     at::<12>();
     at::<23>();
-    let mut line = ArrayString::<4>::from("x");
-    assert!(write!(line, "{:>6}", ArrayString::<2>::from("ab")).is_err());
+    let mut line = ArrayString::<4>::try_from_str("x").expect("room");
+    assert!(write!(line, "{:>6}", ArrayString::<2>::from_str_truncate("ab")).is_err());
     assert_eq!(line, "x   ");
 }
 
 #[test]
 fn a_walked_drain_prints_what_is_left() {
-    let mut drain: Drain<10> = ArrayString::<10>::from("aé€🤔").drain(..).expect("all of it");
+    let mut drain: Drain<10> = ArrayString::<10>::from_str_truncate("aé€🤔").drain(..).expect("all of it");
     for left in ["aé€🤔", "é€🤔", "€🤔", "🤔", ""] {
         assert_eq!(format!("{drain:?}"), format!("Drain({left:?})"));
         drain.next();
@@ -253,34 +231,8 @@ fn a_walked_drain_prints_what_is_left() {
 fn a_drain_of_each_length_prints_what_is_left() {
     for len in 0..=255 {
         let [_, _, text] = texts_of(len);
-        let mut string = MaxString::from(text.as_str());
+        let mut string = MaxString::from_str_truncate(&text);
         let (drain, left) = (string.drain(..).expect("all of it"), derived::Drain(&text));
         assert_eq!((format!("{drain:?}"), format!("{drain:#?}")), (format!("{left:?}"), format!("{left:#?}")));
-    }
-}
-
-#[test]
-fn units_print_what_is_left() {
-    let mut units: Vec<u16> = mixed(60, 0).encode_utf16().collect();
-    units.insert(3, 0xD800);
-    for len in 0..=units.len() {
-        let given = &units[..len];
-        let mut walk = Units::new(given);
-        for item in char::decode_utf16(given.iter().copied()) {
-            let left = &given[given.len() - walk.clone().map(width).sum::<usize>()..];
-            assert_eq!(words(&walk), words(derived::Units { rest: left }));
-            let wanted =
-                item.map_or_else(|lone| derived::Unit16::Lone(lone.unpaired_surrogate()), derived::Unit16::Char);
-            assert_eq!(words(walk.next().expect("an item")), words(wanted));
-        }
-        assert_eq!((words(&walk), walk.next()), (words(derived::Units { rest: &[] }), None));
-    }
-}
-
-/// How many units an item takes.
-fn width(item: Unit16) -> usize {
-    match item {
-        Unit16::Char(ch) => ch.len_utf16(),
-        Unit16::Lone(_) => 1,
     }
 }

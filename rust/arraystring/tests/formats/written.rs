@@ -4,9 +4,7 @@
 use std::cell::RefCell;
 use std::fmt::{self, Display, Write};
 
-use arraystring::CacheString;
-
-use crate::inputs::{CHARS, GIVEN, at_capacities, behind, capacity, cut, edges, letters, texts_of};
+use crate::inputs::{CHARS, GIVEN, at_capacities, behind, cut, edges, letters, texts_of};
 
 /// How a piece is printed.
 #[derive(Clone, Copy, Debug, PartialEq)]
@@ -115,7 +113,7 @@ impl Display for Row<'_> {
     }
 }
 
-/// Asserts what a string takes of a row, by `try_write`, by `write!` and by `write_truncated`.
+/// Asserts what a string takes of a row, by `try_write`, by `write!` and by `write_truncate`.
 macro_rules! is_printed {
     ($string:expr, $capacity:expr, $row:expr) => {{
         let (string, row): (_, &Row) = ($string, $row);
@@ -124,18 +122,18 @@ macro_rules! is_printed {
         row.left(returned, tried.as_str(), string.as_str(), $capacity, true);
         let returned = written.write_fmt(format_args!("{row}"));
         row.left(returned, written.as_str(), string.as_str(), $capacity, false);
-        let returned = truncated.write_truncated(format_args!("{row}"));
+        let returned = truncated.write_truncate(format_args!("{row}"));
         row.left_cut(returned, truncated.as_str(), string.as_str(), $capacity);
     }};
 }
 
 /// Asserts what a string takes of pieces in each way, with errors kept and ignored.
 fn in_each_way<const N: usize>(before: &str, pieces: [&str; 3]) {
-    let string = behind::<N>((capacity::<N>() - before.len()) / 2, before);
+    let string = behind::<N>((N - before.len()) / 2, before);
     for way in WAYS {
         for keeps_errors in [true, false] {
             let pieces = [(way, pieces[0]), (By::Str, pieces[1]), (way, pieces[2])];
-            is_printed!(string, capacity::<N>(), &Row::new(&pieces, keeps_errors));
+            is_printed!(string, N, &Row::new(&pieces, keeps_errors));
         }
     }
 }
@@ -143,10 +141,10 @@ fn in_each_way<const N: usize>(before: &str, pieces: [&str; 3]) {
 #[test]
 fn a_character_of_each_width_at_each_length() {
     fn at<const N: usize>() {
-        for len in 0..=capacity::<N>() {
+        for len in 0..=N {
             let before = letters(len);
             // Where there is room for all of them, one will do.
-            for ch in CHARS.into_iter().take(if capacity::<N>() - len > 16 { 1 } else { CHARS.len() }) {
+            for ch in CHARS.into_iter().take(if N - len > 16 { 1 } else { CHARS.len() }) {
                 let ch = ch.to_string();
                 in_each_way::<N>(&before, [&ch, "a", &ch]);
                 in_each_way::<N>(&before, [&ch, "", "bcd"]);
@@ -162,12 +160,12 @@ fn pieces_of_each_length() {
         for len in GIVEN {
             let text = &texts_of(len)[len % 3];
             // (two of these lengths with each text)
-            for before in [len % 2, [capacity::<N>() / 2, capacity::<N>()][len / 2 % 2]] {
-                let string = behind::<N>(0, &letters(before.min(capacity::<N>())));
+            for before in [len % 2, [N / 2, N][len / 2 % 2]] {
+                let string = behind::<N>(0, &letters(before.min(N)));
                 // What is far too long is refused at its first character as at each other one, so one way will do.
-                let way = if len > capacity::<N>() + 16 { By::Format } else { WAYS[(len / 4 + before) % 3] };
+                let way = if len > N + 16 { By::Format } else { WAYS[(len / 4 + before) % 3] };
                 let pieces = [(By::Str, "a"), (way, text.as_str()), (By::Chars, "é")];
-                is_printed!(string, capacity::<N>(), &Row::new(&pieces, way != By::Str && len % 2 == 0));
+                is_printed!(string, N, &Row::new(&pieces, way != By::Str && len % 2 == 0));
             }
         }
     }
@@ -177,8 +175,8 @@ fn pieces_of_each_length() {
 #[test]
 fn pieces_that_fill_the_room() {
     fn at<const N: usize>() {
-        for len in edges(capacity::<N>()).into_iter().filter(|len| *len <= capacity::<N>()) {
-            let room = capacity::<N>() - len;
+        for len in edges(N).into_iter().filter(|len| *len <= N) {
+            let room = N - len;
             for first in edges(room) {
                 for second in [0, 1, room.saturating_sub(first), (room + 1).saturating_sub(first)] {
                     let (first, second) = (&texts_of(first)[first % 3], &texts_of(second)[second % 3]);
@@ -187,19 +185,19 @@ fn pieces_that_fill_the_room() {
             }
         }
     }
-    at_capacities!(at: 0 1 2 3 4 7 8 16 23 64 128 255 256 1000);
+    at_capacities!(at: 0 1 2 3 4 7 8 16 23 64 128 255);
 }
 
 #[test]
 fn a_row_that_fails_behind_its_pieces() {
     fn at<const N: usize>() {
-        for len in 0..=capacity::<N>() {
-            let string = behind::<N>((capacity::<N>() - len) / 2, &letters(len));
-            for given in [0, 1, capacity::<N>() - len, capacity::<N>() - len + 1] {
+        for len in 0..=N {
+            let string = behind::<N>((N - len) / 2, &letters(len));
+            for given in [0, 1, N - len, N - len + 1] {
                 let text = letters(given);
                 for (by, keeps_errors) in [(By::Str, true), (By::Str, false), (By::Format, false)] {
                     let pieces = [(by, text.as_str())];
-                    is_printed!(string, capacity::<N>(), &Row { fails: true, ..Row::new(&pieces, keeps_errors) });
+                    is_printed!(string, N, &Row { fails: true, ..Row::new(&pieces, keeps_errors) });
                 }
             }
         }
@@ -208,27 +206,14 @@ fn a_row_that_fails_behind_its_pieces() {
 }
 
 #[test]
-fn a_cache_string_prints_alike() {
-    for len in 0..=63 {
-        let string = CacheString(behind::<63>((63 - len) / 2, &letters(len)));
-        for (by, keeps_errors) in WAYS.into_iter().flat_map(|by| [(by, true), (by, false)]) {
-            for given in edges(63 - len) {
-                let pieces = [(by, &*texts_of(given)[given % 3]), (By::Chars, "é"), (by, "m")];
-                is_printed!(string, 63, &Row::new(&pieces, keeps_errors));
-            }
-        }
-    }
-}
-
-#[test]
 fn a_width_is_filled_by_characters() {
     /// `core` prints each character of a fill by `write_char`.
     fn at<const N: usize>() {
-        for len in edges(capacity::<N>()).into_iter().filter(|len| *len <= capacity::<N>()) {
-            for width in edges(capacity::<N>() - len) {
+        for len in edges(N).into_iter().filter(|len| *len <= N) {
+            for width in edges(N - len) {
                 let (before, filled) = (letters(len), format!("{:€>width$}|{:*<width$}", 'é', 7));
-                let mut string = behind::<N>((capacity::<N>() - len) / 2, &before);
-                let fits = len + filled.len() <= capacity::<N>();
+                let mut string = behind::<N>((N - len) / 2, &before);
+                let fits = len + filled.len() <= N;
                 assert_eq!(string.try_write(format_args!("{:€>width$}|{:*<width$}", 'é', 7)).is_ok(), fits);
                 assert_eq!(string.as_str(), if fits { before + &filled } else { before }, "{N} {width}");
             }
