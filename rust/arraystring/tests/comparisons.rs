@@ -1,5 +1,6 @@
-//! A string beside texts and strings, by each sign: texts that differ in one place, that are longer, also by as many bytes as a byte counts,
-//! and parts of the string itself, which have its address, and another length, or its end, and another start. The signs are those of `str`.
+//! A string beside texts and strings, by each sign: texts that differ in one place, that are longer, also by as many bytes as a byte
+//! counts, and parts of the string itself, which have its address, and another length, or its end, and another start. The signs are those
+//! of `str`.
 
 #[cfg(feature = "alloc")]
 use std::borrow::Cow;

@@ -48,7 +48,10 @@ fn a_format_is_printed_once() {
         let made: [Result<ArrayString<N>, fmt::Error>; 2] =
             [try_format!("{}", counted()), ArrayString::try_from_format(format_args!("{}", counted()))];
         let mut string = ArrayString::<N>::new();
-        let written = [string.try_write(format_args!("{}", counted())).is_ok(), string.write_truncate(format_args!("{}", counted())).is_ok()];
+        let written = [
+            string.try_write(format_args!("{}", counted())).is_ok(),
+            string.write_truncate(format_args!("{}", counted())).is_ok(),
+        ];
         assert_eq!((made.map(|made| made.is_ok()), written), ([N >= 3; 2], [N >= 3, true]));
         assert_eq!((evaluated, printed.get()), (4, 4));
     }
@@ -135,7 +138,11 @@ fn bytes_with_faults_are_read_as_those_of_a_string() {
             let made = ArrayString::<N>::from_utf8_lossy_truncate(given);
             assert_eq!(made.as_str(), cut(&wanted, N), "{N} {given:?}");
             let whole = ArrayString::<N>::try_from_utf8_lossy(given);
-            assert_eq!(whole.as_deref(), if wanted.len() <= N { Ok(&*wanted) } else { Err(&OutOfBounds) }, "{N} {given:?}");
+            assert_eq!(
+                whole.as_deref(),
+                if wanted.len() <= N { Ok(&*wanted) } else { Err(&OutOfBounds) },
+                "{N} {given:?}"
+            );
         }
     }
     let lengths =

@@ -21,7 +21,7 @@ fn is_left<const N: usize>(drain: Drain<N>, left: &[char]) {
         assert_eq!(ch, left[end - 1], "{end} of {len}");
         end - 1
     });
-    assert_eq!((folded, folded_back, drain.count(), drain.last()), (len, 0, len, left.last().copied()));
+    assert_eq!((folded, folded_back, drain.count(), Iterator::last(drain)), (len, 0, len, left.last().copied()));
     let size = drain.as_str().len();
     assert_eq!(drain.size_hint(), (size.div_ceil(4), Some(size)));
     for skipped in [0, len / 2, len.saturating_sub(1), len] {
@@ -69,7 +69,8 @@ fn is_walked_in_each_order<const N: usize>(drain: Drain<N>, part: &str) {
         for at in 0..count {
             assert_eq!(one.as_str(), other.as_str());
             assert_eq!(one.size_hint(), other.size_hint());
-            let given = if order >> at & 1 == 0 { (one.next(), other.next()) } else { (one.next_back(), other.next_back()) };
+            let given =
+                if order >> at & 1 == 0 { (one.next(), other.next()) } else { (one.next_back(), other.next_back()) };
             assert_eq!(given.0, given.1, "{part:?} in order {order:b}");
         }
         assert_eq!((one.next(), one.next_back(), one.next()), (None, None, None));
@@ -154,7 +155,11 @@ fn drains_are_compared_and_printed() {
     let texts: Vec<_> = [String::new()].into_iter().chain(chars()).chain(chars().map(|ch| ch + "é€")).collect();
     for (one, other) in texts.iter().flat_map(|one| texts.iter().map(move |other| (&**one, &**other))) {
         let (first, second) = (drain_of("", one), drain_of("aé€", other));
-        assert_eq!((first == second, Ord::cmp(&first, &second)), (one == other, one.cmp(other)), "{one:?} and {other:?}");
+        assert_eq!(
+            (first == second, Ord::cmp(&first, &second)),
+            (one == other, one.cmp(other)),
+            "{one:?} and {other:?}"
+        );
         assert_eq!(PartialOrd::partial_cmp(&first, &second), Some(one.cmp(other)));
         assert!(one != other || hash_of(&first) == hash_of(&second), "{one:?}");
     }

@@ -13,11 +13,14 @@ mod inputs;
 /// The least that is needed of an iterator, so that what takes one is compiled once for each kind of item.
 type Any<'a, T> = Box<dyn Iterator<Item = T> + 'a>;
 
+/// What an iterator tells of the number of its items.
+type Hint = (usize, Option<usize>);
+
 /// What a call returned, and how many items it asked for. (`Ok(true)` says that something was left.)
 type Taken = (Result<bool, OutOfBounds>, usize);
 
 /// Calls something with items that tell so much of their number.
-fn taken<T>(items: Any<T>, hint: (usize, Option<usize>), call: impl FnOnce(Told<Any<T>>) -> Result<bool, OutOfBounds>) -> Taken {
+fn taken<T>(items: Any<T>, hint: Hint, call: impl FnOnce(Told<Any<T>>) -> Result<bool, OutOfBounds>) -> Taken {
     let mut asked = 0;
     let returned = call(Told { items, hint, taken: &mut asked });
     (returned, asked)
@@ -39,21 +42,34 @@ fn are_left<const N: usize>(string: &ArrayString<N>, [whole, cut]: [(&ArrayStrin
     }
 }
 
-/// Asserts what is taken of pieces of any kind, and made of them.
-fn pieces_are_taken<'a, const N: usize, T: AsRef<str>>(string: &ArrayString<N>, texts: &[&str], items: &dyn Fn() -> Any<'a, T>) {
-    for hint in hints(texts.len()) {
+/// Asserts what is taken of pieces of any kind, and made of them, whatever is told of their number.
+fn pieces_are_taken<'a, const N: usize, T: AsRef<str>>(
+    string: &ArrayString<N>,
+    texts: &[&str],
+    hints: &[Hint],
+    items: &dyn Fn() -> Any<'a, T>,
+) {
+    for hint in hints.iter().copied() {
         let [mut whole, mut cut] = [*string; 2];
         let by_whole = taken(items(), hint, |items| whole.try_extend_strs(items).map(|()| false));
         let by_cut = taken(items(), hint, |items| Ok(cut.extend_strs_truncate(items)));
         are_left(string, [(&whole, by_whole), (&cut, by_cut)], texts);
         let [mut whole, mut cut] = [ArrayString::<N>::new(); 2];
-        let by_whole = taken(items(), hint, |items| ArrayString::try_from_iterator(items).map(|made| whole = made).map(|()| false));
+        let by_whole = taken(items(), hint, |items| {
+            whole = ArrayString::try_from_iterator(items)?;
+            Ok(false)
+        });
         let by_cut = taken(items(), hint, |items| {
             cut = ArrayString::from_iterator_truncate(items);
             Ok(cut != *texts.concat())
         });
         are_left(&ArrayString::new(), [(&whole, by_whole), (&cut, by_cut)], texts);
     }
+}
+
+/// The same of pieces that are lent.
+fn lent_pieces_are_taken<const N: usize>(string: &ArrayString<N>, pieces: &[&str]) {
+    pieces_are_taken(string, pieces, &hints(pieces.len()), &|| Box::new(pieces.iter().copied()) as Any<&str>);
 }
 
 /// The same of the characters of a text.
@@ -66,7 +82,10 @@ fn characters_are_taken<const N: usize>(string: &ArrayString<N>, text: &str) {
         let by_cut = taken(items(), hint, |items| Ok(cut.extend_chars_truncate(items)));
         are_left(string, [(&whole, by_whole), (&cut, by_cut)], &texts);
         let [mut whole, mut cut] = [ArrayString::<N>::new(); 2];
-        let by_whole = taken(items(), hint, |items| ArrayString::try_from_chars(items).map(|made| whole = made).map(|()| false));
+        let by_whole = taken(items(), hint, |items| {
+            whole = ArrayString::try_from_chars(items)?;
+            Ok(false)
+        });
         let by_cut = taken(items(), hint, |items| {
             cut = ArrayString::from_chars_truncate(items);
             Ok(cut != *text)
@@ -88,15 +107,18 @@ fn lent_or_owned<'a>(pieces: &'a [&'a str]) -> impl Iterator<Item = Cow<'a, str>
 
 /// Asserts what is taken of pieces, by each kind of what lends a text.
 fn each_kind_is_taken<const N: usize>(string: &ArrayString<N>, pieces: &[&str]) {
-    pieces_are_taken(string, pieces, &|| Box::new(pieces.iter().copied()) as Any<&str>);
-    pieces_are_taken(string, pieces, &|| Box::new(pieces.iter()) as Any<&&str>);
-    pieces_are_taken(string, pieces, &|| Box::new(strings(pieces).into_iter()) as Any<ArrayString<20>>);
-    pieces_are_taken(string, pieces, &|| Box::new(pieces.iter().map(|piece| piece.to_string())) as Any<String>);
-    pieces_are_taken(string, pieces, &|| Box::new(pieces.iter().map(|piece| Box::from(*piece))) as Any<Box<str>>);
-    pieces_are_taken(string, pieces, &|| Box::new(lent_or_owned(pieces)) as Any<Cow<str>>);
-    let (strings, owned) = (strings(pieces), pieces.iter().map(|piece| piece.to_string()).collect::<Vec<_>>());
-    pieces_are_taken(string, pieces, &|| Box::new(strings.iter()) as Any<&ArrayString<20>>);
-    pieces_are_taken(string, pieces, &|| Box::new(owned.iter()) as Any<&String>);
+    lent_pieces_are_taken(string, pieces);
+    let hints = [(pieces.len(), Some(pieces.len())), (usize::MAX, Some(0))];
+    let (strings, owned): (_, Vec<_>) = (strings(pieces), pieces.iter().map(|piece| piece.to_string()).collect());
+    pieces_are_taken(string, pieces, &hints, &|| Box::new(pieces.iter()) as Any<&&str>);
+    pieces_are_taken(string, pieces, &hints, &|| Box::new(strings.iter()) as Any<&ArrayString<20>>);
+    pieces_are_taken(string, pieces, &hints, &|| Box::new(strings.iter().copied()) as Any<ArrayString<20>>);
+    pieces_are_taken(string, pieces, &hints, &|| Box::new(owned.iter()) as Any<&String>);
+    pieces_are_taken(string, pieces, &hints, &|| Box::new(owned.iter().cloned()) as Any<String>);
+    pieces_are_taken(string, pieces, &hints, &|| {
+        Box::new(owned.iter().map(|piece| Box::from(&**piece))) as Any<Box<str>>
+    });
+    pieces_are_taken(string, pieces, &hints, &|| Box::new(lent_or_owned(pieces)) as Any<Cow<str>>);
 }
 
 /// Cuts a text into pieces of one to so many characters.
@@ -133,7 +155,7 @@ fn empty_items_are_taken_and_end_nothing() {
             for given in edges(N - len).into_iter().chain([256]) {
                 let text = &texts_of(given)[given % 3];
                 for pieces in with_empty_ones(&pieces_of(text, 2)) {
-                    pieces_are_taken(&string, &pieces, &|| Box::new(pieces.iter().copied()) as Any<&str>);
+                    lent_pieces_are_taken(&string, &pieces);
                 }
             }
         }
@@ -150,7 +172,7 @@ fn more_empty_items_than_a_byte_counts() {
             for count in [254, 255, 256, 257, 512, 1000] {
                 let empty = vec![""; count];
                 for pieces in [empty.clone(), [&empty[..], &["a"]].concat()] {
-                    pieces_are_taken(&string, &pieces, &|| Box::new(pieces.iter().copied()) as Any<&str>);
+                    lent_pieces_are_taken(&string, &pieces);
                 }
             }
         }
@@ -162,7 +184,8 @@ fn more_empty_items_than_a_byte_counts() {
 fn items_without_an_end_are_cut_or_refused() {
     fn at<const N: usize>() {
         for len in 0..=N {
-            let (string, filled) = (behind::<N>((N - len) / 2, &letters(len)), letters(len) + &"é".repeat((N - len) / 2));
+            let (string, filled) =
+                (behind::<N>((N - len) / 2, &letters(len)), letters(len) + &"é".repeat((N - len) / 2));
             let [mut by_char, mut by_piece, mut char_cut, mut piece_cut] = [string; 4];
             assert_eq!(by_char.try_extend_chars(iter::repeat('é')), Err(OutOfBounds));
             assert_eq!(by_piece.try_extend_strs(iter::repeat("é")), Err(OutOfBounds));
@@ -203,7 +226,10 @@ fn an_iterator_is_asked_to_its_first_end() {
     assert_eq!(all, ["aa"; 4]);
     assert_eq!(ArrayString::<8>::try_from_chars(chars()).as_deref(), Ok("aa"));
     assert_eq!(ArrayString::<8>::try_from_iterator(Resumes(0)).as_deref(), Ok("aa"));
-    assert_eq!([ArrayString::<8>::from_chars_truncate(chars()), ArrayString::from_iterator_truncate(Resumes(0))], ["aa"; 2]);
+    assert_eq!(
+        [ArrayString::<8>::from_chars_truncate(chars()), ArrayString::from_iterator_truncate(Resumes(0))],
+        ["aa"; 2]
+    );
 }
 
 /// What lends another text each time it is asked.

@@ -28,7 +28,8 @@ fn ways<const N: usize>() -> [fn(&mut ArrayString<N>) -> &mut str; 7] {
 
 /// What a string lends to be read, in each way.
 fn read<const N: usize>(string: &ArrayString<N>) -> [&[u8]; 8] {
-    let texts: [&str; 5] = [string.as_str(), string.deref(), string.as_ref(), Borrow::<str>::borrow(string), &string[..]];
+    let texts: [&str; 5] =
+        [string.as_str(), string.deref(), string.as_ref(), Borrow::<str>::borrow(string), &string[..]];
     let [one, two, three, four, five] = texts.map(str::as_bytes);
     [one, two, three, four, five, string.as_bytes(), string.as_ref(), &string.as_bytes()[..string.len()]]
 }
@@ -143,7 +144,11 @@ fn a_part_that_is_none_panics_as_that_of_a_text() {
                 let lent = catch_unwind(AssertUnwindSafe(|| written[start..end].make_ascii_uppercase()));
                 assert_eq!(lent.is_ok(), part.is_some(), "{text:?} {start} {end}");
                 assert_eq!(written.len(), text.len());
-                assert_eq!(catch_unwind(|| string[start..end].to_string()).ok().as_deref(), part, "{text:?} {start} {end}");
+                assert_eq!(
+                    catch_unwind(|| string[start..end].to_string()).ok().as_deref(),
+                    part,
+                    "{text:?} {start} {end}"
+                );
                 assert_eq!((string.get(start..end), string.get(start..=end)), (part, text.get(start..=end)));
                 assert_eq!(string.is_char_boundary(start), text.is_char_boundary(start));
             }

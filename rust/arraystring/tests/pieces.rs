@@ -326,5 +326,8 @@ fn a_display_that_fails_makes_nothing() {
     assert_eq!(ArrayString::<2>::try_from_format(format_args!("{passing}")), Err(fmt::Error));
     let long = "m".repeat(21);
     assert_eq!(SmallString::try_from_format(format_args!("{long}{passing}")), Err(fmt::Error));
-    assert_eq!(SmallString::try_from_format(format_args!("{}{passing}", &long[1..])), Ok(text_of(&format!("{}abc", &long[1..]))));
+    assert_eq!(
+        SmallString::try_from_format(format_args!("{}{passing}", &long[1..])),
+        Ok(text_of(&format!("{}abc", &long[1..])))
+    );
 }

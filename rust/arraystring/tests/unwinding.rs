@@ -272,9 +272,15 @@ fn the_making_or_the_drop_of_an_iterator_panics() {
             assert_eq!(left::<8>(before, |string| _ = string.try_extend_strs(source)), before);
             assert_eq!(left::<8>(before, |string| _ = string.try_extend_chars(Characters(source))), before);
             assert_eq!(left::<8>(before, |string| *string = ArrayString::from_iterator_truncate(source)), before);
-            assert_eq!(left::<8>(before, |string| *string = ArrayString::from_chars_truncate(Characters(source))), before);
+            assert_eq!(
+                left::<8>(before, |string| *string = ArrayString::from_chars_truncate(Characters(source))),
+                before
+            );
             assert_eq!(left::<8>(before, |string| *string = ArrayString::try_from_iterator(source).unwrap()), before);
-            assert_eq!(left::<8>(before, |string| *string = ArrayString::try_from_chars(Characters(source)).unwrap()), before);
+            assert_eq!(
+                left::<8>(before, |string| *string = ArrayString::try_from_chars(Characters(source)).unwrap()),
+                before
+            );
         }
     }
 }
@@ -316,7 +322,12 @@ fn ranges_that_lie_are_asked_once_for_each_end() {
     let places = [0, 1, 2, 3, 9, 255, 256, 257, 65536, usize::MAX].map(|at| [Included(at), Excluded(at)]).concat();
     let places = || places.iter().copied().chain([Unbounded]);
     let all: Vec<_> = places().flat_map(|start| places().map(move |end| (start, end))).collect();
-    let others = [(Unbounded, Unbounded), (Included(3), Included(3)), (Excluded(usize::MAX), Included(usize::MAX)), (Included(256), Excluded(1))];
+    let others = [
+        (Unbounded, Unbounded),
+        (Included(3), Included(3)),
+        (Excluded(usize::MAX), Included(usize::MAX)),
+        (Included(256), Excluded(1)),
+    ];
     for (one, other) in all.iter().flat_map(|one| others.iter().map(move |other| (*one, *other))) {
         for bounds in [[one, other], [other, one]] {
             let lies = || Lies { asked: Cell::new(0), bounds: &bounds };
@@ -349,7 +360,9 @@ const WIDTHS: [char; 4] = ['a', 'é', '€', '🤔'];
 /// Without it a build with debug assertions, which is slow, stops at a smaller one.
 fn greatest_capacity() -> usize {
     let told = std::env::var("ARRAYSTRING_CAPACITY").ok();
-    told.map_or(if cfg!(debug_assertions) { 4 } else { 6 }, |told| told.parse().expect("ARRAYSTRING_CAPACITY is a number"))
+    told.map_or(if cfg!(debug_assertions) { 4 } else { 6 }, |told| {
+        told.parse().expect("ARRAYSTRING_CAPACITY is a number")
+    })
 }
 
 /// Calls a generic test at each capacity up to the greatest.
@@ -385,12 +398,21 @@ fn strings<const N: usize>() -> Vec<(String, ArrayString<N>)> {
 }
 
 /// Makes a call on a copy of a string. Asserts whether it panics, and the text that it leaves, also when it is filled then.
-fn leaves<const N: usize, T>(name: &str, string: &ArrayString<N>, wanted: &(bool, String), call: impl FnOnce(&mut ArrayString<N>) -> T) {
+fn leaves<const N: usize, T>(
+    name: &str,
+    string: &ArrayString<N>,
+    wanted: &(bool, String),
+    call: impl FnOnce(&mut ArrayString<N>) -> T,
+) {
     let mut after = *string;
     let panicked = catch_unwind(AssertUnwindSafe(|| _ = call(&mut after))).is_err();
     assert_eq!((panicked, after.as_str()), (wanted.0, &*wanted.1), "{name} of {string:?} at {N}");
     let filler = "~".repeat(N - after.len());
-    assert_eq!((after.try_push_str(&filler), after.as_str()), (Ok(()), &*format!("{}{filler}", wanted.1)), "{name} of {string:?} at {N}");
+    assert_eq!(
+        (after.try_push_str(&filler), after.as_str()),
+        (Ok(()), &*format!("{}{filler}", wanted.1)),
+        "{name} of {string:?} at {N}"
+    );
 }
 
 #[test]
@@ -549,7 +571,7 @@ fn an_iterator_panics_where_a_string_is_made() {
                 let wanted = extended("", &items, stops, N).0;
                 let chars = || Panics { items: given.chars(), left: stops, hint: (0, None) };
                 let pieces = || Panics { items: items.iter(), left: stops, hint: (0, None) };
-                let panics = |make: &dyn Fn() -> bool| catch_unwind(AssertUnwindSafe(|| make())).is_err();
+                let panics = |make: &dyn Fn() -> bool| catch_unwind(AssertUnwindSafe(make)).is_err();
                 let calls = [
                     panics(&|| ArrayString::<N>::from_chars_truncate(chars()).is_empty()),
                     panics(&|| ArrayString::<N>::try_from_chars(chars()).is_ok()),
@@ -593,7 +615,9 @@ fn a_range_panics_at_each_bound_on_every_string() {
                 leaves("replace_range", &string, &left, |string| string.replace_range(range(), ""));
             }
             // (each is asked for once, so here is no panic)
-            leaves("replace_range", &string, &(false, text.clone()), |string| string.replace_range(Asked(Cell::new(2)), &text));
+            leaves("replace_range", &string, &(false, text.clone()), |string| {
+                string.replace_range(Asked(Cell::new(2)), &text)
+            });
             leaves("drain", &string, &(false, String::new()), |string| string.drain(Asked(Cell::new(2))));
         }
     }

@@ -35,26 +35,14 @@ calls! {
         is_end_of(given.text(), rest);
         Ok(rest.into())
     } => |model| Ok(model.push_cut(given.text()).into());
-    "push_unchecked": |string, given| {
-        if given.ch.len_utf8() <= N - string.len() {
-            // SAFETY: it fits.
-            unsafe { string.push_unchecked(given.ch) };
-        }
-        Ok(Value::Nothing)
-    } => |model| {
-        let _ = model.push_whole(&given.ch.to_string());
-        Ok(Value::Nothing)
-    };
-    "push_str_unchecked": |string, given| {
-        if given.text().len() <= N - string.len() {
-            // SAFETY: it fits.
-            unsafe { string.push_str_unchecked(given.text()) };
-        }
-        Ok(Value::Nothing)
-    } => |model| {
-        let _ = model.push_whole(given.text());
-        Ok(Value::Nothing)
-    };
+    "push_unchecked": |string, given| done(if given.ch.len_utf8() <= N - string.len() {
+        // SAFETY: it fits.
+        unsafe { string.push_unchecked(given.ch) };
+    }) => |model| done(_ = model.push_whole(&given.ch.to_string()));
+    "push_str_unchecked": |string, given| done(if given.text().len() <= N - string.len() {
+        // SAFETY: it fits.
+        unsafe { string.push_str_unchecked(given.text()) };
+    }) => |model| done(_ = model.push_whole(given.text()));
     "write_str": |string, given| answer(string.write_str(given.text())) => |model| answer(model.write_pieces(&[given.text()]));
     "write_char": |string, given| answer(string.write_char(given.ch)) => |model| answer(model.write_pieces(&[&given.ch.to_string()]));
     "write!": |string, given| answer(write!(string, "{}", given.printed()))
@@ -88,26 +76,14 @@ calls! {
     "insert_str_truncate": |string, given| answer(string.insert_str_truncate(given.at, given.text()).inspect(|rest| {
         is_end_of(given.text(), rest);
     })) => |model| answer(model.insert_cut(given.at, given.text()));
-    "insert_unchecked": |string, given| {
-        if string.as_str().is_char_boundary(given.at) && given.ch.len_utf8() <= N - string.len() {
-            // SAFETY: the index is a boundary, and what is inserted fits.
-            unsafe { string.insert_unchecked(given.at, given.ch) };
-        }
-        Ok(Value::Nothing)
-    } => |model| {
-        model.insert_unchecked(given.at, &given.ch.to_string());
-        Ok(Value::Nothing)
-    };
-    "insert_str_unchecked": |string, given| {
-        if string.as_str().is_char_boundary(given.at) && given.text().len() <= N - string.len() {
-            // SAFETY: the index is a boundary, and what is inserted fits.
-            unsafe { string.insert_str_unchecked(given.at, given.text()) };
-        }
-        Ok(Value::Nothing)
-    } => |model| {
-        model.insert_unchecked(given.at, given.text());
-        Ok(Value::Nothing)
-    };
+    "insert_unchecked": |string, given| done(if string.as_str().is_char_boundary(given.at) && given.ch.len_utf8() <= N - string.len() {
+        // SAFETY: the index is a boundary, and what is inserted fits.
+        unsafe { string.insert_unchecked(given.at, given.ch) };
+    }) => |model| done(_ = model.insert_whole(given.at, &given.ch.to_string()));
+    "insert_str_unchecked": |string, given| done(if string.as_str().is_char_boundary(given.at) && given.text().len() <= N - string.len() {
+        // SAFETY: the index is a boundary, and what is inserted fits.
+        unsafe { string.insert_str_unchecked(given.at, given.text()) };
+    }) => |model| done(_ = model.insert_whole(given.at, given.text()));
     "replace_range": |string, given| answer(string.replace_range(given.range.clone(), given.text()))
         => |model| answer(model.replace_range(given));
 
@@ -115,7 +91,7 @@ calls! {
     "pop": |string, _given| Ok(string.pop().into()) => |model| Ok(model.text.pop().into());
     "remove": |string, given| answer(string.remove(given.at)) => |model| answer(model.remove(given.at));
     "truncate": |string, given| answer(string.truncate(given.at)) => |model| answer(model.truncate(given.at));
-    "split_off": |string, given| answer(string.split_off(given.at).map(|split| filled(split)))
+    "split_off": |string, given| answer(string.split_off(given.at).map(filled))
         => |model| answer(model.split_off(given.at));
     "drain": |string, given| answer(string.drain(given.range.clone()).map(|drain| drain.as_str().to_string()))
         => |model| answer(model.drain(given));
@@ -129,20 +105,8 @@ calls! {
         });
         Ok(asked.into())
     } => |model| Ok(model.retain(given).into());
-    "trim_in_place": |string, _given| {
-        string.trim_in_place();
-        Ok(Value::Nothing)
-    } => |model| {
-        model.text = model.text.trim().to_string();
-        Ok(Value::Nothing)
-    };
-    "clear": |string, _given| {
-        string.clear();
-        Ok(Value::Nothing)
-    } => |model| {
-        model.text.clear();
-        Ok(Value::Nothing)
-    };
+    "trim_in_place": |string, _given| done(string.trim_in_place()) => |model| done(model.text = model.text.trim().to_string());
+    "clear": |string, _given| done(string.clear()) => |model| done(model.text.clear());
 
     // Strings that are made whole.
     "new": |string, _given| made::<N, Refusal>(string, Ok(ArrayString::new())) => |model| answer(model.made(|_| Ok::<_, Refusal>(())));
@@ -153,12 +117,9 @@ calls! {
     "const_try_from_str": |string, given| made(string, ArrayString::const_try_from_str(given.text()))
         => |model| answer(model.made(|made| made.push_whole(given.text())));
     "of_constant": |string, given| match given.text().len() {
-        len if len > N => Ok(Value::Nothing),
+        len if len > N => done(()),
         _ => made::<N, Refusal>(string, Ok(ArrayString::of_constant(given.text()))),
-    } => |model| {
-        let _ = model.made(|made| made.push_whole(given.text()));
-        Ok(Value::Nothing)
-    };
+    } => |model| done(_ = model.made(|made| made.push_whole(given.text())));
     "parse": |string, given| made(string, given.text().parse()) => |model| answer(model.made(|made| made.push_whole(given.text())));
     "try_from &str": |string, given| made(string, ArrayString::try_from(given.text()))
         => |model| answer(model.made(|made| made.push_whole(given.text())));
@@ -187,21 +148,15 @@ calls! {
     "try_from_utf16_lossy": |string, given| made(string, ArrayString::try_from_utf16_lossy(given.source.units))
         => |model| answer(model.made(|made| made.push_whole(&String::from_utf16_lossy(given.source.units))));
     "from_str_unchecked": |string, given| match given.text().len() {
-        len if len > N => Ok(Value::Nothing),
+        len if len > N => done(()),
         // SAFETY: it fits.
         _ => made::<N, Refusal>(string, Ok(unsafe { ArrayString::from_str_unchecked(given.text()) })),
-    } => |model| {
-        let _ = model.made(|made| made.push_whole(given.text()));
-        Ok(Value::Nothing)
-    };
+    } => |model| done(_ = model.made(|made| made.push_whole(given.text())));
     "from_utf8_unchecked": |string, given| match given.text().len() {
-        len if len > N => Ok(Value::Nothing),
+        len if len > N => done(()),
         // SAFETY: it is a text, and fits.
         _ => made::<N, Refusal>(string, Ok(unsafe { ArrayString::from_utf8_unchecked(given.text().as_bytes()) })),
-    } => |model| {
-        let _ = model.made(|made| made.push_whole(given.text()));
-        Ok(Value::Nothing)
-    };
+    } => |model| done(_ = model.made(|made| made.push_whole(given.text())));
 
     // Strings that are made of as much as fits.
     "from_str_truncate": |string, given| made::<N, Refusal>(string, Ok(ArrayString::from_str_truncate(given.text())))
@@ -231,31 +186,21 @@ calls! {
         => |model| cut_anew(model, &String::from_utf16_lossy(given.source.units));
 
     // What is lent, and what goes into a larger string.
-    "as_mut_str": |string, _given| {
-        string.as_mut_str().make_ascii_uppercase();
-        Ok(Value::Nothing)
-    } => |model| {
-        model.text.make_ascii_uppercase();
-        Ok(Value::Nothing)
-    };
-    "index": |string, given| Ok(Value::Part(part(string, given))) => |model| {
-        Ok(Value::Part(model.part(given).map(|(start, end)| model.text[start..end].to_string())))
-    };
-    "index_mut": |string, given| {
-        if let (Ok(start), Ok(end)) = ends(string, given)
-            && string.get(start..end).is_some()
-        {
-            string[start..end].make_ascii_lowercase();
-        }
-        Ok(Value::Nothing)
-    } => |model| {
-        if let Some((start, end)) = model.part(given) {
-            model.text[start..end].make_ascii_lowercase();
-        }
-        Ok(Value::Nothing)
-    };
+    "as_mut_str": |string, _given| done(string.as_mut_str().make_ascii_uppercase()) => |model| done(model.text.make_ascii_uppercase());
+    "index": |string, given| Ok(Value::Part(part(string, given).map(|(start, end)| string[start..end].to_string())))
+        => |model| Ok(Value::Part(model.part(given).map(|(start, end)| model.text[start..end].to_string())));
+    "index_mut": |string, given| done(if let Some((start, end)) = part(string, given) {
+        string[start..end].make_ascii_lowercase();
+    }) => |model| done(if let Some((start, end)) = model.part(given) {
+        model.text[start..end].make_ascii_lowercase();
+    });
     "widen": |string, _given| Ok(filled(string.widen::<255>()).into())
         => |model| Ok(format!("{}|{}{}", model.text, model.text, &FILLER[model.text.len()..]).into());
+}
+
+/// What a call that returns nothing answers.
+fn done((): ()) -> Answer {
+    Ok(Value::Nothing)
 }
 
 /// Takes a string that was made in the place of another, or says why none was.
@@ -283,16 +228,9 @@ fn filled<const N: usize>(string: ArrayString<N>) -> String {
     format!("{}|{}", string.as_str(), full.as_str())
 }
 
-/// The ends of a range, if indices have room for them.
-fn ends<const N: usize>(string: &ArrayString<N>, given: &Given) -> (Result<usize, ()>, Result<usize, ()>) {
+/// The ends of a range, if `get` of `str` has a part there.
+fn part<const N: usize>(string: &ArrayString<N>, given: &Given) -> Option<(usize, usize)> {
     let (start, end) = given.range.within(string.len());
-    (start.try_into().map_err(|_| ()), end.try_into().map_err(|_| ()))
-}
-
-/// The part in a range, by `get` of `str` and by the index, which panics where there is none.
-fn part<const N: usize>(string: &ArrayString<N>, given: &Given) -> Option<String> {
-    let (Ok(start), Ok(end)) = ends(string, given) else { return None };
-    let part = string.get(start..end)?;
-    assert_eq!(part, &string[start..end]);
-    Some(part.to_string())
+    let (start, end) = (start.try_into().ok()?, end.try_into().ok()?);
+    string.get(start..end).map(|_| (start, end))
 }

@@ -255,7 +255,8 @@ fn random_runs() {
 
 /// The indices about the ends of a text of a length, past it, and past a byte.
 fn places(len: usize) -> Vec<usize> {
-    let mut places = vec![0, 1, len / 2, len.saturating_sub(1), len, len + 1, 255, 256, 257, 256 + len / 2, 256 + len, 300];
+    let mut places =
+        vec![0, 1, len / 2, len.saturating_sub(1), len, len + 1, 255, 256, 257, 256 + len / 2, 256 + len, 300];
     places.extend([65536, 65536 + len / 2, usize::MAX - 1, usize::MAX]);
     places.sort_unstable();
     places.dedup();
@@ -302,14 +303,19 @@ fn each_kind_of_range_and_each_index() {
 fn ranges_of_std_are_taken() {
     fn at<const N: usize>() {
         for text in ["", "aé€", "aé€🤔b"].into_iter().filter(|text| text.len() <= N) {
-            for (start, end) in places(text.len()).into_iter().flat_map(|start| (0..=260).map(move |end| (start, end))) {
+            for (start, end) in places(text.len()).into_iter().flat_map(|start| (0..=260).map(move |end| (start, end)))
+            {
                 for kind in 0..KINDS {
                     let ends = Ends::of_kind(kind, start, end);
                     let mut model = Model { text: text.to_string(), capacity: N };
                     let given = Given { range: ends.clone(), ..Random(0).given(text.len(), 0) };
                     let mut string = ArrayString::<N>::try_from_str(text).expect("it fits");
                     let drained = ranges::by_std!(ends, range => string.drain(range));
-                    assert_eq!(drained.map(|drain| drain.as_str().to_string()), model.drain(&given), "{text:?} {given:?}");
+                    assert_eq!(
+                        drained.map(|drain| drain.as_str().to_string()),
+                        model.drain(&given),
+                        "{text:?} {given:?}"
+                    );
                     assert_eq!(string, *model.text, "{text:?} {given:?}");
                 }
             }
@@ -323,9 +329,9 @@ fn ranges_of_std_are_taken() {
 /// The public calls of the type that the sources have.
 fn public_calls() -> BTreeSet<String> {
     let files = ["string", "construct", "edit", "whole", "unchecked", "lent", "macros"];
-    let sources: String =
-        files.map(|file| fs::read_to_string(format!("src/{file}.rs")).expect("a text")).concat();
-    let functions = sources.split("    pub ").skip(1).map(|item| item.trim_start_matches("const ").trim_start_matches("unsafe "));
+    let sources: String = files.map(|file| fs::read_to_string(format!("src/{file}.rs")).expect("a text")).concat();
+    let functions =
+        sources.split("    pub ").skip(1).map(|item| item.trim_start_matches("const ").trim_start_matches("unsafe "));
     let names = functions.filter_map(|item| item.strip_prefix("fn ")?.split_once(['<', '(']));
     names.map(|(name, _)| name.to_string()).collect()
 }

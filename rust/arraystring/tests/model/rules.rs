@@ -167,11 +167,6 @@ impl Model {
         Ok(&text[fitting.len()..])
     }
 
-    /// Inserts at a boundary what fits, and does nothing else.
-    pub fn insert_unchecked(&mut self, at: usize, text: &str) {
-        let _ = self.insert_whole(at, text);
-    }
-
     /// A range outside the text is refused, then a result that does not fit, then an end inside a character.
     pub fn replace_range(&mut self, given: &Given) -> Result<(), Error> {
         let (start, end) = self.ends(given)?;
@@ -242,7 +237,8 @@ impl Model {
 
     /// The first character that does not fit or lone surrogate decides.
     pub fn push_utf16(&mut self, units: &[u16]) -> Result<(), Error> {
-        char::decode_utf16(units.iter().copied()).try_for_each(|read| Ok(self.push_whole(read?.encode_utf8(&mut [0; 4]))?))
+        char::decode_utf16(units.iter().copied())
+            .try_for_each(|read| Ok(self.push_whole(read?.encode_utf8(&mut [0; 4]))?))
     }
 
     /// A lone surrogate right behind the prefix that fits is refused, and what comes behind a character that does not fit has no effect.
