@@ -1,11 +1,11 @@
 //! Rows of several pieces: `try_write` takes one whole or leaves the text as it was, also where a `Display` in it fails or panics,
-//! `write!` keeps what came before the piece that is refused, and `write_truncated` takes the longest prefix, and says whether it cut.
+//! `write!` keeps what came before the piece that is refused, and `write_truncate` takes the longest prefix, and says whether it cut.
 
 use std::fmt::{self, Display, Write};
 use std::panic::{AssertUnwindSafe, catch_unwind, resume_unwind};
 
-use arraystring::{ArrayString, CacheString};
-use inputs::{at_capacities, behind, capacity, cut, edges};
+use arraystring::{ArrayString, Error, SmallString};
+use inputs::{at_capacities, at_each_capacity, behind, cut, edges};
 
 mod inputs;
 
@@ -104,7 +104,7 @@ fn unless_it_panics<T>(call: impl FnOnce() -> T) -> Option<T> {
 
 /// Writes a row to a string, and asserts what comes of it.
 fn is_whole_or_not_at_all<const N: usize>(string: &ArrayString<N>, row: Row) {
-    let (before, capacity) = (string.as_str(), N.min(255));
+    let (before, capacity) = (string.as_str(), N);
     let (taken, end) = row.taken(capacity - before.len());
     let told = || format!("{N}: {before:?} and {row:?}");
     let (result, after) = match end {
@@ -114,9 +114,9 @@ fn is_whole_or_not_at_all<const N: usize>(string: &ArrayString<N>, row: Row) {
     };
     let mut tried = *string;
     assert_eq!(unless_it_panics(|| tried.try_write(format_args!("{row}"))), result, "{}", told());
-    assert_eq!((tried.as_str(), tried.len() as usize), (&*after, after.len()), "{}", told());
+    assert_eq!((tried.as_str(), tried.len()), (&*after, after.len()), "{}", told());
     // The room is what it was, too.
-    assert!(tried.try_push_str("m".repeat(capacity - after.len())).is_ok() && tried.is_full(), "{}", told());
+    assert!(tried.try_push_str(&"m".repeat(capacity - after.len())).is_ok() && tried.is_full(), "{}", told());
     assert!(tried.starts_with(&after), "{}", told());
 
     let result = if end == End::Refused && row.goes_on { Some(Ok(())) } else { result };
@@ -129,12 +129,12 @@ fn is_whole_or_not_at_all<const N: usize>(string: &ArrayString<N>, row: Row) {
 /// Asserts what a string takes of a row that is cut, that the room is what is left, and that nothing but the end was written.
 fn is_cut_and_says_so<const N: usize>(string: &ArrayString<N>, row: Row) {
     let (before, mut truncated) = (string.as_str(), *string);
-    let (taken, result) = row.truncated(capacity::<N>() - before.len());
+    let (taken, result) = row.truncated(N - before.len());
     let told = || format!("{N}: {before:?} and {row:?}");
-    assert_eq!(unless_it_panics(|| truncated.write_truncated(format_args!("{row}"))), result, "{}", told());
+    assert_eq!(unless_it_panics(|| truncated.write_truncate(format_args!("{row}"))), result, "{}", told());
     let after = format!("{before}{taken}");
-    assert_eq!((truncated.as_str(), truncated.len() as usize), (&*after, after.len()), "{}", told());
-    let room = "m".repeat(capacity::<N>() - after.len());
+    assert_eq!((truncated.as_str(), truncated.len()), (&*after, after.len()), "{}", told());
+    let room = "m".repeat(N - after.len());
     assert!(truncated.try_push_str(&room).is_ok() && truncated.is_full(), "{}", told());
     assert_eq!(truncated.as_str(), after + &room, "{}", told());
 }
@@ -180,8 +180,8 @@ fn two_pieces_of_each_length_at_each_length() {
 #[test]
 fn each_display_stops_at_each_place() {
     fn at<const N: usize>() {
-        for before in 0..=N.min(255) {
-            let room = N.min(255) - before;
+        for before in 0..=N {
+            let room = N - before;
             let string = behind::<N>(room.min(2), &"m".repeat(before));
             for first in [0, 1, room / 2, room, room + 1] {
                 for second in [0, 1, room.saturating_sub(first), room + 1 - first.min(room)] {
@@ -195,7 +195,7 @@ fn each_display_stops_at_each_place() {
             }
         }
     }
-    at_capacities!(at: 0 1 2 3 4 5 6 7 8 9 10 11 12 13 14 15 16 17 18 19 20 63 255 256 300);
+    at_capacities!(at: 0 1 2 3 4 5 6 7 8 9 10 11 12 13 14 15 16 17 18 19 20 63 255);
 }
 
 #[test]
@@ -219,7 +219,7 @@ fn wide_pieces_are_cut_at_no_place() {
 fn long_pieces_fill_long_strings() {
     fn at<const N: usize>(lengths: &[usize]) {
         for before in lengths {
-            let room = N.min(255) - before;
+            let room = N - before;
             let string = behind::<N>(room / 2, &"m".repeat(*before));
             for first in 0..=room + 1 {
                 for second in [0, 1, room.saturating_sub(first), room + 1 - first.min(room), 255, 256, 511] {
@@ -231,24 +231,14 @@ fn long_pieces_fill_long_strings() {
     }
     at::<63>(&(0..=63).collect::<Vec<_>>());
     at::<255>(&[0, 1, 2, 126, 127, 128, 253, 254, 255]);
-    at::<300>(&[0, 1, 254, 255]);
-}
-
-/// Calls a generic check at each capacity to 255, and at two of which 255 bytes are used.
-macro_rules! at_each_capacity {
-    ($check:ident: $($tens:literal)*) => {
-        $(at_each_capacity!($check, $tens, 0 1 2 3 4 5 6 7 8 9 10 11 12 13 14 15);)*
-    };
-    ($check:ident, $tens:literal, $($ones:literal)*) => {
-        $($check::<{ 16 * $tens + $ones }>();)*
-    };
+    at::<254>(&[0, 1, 253, 254]);
 }
 
 #[test]
 fn what_is_cut_at_each_capacity_and_each_offset() {
     fn at<const N: usize>() {
-        for before in edges(capacity::<N>()).into_iter().filter(|before| *before <= capacity::<N>()) {
-            let room = capacity::<N>() - before;
+        for before in edges(N).into_iter().filter(|before| *before <= N) {
+            let room = N - before;
             for offset in 0..=room {
                 let string = behind::<N>(offset, &"m".repeat(before));
                 let first = "a".repeat(room.saturating_sub(2));
@@ -260,9 +250,11 @@ fn what_is_cut_at_each_capacity_and_each_offset() {
             }
         }
     }
-    at_each_capacity!(at: 0 1 2 3 4 5 6 7 8 9 10 11 12 13 14 15);
-    at::<256>();
-    at::<1000>();
+    at_each_capacity!(at).for_each(drop);
+}
+
+fn text_of<const N: usize>(text: &str) -> ArrayString<N> {
+    ArrayString::try_from_str(text).expect("it fits")
 }
 
 /// Asserts that a string takes the arguments as a `String` does if there is room, and else stays; and that a prefix of them is cut.
@@ -274,7 +266,7 @@ fn is_formatted<const N: usize>(arguments: fmt::Arguments) {
         let fits = before + printed.len() <= N;
         assert_eq!(string.try_write(arguments).is_ok(), fits, "{N} {before} {printed}");
         let mut truncated = behind::<N>((N - before).min(1), &text);
-        assert_eq!(truncated.write_truncated(arguments), Ok(!fits), "{N} {before} {printed}");
+        assert_eq!(truncated.write_truncate(arguments), Ok(!fits), "{N} {before} {printed}");
         assert_eq!(truncated.as_str(), text.clone() + cut(&printed, N - before), "{N} {before} {printed}");
         assert_eq!(string.as_str(), if fits { text + &printed } else { text }, "{N} {before} {printed}");
     }
@@ -288,22 +280,10 @@ fn each_format_is_whole_or_not_there() {
         is_formatted::<N>(format_args!("{}-{}", "abcd", "efghi"));
         is_formatted::<N>(format_args!("{:>6}|{:<4}|{:^5}", 7, "é", '€'));
         is_formatted::<N>(format_args!("{:?} {:#x} {:08.3}", Some("a\n"), 255, 1.5));
-        is_formatted::<N>(format_args!("{}{}", ArrayString::<8>::from("aé€"), CacheString::from("🤔")));
+        is_formatted::<N>(format_args!("{}{}", text_of::<8>("aé€"), text_of::<63>("🤔")));
         is_formatted::<N>(format_args!("{:?}", [1, 23, 456]));
     }
     at_capacities!(at: 0 1 2 3 4 5 6 7 8 9 10 11 12 13 14 15 16 17 18 19 20 63 255);
-}
-
-#[test]
-fn a_cache_string_takes_a_row_too() {
-    for (before, fits) in [(55, true), (56, false)] {
-        let mut key = CacheString::from("m".repeat(before).as_str());
-        assert_eq!(key.try_write(format_args!("{}:{}", "user", 427)).is_ok(), fits);
-        assert_eq!(key.as_str(), "m".repeat(before) + if fits { "user:427" } else { "" });
-        let mut key = CacheString::from("m".repeat(before).as_str());
-        assert_eq!(key.write_truncated(format_args!("{}:{}", "user", 427)), Ok(!fits));
-        assert_eq!(key.as_str(), "m".repeat(before) + if fits { "user:427" } else { "user:42" });
-    }
 }
 
 #[test]
@@ -316,17 +296,38 @@ fn a_display_without_an_end_is_cut() {
             }
         }
     }
-    let mut line = ArrayString::<8>::from("x");
-    assert_eq!(line.write_truncated(format_args!("{Endless}")), Ok(true));
+    let mut line = text_of::<8>("x");
+    assert_eq!(line.write_truncate(format_args!("{Endless}")), Ok(true));
     assert_eq!(line, "xééé");
 }
 
 #[test]
 fn a_row_is_written_after_one_that_panicked() {
-    let mut line = ArrayString::<8>::from("x");
+    let mut line = text_of::<8>("x");
     let row = Row { pieces: &["abc", "def"], stop: Some((2, End::Panicked)), goes_on: false };
     assert_eq!(unless_it_panics(|| line.try_write(format_args!("{row}{row}"))), None);
     assert_eq!((line.try_write(format_args!("{}-{}", 1, 2)), line.as_str()), (Ok(()), "x1-2"));
-    assert_eq!(unless_it_panics(|| line.write_truncated(format_args!("{row}"))), Some(Ok(true)));
+    assert_eq!(unless_it_panics(|| line.write_truncate(format_args!("{row}"))), Some(Ok(true)));
     assert_eq!(line, "x1-2abcd");
+}
+
+/// A row that is refused makes nothing, also one that passes over that.
+#[test]
+fn a_display_that_fails_makes_nothing() {
+    fn line(row: &Row) -> Result<ArrayString<4>, Error> {
+        let mut line = text_of("~");
+        line.try_write(format_args!("{row}"))?;
+        Ok(line)
+    }
+    let row = |stop| Row { pieces: &["abc"], stop, goes_on: true };
+    let (failing, passing) = (row(Some((1, End::Failed))), row(None));
+    assert_eq!((line(&failing), line(&passing)), (Err(Error::OutOfBounds), Ok(text_of("~abc"))));
+    assert_eq!(ArrayString::<4>::try_from_format(format_args!("{failing}")), Err(fmt::Error));
+    assert_eq!(ArrayString::<2>::try_from_format(format_args!("{passing}")), Err(fmt::Error));
+    let long = "m".repeat(21);
+    assert_eq!(SmallString::try_from_format(format_args!("{long}{passing}")), Err(fmt::Error));
+    assert_eq!(
+        SmallString::try_from_format(format_args!("{}{passing}", &long[1..])),
+        Ok(text_of(&format!("{}abc", &long[1..])))
+    );
 }

@@ -1,23 +1,19 @@
-//! What is handed in may panic in the middle of a call, or tell what is not so. The string is then a text all the same.
+//! What is handed in may panic at each of its calls, or tell what is not so. The string is then a text all the same: the one that the
+//! documentation of the call promises.
 
 use std::cell::Cell;
 use std::fmt::{self, Display, Write};
 use std::ops::{Bound, RangeBounds};
-use std::panic::{AssertUnwindSafe, catch_unwind};
+use std::panic::{AssertUnwindSafe, catch_unwind, resume_unwind};
 
-use arraystring::ArrayString;
-use states::{MadeAndWanted, WIDTHS, at_each_capacity, cases, counts, length, string_counts, texts};
+use arraystring::{ArrayString, Error};
+use inputs::{behind, kept};
 
-#[path = "every_state/states.rs"]
-mod states;
+mod inputs;
 
-/// A string whose text begins at an offset of its array.
-fn behind<const N: usize>(offset: usize, text: &str) -> ArrayString<N> {
-    let mut string = ArrayString::<N>::from(".".repeat(offset).as_str());
-    assert_eq!(string.try_push_str(text), Ok(()));
-    assert!(string.drain(..offset as u8).is_ok());
-    assert_eq!(states::offset(&string), offset);
-    string
+/// The panic of these tests, which prints nothing.
+fn panic_now() -> ! {
+    resume_unwind(Box::new("on purpose"))
 }
 
 /// Makes a call that panics on a string, and returns the text that it leaves.
@@ -32,12 +28,11 @@ fn left_at<const N: usize>(offset: usize, text: &str, call: impl FnOnce(&mut Arr
     let panicked = catch_unwind(AssertUnwindSafe(|| call(&mut string)));
     assert!(panicked.is_err(), "no panic at `{text}`");
     assert_eq!(std::str::from_utf8(string.as_bytes()), Ok(string.as_str()));
-    assert_eq!(string.len() as usize, string.as_str().len());
+    assert_eq!(string.len(), string.as_str().len());
     let text = string.as_str().to_string();
     // It goes on as any string of this text.
-    let mut again = ArrayString::<N>::from(text.as_str());
-    string.push_str("é€");
-    again.push_str("é€");
+    let mut again = ArrayString::<N>::try_from_str(&text).expect("it fits");
+    assert_eq!(string.push_str_truncate("é€"), again.push_str_truncate("é€"));
     assert_eq!(string, again);
     text
 }
@@ -49,11 +44,6 @@ const TEXTS: &[&str] = &[
     "éaéaéaéaéa",
     "0123456789abcdefghijklmnopqrstuvwxyz€0123456789abcdefghijklmnopqrstuvwxyz",
 ];
-
-/// The panic of these tests, which prints nothing.
-fn panic_now() -> ! {
-    std::panic::resume_unwind(Box::new("on purpose"))
-}
 
 /// Calls `retain` with a closure that gives some answers and then panics, on a text that begins at an offset, and asserts
 /// what it leaves. The answer about the character at `at` is yes where `keeps` says so.
@@ -92,7 +82,6 @@ fn a_closure_that_panics_leaves_what_it_kept() {
 
 #[test]
 fn each_four_widths_at_each_offset() {
-    const WIDTHS: [char; 4] = ['a', 'é', '€', '🤔'];
     for widths in 0..256 {
         let text: String = (0..4).map(|at| WIDTHS[widths >> (2 * at) & 3]).collect();
         for offset in OFFSETS {
@@ -204,23 +193,20 @@ impl<I: Iterator> Iterator for Panics<I> {
 }
 
 #[test]
-fn an_iterator_that_panics_leaves_what_was_taken() {
+fn an_iterator_that_panics_leaves_what_the_call_says() {
     for text in TEXTS {
         for taken in 0..text.chars().count() {
             for hint in [(0, Some(0)), (usize::MAX, None), (usize::MAX, Some(0))] {
                 let chars = || Panics { items: text.chars(), left: taken, hint };
                 let pieces = || Panics { items: text.split_inclusive(|_| true), left: taken, hint };
                 let wanted: String = "é".chars().chain(text.chars().take(taken)).collect();
-                assert_eq!(left::<100>("é", |string| string.extend_chars(chars())), wanted);
-                assert_eq!(left::<100>("é", |string| string.extend_strs(pieces())), wanted);
-                assert_eq!(left::<100>("é", |string| string.extend(chars())), wanted);
-                assert_eq!(left::<100>("é", |string| string.extend(pieces())), wanted);
+                assert_eq!(left::<100>("é", |string| _ = string.extend_chars_truncate(chars())), wanted);
+                assert_eq!(left::<100>("é", |string| _ = string.extend_strs_truncate(pieces())), wanted);
                 assert_eq!(left::<100>("é", |string| _ = string.try_extend_chars(chars())), "é");
                 assert_eq!(left::<100>("é", |string| _ = string.try_extend_strs(pieces())), "é");
                 // Where nothing is left of the result, the string that was there is as it was.
-                assert_eq!(left::<100>("é", |string| *string = ArrayString::from_chars(chars())), "é");
-                assert_eq!(left::<100>("é", |string| *string = chars().collect()), "é");
-                assert_eq!(left::<100>("é", |string| *string = ArrayString::from_iterator(pieces())), "é");
+                assert_eq!(left::<100>("é", |string| *string = ArrayString::from_chars_truncate(chars())), "é");
+                assert_eq!(left::<100>("é", |string| *string = ArrayString::from_iterator_truncate(pieces())), "é");
                 assert_eq!(left::<100>("é", |string| *string = ArrayString::try_from_chars(chars()).unwrap()), "é");
                 assert_eq!(left::<100>("é", |string| *string = ArrayString::try_from_iterator(pieces()).unwrap()), "é");
             }
@@ -228,160 +214,244 @@ fn an_iterator_that_panics_leaves_what_was_taken() {
     }
 }
 
-#[test]
-fn size_hints_that_lie_change_nothing() {
-    for hint in [(0, Some(0)), (1, Some(1)), (usize::MAX, None), (usize::MAX, Some(0))] {
-        let items = Panics { items: "aé€🤔b".chars(), left: 100, hint };
-        assert_eq!(items.collect::<ArrayString<10>>(), "aé€🤔");
-        let items = Panics { items: ["aé", "€🤔b"].into_iter(), left: 100, hint };
-        assert_eq!(items.collect::<ArrayString<7>>(), "aé€");
+/// An iterator whose drop panics.
+struct Items<'a> {
+    items: std::slice::Iter<'a, &'a str>,
+    _dropped: Dropped,
+}
+
+impl<'a> Iterator for Items<'a> {
+    type Item = &'a str;
+
+    fn next(&mut self) -> Option<&'a str> {
+        self.items.next().copied()
+    }
+}
+
+/// What panics where it is turned into such an iterator, or makes one.
+#[derive(Clone, Copy)]
+struct Source<'a> {
+    items: &'a [&'a str],
+    is_made: bool,
+}
+
+impl<'a> IntoIterator for Source<'a> {
+    type Item = &'a str;
+    type IntoIter = Items<'a>;
+
+    fn into_iter(self) -> Items<'a> {
+        if !self.is_made {
+            panic_now();
+        }
+        Items { items: self.items.iter(), _dropped: Dropped }
+    }
+}
+
+/// The same, which gives the first character of each item.
+struct Characters<'a>(Source<'a>);
+
+impl<'a> IntoIterator for Characters<'a> {
+    type Item = char;
+    type IntoIter = std::iter::Map<Items<'a>, fn(&str) -> char>;
+
+    fn into_iter(self) -> Self::IntoIter {
+        self.0.into_iter().map(|item| item.chars().next().unwrap_or('-'))
     }
 }
 
 #[test]
-fn an_iterator_without_an_end_is_cut() {
-    assert_eq!(std::iter::repeat('é').collect::<ArrayString<5>>(), "éé");
-    assert!(ArrayString::<5>::try_from_chars(std::iter::repeat('é')).is_err());
-    assert_eq!(std::iter::repeat("abc").collect::<ArrayString<5>>(), "abcab");
+fn the_making_or_the_drop_of_an_iterator_panics() {
+    let all = ["a", "é", "", "€b"];
+    for (count, before) in (0..=all.len()).flat_map(|count| ["", "é", "éé"].map(|before| (count, before))) {
+        let items = &all[..count];
+        let added = kept(items.iter().copied(), 8 - before.len()).0;
+        for is_made in [false, true] {
+            let source = Source { items, is_made };
+            let cut = if is_made { format!("{before}{added}") } else { before.to_string() };
+            assert_eq!(left::<8>(before, |string| _ = string.extend_strs_truncate(source)), cut);
+            assert_eq!(left::<8>(before, |string| _ = string.try_extend_strs(source)), before);
+            assert_eq!(left::<8>(before, |string| _ = string.try_extend_chars(Characters(source))), before);
+            assert_eq!(left::<8>(before, |string| *string = ArrayString::from_iterator_truncate(source)), before);
+            assert_eq!(
+                left::<8>(before, |string| *string = ArrayString::from_chars_truncate(Characters(source))),
+                before
+            );
+            assert_eq!(left::<8>(before, |string| *string = ArrayString::try_from_iterator(source).unwrap()), before);
+            assert_eq!(
+                left::<8>(before, |string| *string = ArrayString::try_from_chars(Characters(source)).unwrap()),
+                before
+            );
+        }
+    }
 }
 
 /// A range that tells other bounds each time.
 struct Lies<'a> {
     asked: Cell<usize>,
-    bounds: &'a [(Bound<u8>, Bound<u8>)],
+    bounds: &'a [(Bound<usize>, Bound<usize>)],
 }
 
 impl Lies<'_> {
-    fn told(&self) -> &(Bound<u8>, Bound<u8>) {
+    fn told(&self) -> &(Bound<usize>, Bound<usize>) {
         self.asked.set(self.asked.get() + 1);
         &self.bounds[self.asked.get() % self.bounds.len()]
     }
 }
 
-impl RangeBounds<u8> for Lies<'_> {
-    fn start_bound(&self) -> Bound<&u8> {
+impl RangeBounds<usize> for Lies<'_> {
+    fn start_bound(&self) -> Bound<&usize> {
         self.told().0.as_ref()
     }
 
-    fn end_bound(&self) -> Bound<&u8> {
+    fn end_bound(&self) -> Bound<&usize> {
         self.told().1.as_ref()
     }
 
-    fn contains<U: PartialOrd<u8> + ?Sized>(&self, _: &U) -> bool
+    fn contains<U: PartialOrd<usize> + ?Sized>(&self, _: &U) -> bool
     where
-        u8: PartialOrd<U>,
+        usize: PartialOrd<U>,
     {
         true
     }
 }
 
+/// What a range that lies takes out is what some honest range of its bounds would: each is asked for once.
 #[test]
-fn ranges_that_lie_leave_a_text() {
+fn ranges_that_lie_are_asked_once_for_each_end() {
     use Bound::{Excluded, Included, Unbounded};
-    let places =
-        [Unbounded, Included(0), Included(1), Excluded(2), Included(3), Excluded(9), Included(255), Excluded(255)];
-    let all: Vec<_> = places.iter().flat_map(|start| places.iter().map(move |end| (*start, *end))).collect();
-    for one in &all {
-        for other in &all {
-            let bounds = [*one, *other];
+    let places = [0, 1, 2, 3, 9, 255, 256, 257, 65536, usize::MAX].map(|at| [Included(at), Excluded(at)]).concat();
+    let places = || places.iter().copied().chain([Unbounded]);
+    let all: Vec<_> = places().flat_map(|start| places().map(move |end| (start, end))).collect();
+    let others = [
+        (Unbounded, Unbounded),
+        (Included(3), Included(3)),
+        (Excluded(usize::MAX), Included(usize::MAX)),
+        (Included(256), Excluded(1)),
+    ];
+    for (one, other) in all.iter().flat_map(|one| others.iter().map(move |other| (*one, *other))) {
+        for bounds in [[one, other], [other, one]] {
             let lies = || Lies { asked: Cell::new(0), bounds: &bounds };
-            let mut string = ArrayString::<12>::from(".aé€🤔");
-            let _ = string.remove(0);
-            let _ = string.get(lies()).map(|part| part.chars().count());
-            let _ = catch_unwind(|| string.slice(lies()).chars().count());
-            let _ = catch_unwind(AssertUnwindSafe(|| string.make_ascii_uppercase_in(lies())));
-            let _ = catch_unwind(AssertUnwindSafe(|| string.make_ascii_lowercase_in(lies())));
-            let _ = string.replace_range(lies(), "é");
-            let _ = string.drain(lies()).map(|mut drain| drain.next_back());
-            assert_eq!(std::str::from_utf8(string.as_bytes()), Ok(string.as_str()));
+            let honest = (bounds[1].0, bounds[0].1);
+            let [mut drained, mut replaced, mut by_honest] = [behind::<12>(1, "aé€🤔"); 3];
+            let range = lies();
+            assert_eq!(drained.drain(&range), by_honest.drain(honest), "{bounds:?}");
+            assert_eq!((drained, range.asked.get()), (by_honest, 2), "{bounds:?}");
+            let mut by_honest = behind::<12>(1, "aé€🤔");
+            assert_eq!(replaced.replace_range(lies(), "é"), by_honest.replace_range(honest, "é"), "{bounds:?}");
+            assert_eq!(replaced, by_honest);
         }
     }
 }
 
-/// A text whose `as_ref` panics, or is another one each time.
-struct Text<'a> {
-    asked: Cell<usize>,
-    texts: &'a [&'a str],
-}
+impl RangeBounds<usize> for &Lies<'_> {
+    fn start_bound(&self) -> Bound<&usize> {
+        (**self).start_bound()
+    }
 
-impl AsRef<str> for Text<'_> {
-    fn as_ref(&self) -> &str {
-        self.asked.set(self.asked.get() + 1);
-        self.texts.get(self.asked.get() - 1).unwrap_or_else(|| panic_now())
+    fn end_bound(&self) -> Bound<&usize> {
+        (**self).end_bound()
     }
 }
 
-#[test]
-fn a_text_is_asked_once() {
-    let given = |texts| Text { asked: Cell::new(0), texts };
-    let mut string = ArrayString::<5>::from("ab");
-    string.push_str(given(&["c", "0123456789"]));
-    assert_eq!(string.try_push_str(given(&["d", "0123456789"])), Ok(()));
-    assert_eq!(string.try_insert_str(1, given(&["é"])), Err(arraystring::Error::OutOfBounds));
-    assert_eq!(string.replace_range(..2, given(&["é", "0123456789"])), Ok(()));
-    string.extend_strs([given(&["e", "0123456789"]), given(&["f", "0123456789"])]);
-    assert_eq!(string, "écde");
-    assert_eq!(left::<5>("aé", |string| string.push_str(given(&[]))), "aé");
-    assert_eq!(left::<5>("aé", |string| _ = string.replace_range(.., given(&[]))), "aé");
-    assert_eq!(left::<5>("aé", |string| string.extend_strs([given(&["b"]), given(&[])])), "aéb");
+/// A character of each width in UTF-8.
+const WIDTHS: [char; 4] = ['a', 'é', '€', '🤔'];
+
+/// The greatest capacity at which the tests below go through each string: what the variable `ARRAYSTRING_CAPACITY` of the environment says.
+/// Without it a build with debug assertions, which is slow, stops at a smaller one.
+fn greatest_capacity() -> usize {
+    let told = std::env::var("ARRAYSTRING_CAPACITY").ok();
+    told.map_or(if cfg!(debug_assertions) { 4 } else { 6 }, |told| {
+        told.parse().expect("ARRAYSTRING_CAPACITY is a number")
+    })
 }
 
-/// Whether a call panics.
-fn panics<T>(call: impl FnOnce() -> T) -> bool {
-    catch_unwind(AssertUnwindSafe(call)).is_err()
+/// Calls a generic test at each capacity up to the greatest.
+macro_rules! on_every_string {
+    ($test:ident) => {
+        for (capacity, test) in
+            [$test::<0>, $test::<1>, $test::<2>, $test::<3>, $test::<4>, $test::<5>, $test::<6>].iter().enumerate()
+        {
+            if capacity <= greatest_capacity() {
+                test();
+            }
+        }
+    };
 }
 
-/// How many strings there are at a capacity.
-fn total<const N: usize>() -> usize {
-    string_counts::<N>(&WIDTHS).iter().sum()
+/// Each text of characters of each width that has so many bytes at most, shorter ones first.
+fn texts(size: usize) -> Vec<String> {
+    let mut texts = vec![String::new()];
+    let mut at = 0;
+    while at < texts.len() {
+        let longer = WIDTHS.map(|ch| texts[at].clone() + ch.encode_utf8(&mut [0; 4]));
+        texts.extend(longer.into_iter().filter(|text| text.len() <= size));
+        at += 1;
+    }
+    assert_eq!(texts.iter().filter(|text| text.len() == 4.min(size)).count(), [1, 1, 2, 4, 8][4.min(size)]);
+    texts
+}
+
+/// Each text that fits, with each string of it: at each start offset.
+fn strings<const N: usize>() -> Vec<(String, ArrayString<N>)> {
+    let texts = texts(N).into_iter();
+    texts.flat_map(|text| (0..=N - text.len()).map(move |offset| (text.clone(), behind(offset, &text)))).collect()
+}
+
+/// Makes a call on a copy of a string. Asserts whether it panics, and the text that it leaves, also when it is filled then.
+fn leaves<const N: usize, T>(
+    name: &str,
+    string: &ArrayString<N>,
+    wanted: &(bool, String),
+    call: impl FnOnce(&mut ArrayString<N>) -> T,
+) {
+    let mut after = *string;
+    let panicked = catch_unwind(AssertUnwindSafe(|| _ = call(&mut after))).is_err();
+    assert_eq!((panicked, after.as_str()), (wanted.0, &*wanted.1), "{name} of {string:?} at {N}");
+    let filler = "~".repeat(N - after.len());
+    assert_eq!(
+        (after.try_push_str(&filler), after.as_str()),
+        (Ok(()), &*format!("{}{filler}", wanted.1)),
+        "{name} of {string:?} at {N}"
+    );
 }
 
 #[test]
 fn a_closure_panics_at_each_call_on_every_string() {
-    fn retained<const N: usize>() -> MadeAndWanted {
-        let (mut made, mut wanted) = (0, 0);
-        for case in cases::<N>(&WIDTHS) {
-            for stops in 0..length(&case.text) {
-                for pattern in 0..1 << stops {
-                    let keeps = |at: usize| pattern >> at & 1 == 1;
-                    let kept = case.text.chars().take(stops).enumerate().filter(|(at, _)| keeps(*at));
-                    let left = (true, kept.map(|(_, ch)| ch).collect());
-                    made += case.each(("retain", stops, pattern), &left, |string| {
-                        let mut answers = (0..stops).map(keeps);
-                        panics(|| string.retain(|_| answers.next().unwrap_or_else(|| panic_now())))
-                    });
-                }
+    fn retained<const N: usize>() {
+        for (text, string) in strings::<N>() {
+            let count = text.chars().count();
+            for (stops, pattern) in (0..=count).flat_map(|stops| (0..1 << stops).map(move |pattern| (stops, pattern))) {
+                let keeps = |at: usize| pattern >> at & 1 == 1;
+                let kept = text.chars().take(stops).enumerate().filter(|(at, _)| keeps(*at));
+                let left = (stops < count, kept.map(|(_, ch)| ch).collect());
+                leaves("retain", &string, &left, |string| {
+                    let mut answers = (0..stops).map(keeps);
+                    string.retain(|_| answers.next().unwrap_or_else(|| panic_now()));
+                });
             }
-            wanted += case.string_count() * ((1 << length(&case.text)) - 1);
         }
-        (made, wanted)
     }
-    at_each_capacity!(retained);
+    on_every_string!(retained);
 }
 
 #[test]
 fn the_drop_of_a_closure_panics_on_every_string() {
-    fn dropped<const N: usize>() -> MadeAndWanted {
-        let (mut made, mut wanted) = (0, 0);
-        for case in cases::<N>(&WIDTHS) {
-            for pattern in 0..1 << length(&case.text) {
+    fn dropped<const N: usize>() {
+        for (text, string) in strings::<N>() {
+            for pattern in 0..1 << text.chars().count() {
                 let keeps = move |at: usize| pattern >> at & 1 == 1;
-                let kept = case.text.chars().enumerate().filter(|(at, _)| keeps(*at)).map(|(_, ch)| ch).collect();
-                made += case.each(("retain", pattern), &(true, kept), |string| {
+                let kept = text.chars().enumerate().filter(|(at, _)| keeps(*at)).map(|(_, ch)| ch).collect();
+                leaves("retain", &string, &(true, kept), |string| {
                     let (dropped, mut answers) = (Dropped, (0..).map(keeps));
-                    panics(|| {
-                        string.retain(move |_| {
-                            let _ = &dropped;
-                            answers.next() == Some(true)
-                        });
-                    })
+                    string.retain(move |_| {
+                        let _ = &dropped;
+                        answers.next() == Some(true)
+                    });
                 });
             }
-            wanted += case.string_count() << length(&case.text);
         }
-        (made, wanted)
     }
-    at_each_capacity!(dropped);
+    on_every_string!(dropped);
 }
 
 /// Whether a call panics that adds items, and the text that it leaves, where so many items come before the panic.
@@ -406,131 +476,166 @@ impl AsRef<str> for Item<'_> {
 }
 
 /// A text that is written character by character, and panics behind the last.
-struct Written<'a>(&'a [&'a str]);
+struct Written<'a> {
+    items: &'a [&'a str],
+    /// Whether it goes on behind an item that is refused, as if nothing had been.
+    goes_on: bool,
+}
 
 impl Display for Written<'_> {
     fn fmt(&self, f: &mut fmt::Formatter<'_>) -> fmt::Result {
-        self.0.iter().try_for_each(|item| f.write_str(item))?;
+        for item in self.items {
+            let written = f.write_str(item);
+            if !self.goes_on {
+                written?;
+            }
+        }
         panic_now()
     }
 }
 
 #[test]
 fn an_iterator_panics_at_each_call_on_every_string() {
-    fn added<const N: usize>() -> MadeAndWanted {
-        let mut made = 0;
-        let texts = texts(&WIDTHS, N + 2);
-        for case in cases::<N>(&WIDTHS) {
+    fn added<const N: usize>() {
+        let texts = texts(N + 2);
+        for (text, string) in strings::<N>() {
             for given in &texts {
                 let items: Vec<_> = given.split_inclusive(|_| true).collect();
                 for stops in 0..=items.len() {
-                    let name = |call| (call, given, stops);
-                    let left = extended(&case.text, &items, stops, N);
+                    let left = extended(&text, &items, stops, N);
+                    let none = (left.0, text.clone());
                     let chars = || Panics { items: given.chars(), left: stops, hint: (0, None) };
                     let pieces = || Panics { items: items.iter(), left: stops, hint: (usize::MAX, Some(0)) };
                     let asked = || items[..stops].iter().map(|item| Item(Some(item))).chain([Item(None)]);
-                    made += case.each(name("extend_chars"), &left, |string| panics(|| string.extend_chars(chars())));
-                    made += case.each(name("extend_strs"), &left, |string| panics(|| string.extend_strs(pieces())));
-                    made += case.each(name("as_ref"), &left, |string| panics(|| string.extend_strs(asked())));
-                    made += case.each(name("write!"), &left, |string| {
-                        panics(|| write!(string, "{}", Written(&items[..stops])))
-                    });
+                    leaves("extend_chars_truncate", &string, &left, |string| string.extend_chars_truncate(chars()));
+                    leaves("extend_strs_truncate", &string, &left, |string| string.extend_strs_truncate(pieces()));
+                    leaves("as_ref", &string, &left, |string| string.extend_strs_truncate(asked()));
                     // What is appended whole or not at all leaves nothing behind, whether it panics or is refused.
-                    let none = (left.0, case.text.clone());
-                    made += case.each(name("try_write"), &none, |string| {
-                        panics(|| string.try_write(format_args!("{}", Written(&items[..stops]))))
-                    });
-                    // What is cut before the panic is not taken back.
-                    let cut = if left.0 { &none } else { &left };
-                    made += case.each(name("write_truncated"), cut, |string| {
-                        panics(|| string.write_truncated(format_args!("{}", Written(&items[..stops]))))
-                    });
-                    made += case
-                        .each(name("try_extend_chars"), &none, |string| panics(|| string.try_extend_chars(chars())));
-                    made +=
-                        case.each(name("try_extend_strs"), &none, |string| panics(|| string.try_extend_strs(pieces())));
-                    made +=
-                        case.each(name("as_ref, whole"), &none, |string| panics(|| string.try_extend_strs(asked())));
+                    leaves("try_extend_chars", &string, &none, |string| string.try_extend_chars(chars()));
+                    leaves("try_extend_strs", &string, &none, |string| string.try_extend_strs(pieces()));
+                    leaves("as_ref, whole", &string, &none, |string| string.try_extend_strs(asked()));
                 }
             }
         }
-        let panics: usize = texts.iter().map(|given| length(given) + 1).sum();
-        (made, 9 * total::<N>() * panics)
     }
-    at_each_capacity!(added);
+    on_every_string!(added);
+}
+
+#[test]
+fn a_display_panics_behind_each_piece_on_every_string() {
+    fn written<const N: usize>() {
+        let texts = texts(N + 2);
+        for (text, string) in strings::<N>() {
+            for given in &texts {
+                let items: Vec<_> = given.split_inclusive(|_| true).collect();
+                for (stops, goes_on) in (0..=items.len()).flat_map(|stops| [(stops, false), (stops, true)]) {
+                    let items = &items[..stops];
+                    let row = Written { items, goes_on };
+                    let left = extended(&text, items, stops, N);
+                    let panics = left.0 || goes_on;
+                    let none = (panics, text.clone());
+                    leaves("try_write", &string, &none, |string| string.try_write(format_args!("{row}")));
+                    // What is cut before the panic is not taken back, if the `Display` stops there as it is told.
+                    let cut = if panics { &none } else { &left };
+                    leaves("write_truncate", &string, cut, |string| string.write_truncate(format_args!("{row}")));
+                    // `write!` keeps each piece that fitted.
+                    let room = N - text.len();
+                    let fitting = if goes_on { all_that_fit(items, room) } else { left.1[text.len()..].to_string() };
+                    leaves("write!", &string, &(panics, format!("{text}{fitting}")), |string| write!(string, "{row}"));
+                    leaves("try_from_format", &string, &(panics_anew::<N>(items, goes_on), text.clone()), |_| {
+                        ArrayString::<N>::try_from_format(format_args!("{row}"))
+                    });
+                }
+            }
+        }
+    }
+    on_every_string!(written);
+}
+
+/// The pieces that fit, also behind others that do not.
+fn all_that_fit(items: &[&str], room: usize) -> String {
+    items.iter().fold(String::new(), |text, item| if text.len() + item.len() <= room { text + item } else { text })
+}
+
+/// Whether a row panics where there is all the room of a capacity.
+fn panics_anew<const N: usize>(items: &[&str], goes_on: bool) -> bool {
+    goes_on || items.concat().len() <= N
 }
 
 #[test]
 fn an_iterator_panics_where_a_string_is_made() {
-    fn made<const N: usize>() -> MadeAndWanted {
-        let (mut made, mut panicked) = (0, 0);
-        let texts = texts(&WIDTHS, N + 2);
-        for given in &texts {
+    fn made<const N: usize>() {
+        for given in texts(N + 2) {
             let items: Vec<_> = given.split_inclusive(|_| true).collect();
             for stops in 0..=items.len() {
                 let wanted = extended("", &items, stops, N).0;
                 let chars = || Panics { items: given.chars(), left: stops, hint: (0, None) };
                 let pieces = || Panics { items: items.iter(), left: stops, hint: (0, None) };
+                let panics = |make: &dyn Fn() -> bool| catch_unwind(AssertUnwindSafe(make)).is_err();
                 let calls = [
-                    panics(|| ArrayString::<N>::from_chars(chars())),
-                    panics(|| ArrayString::<N>::try_from_chars(chars())),
-                    panics(|| ArrayString::<N>::from_iterator(pieces())),
-                    panics(|| ArrayString::<N>::try_from_iterator(pieces())),
-                    panics(|| chars().collect::<ArrayString<N>>()),
+                    panics(&|| ArrayString::<N>::from_chars_truncate(chars()).is_empty()),
+                    panics(&|| ArrayString::<N>::try_from_chars(chars()).is_ok()),
+                    panics(&|| ArrayString::<N>::from_iterator_truncate(pieces()).is_empty()),
+                    panics(&|| ArrayString::<N>::try_from_iterator(pieces()).is_ok()),
                 ];
-                assert_eq!(calls, [wanted; 5], "{given} and a panic behind {stops}");
-                made += calls.len();
-                panicked += usize::from(wanted);
+                assert_eq!(calls, [wanted; 4], "{given} and a panic behind {stops}");
             }
         }
-        assert!(panicked >= counts(&WIDTHS, N).iter().sum(), "each text that fits, and then a panic");
-        (made, 5 * texts.iter().map(|given| length(given) + 1).sum::<usize>())
     }
-    at_each_capacity!(made);
+    on_every_string!(made);
 }
 
 /// A range whose bounds are asked for so many times before a panic.
 struct Asked(Cell<usize>);
 
 impl Asked {
-    fn bound(&self) -> Bound<&u8> {
+    fn bound(&self) -> Bound<&usize> {
         self.0.set(self.0.get().checked_sub(1).unwrap_or_else(|| panic_now()));
         Bound::Unbounded
     }
 }
 
-impl RangeBounds<u8> for Asked {
-    fn start_bound(&self) -> Bound<&u8> {
+impl RangeBounds<usize> for Asked {
+    fn start_bound(&self) -> Bound<&usize> {
         self.bound()
     }
 
-    fn end_bound(&self) -> Bound<&u8> {
+    fn end_bound(&self) -> Bound<&usize> {
         self.bound()
     }
 }
 
 #[test]
-fn a_text_or_a_range_panics_on_every_string() {
-    fn unchanged<const N: usize>() -> MadeAndWanted {
-        let (mut made, index) = (0, 0);
-        for case in cases::<N>(&WIDTHS) {
-            let (none, left) = (|| Item(None), (true, case.text.clone()));
-            made += case.each("push_str", &left, |string| panics(|| string.push_str(none())));
-            made += case.each("try_push_str", &left, |string| panics(|| string.try_push_str(none())));
-            made += case.each("insert_str", &left, |string| panics(|| string.insert_str(index, none())));
-            made += case.each("try_insert_str", &left, |string| panics(|| string.try_insert_str(index, none())));
-            made += case.each("replace_range", &left, |string| panics(|| string.replace_range(.., none())));
+fn a_range_panics_at_each_bound_on_every_string() {
+    fn unchanged<const N: usize>() {
+        for (text, string) in strings::<N>() {
             for asked in 0..2 {
-                let range = || Asked(Cell::new(asked));
-                made += case.each("drain", &left, |string| panics(|| string.drain(range())));
-                made += case.each("replace_range", &left, |string| panics(|| string.replace_range(range(), "")));
-                made += case.each("get", &left, |string| panics(|| _ = string.get(range())));
-                made += case.each("slice", &left, |string| panics(|| _ = string.slice(range())));
-                made += case.each("upper case", &left, |string| panics(|| string.make_ascii_uppercase_in(range())));
-                made += case.each("lower case", &left, |string| panics(|| string.make_ascii_lowercase_in(range())));
+                let (range, left) = (|| Asked(Cell::new(asked)), (true, text.clone()));
+                leaves("drain", &string, &left, |string| string.drain(range()));
+                leaves("replace_range", &string, &left, |string| string.replace_range(range(), ""));
             }
+            // (each is asked for once, so here is no panic)
+            leaves("replace_range", &string, &(false, text.clone()), |string| {
+                string.replace_range(Asked(Cell::new(2)), &text)
+            });
+            leaves("drain", &string, &(false, String::new()), |string| string.drain(Asked(Cell::new(2))));
         }
-        (made, 17 * total::<N>())
     }
-    at_each_capacity!(unchanged);
+    on_every_string!(unchanged);
+}
+
+/// A call that is refused after a panic was, or before one, refuses as ever.
+#[test]
+fn a_string_is_as_good_as_new_behind_many_panics() {
+    let mut string = behind::<8>(2, "aé€");
+    for round in 0..1000 {
+        let items = ["b", "é", "€"];
+        let given = || Panics { items: items.iter(), left: round % 3, hint: (0, None) };
+        let panicked = catch_unwind(AssertUnwindSafe(|| string.try_extend_strs(given())));
+        // (one byte and a half of a character fit, so the second item is refused before the third is asked for)
+        assert_eq!(panicked.is_err(), round % 3 < 2, "{round}");
+        assert_eq!(string, "aé€");
+        assert_eq!(string.try_insert_str(2, "b"), Err(Error::Utf8));
+        assert_eq!(string.try_insert_str(1, "abc"), Err(Error::OutOfBounds));
+    }
 }

@@ -10,16 +10,8 @@ mod access;
 #[path = "../inputs/mod.rs"]
 mod inputs;
 
-mod asked_once;
-mod beside_parts;
-mod drains;
-mod given;
-mod items;
-mod mutable_loans;
-mod made;
 #[cfg(feature = "alloc")]
 mod owned_texts;
 mod places;
 mod printing;
 mod shown;
-mod whole;
