@@ -40,8 +40,8 @@ pub trait More: Side {
     fn drain(&mut self, start: usize, end: usize, from_back: bool, each: impl FnMut(char)) -> bool;
 }
 
-/// A string whose calls have the names of this crate's, but those that are told. Where `remove` of an empty text is undefined, it is refused
-/// before the call.
+/// A string whose calls have the names of this crate's, but for those that are told. Where `remove` of an empty text is undefined, it is
+/// refused before the call.
 macro_rules! side {
     (
         [$($generic:tt)*] $text:ty, index: $index:ty, tests_empty: $tests_empty:literal,
