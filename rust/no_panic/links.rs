@@ -8,6 +8,7 @@
 //! refused; and `Debug` of a string and of a `Drain`, which `core` prints.
 #![no_std]
 #![no_main]
+#![allow(clippy::clone_on_copy, clippy::double_ended_iterator_last, reason = "each call is made for its own sake")]
 
 #[cfg(with_alloc)]
 extern crate alloc;
