@@ -71,6 +71,15 @@ fn the_calls_that_cut() {
     let _: fn(&mut Text, Vec<String>) -> bool = Text::extend_strs_truncate;
 }
 
+fn is_handed_on<T: Copy + Send + Sync + Unpin>() {}
+
+#[test]
+fn all_types_are_copied_and_sent() {
+    is_handed_on::<Text>();
+    is_handed_on::<Drain<23>>();
+    is_handed_on::<(Error, OutOfBounds, Utf8, Utf16)>();
+}
+
 #[test]
 fn what_is_other_than_in_the_crate_before() {
     assert_eq!((SmallString::CAPACITY, CacheString::CAPACITY, MaxString::CAPACITY), (23, 63, 255));
@@ -122,7 +131,8 @@ fn what_was_a_fault() {
 
 type Name = ArrayString<8>;
 
-/// Asserts that some codes for a `String` and those for a `Name`, each on a new one of the text `ab`, return and leave what prints the same.
+/// Asserts that some codes for a `String` and those for a `Name`, each on a new one of the text `ab`, return and leave what prints the
+/// same.
 macro_rules! same {
     ($s:ident, $string:ident: $($code:expr),+; $here:ident: $($written:expr),+) => {{
         let mut seen: Vec<(String, String)> = Vec::new();
