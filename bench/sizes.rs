@@ -14,8 +14,6 @@ fn panic(_: &PanicInfo) -> ! {
 #[cfg(not(any(over_arrayvec, over_string)))]
 mod over {
     pub use arraystring::ArrayString as Text;
-    /// An index.
-    pub type At = u8;
     pub type Removed = Result<char, arraystring::Error>;
 
     pub fn made<const N: usize>(given: &str) -> Option<Text<N>> {
@@ -26,7 +24,6 @@ mod over {
 #[cfg(over_arrayvec)]
 mod over {
     pub use arrayvec::ArrayString as Text;
-    pub type At = usize;
     pub type Removed = char;
 
     pub fn made<const N: usize>(given: &str) -> Option<Text<N>> {
@@ -39,7 +36,7 @@ mod over {
 macro_rules! exported {
     ($($capacity:literal)*) => {$(
         const _: () = {
-            use crate::over::{At, Removed, Text, made};
+            use crate::over::{Removed, Text, made};
 
             type Held = Text<$capacity>;
 
@@ -56,7 +53,7 @@ macro_rules! exported {
 
             #[cfg(not(calls = "1"))]
             #[unsafe(export_name = concat!("remove_", $capacity))]
-            pub fn remove(text: &mut Held, at: At) -> Removed {
+            pub fn remove(text: &mut Held, at: usize) -> Removed {
                 text.remove(at)
             }
 

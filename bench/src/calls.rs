@@ -42,11 +42,11 @@ measured! {
         hasher.finish()
     };
     try_push_str_measured<S: Side>(text: &mut S, given: &str) -> bool = text.try_push_str(given);
-    push_str_measured<S: Side>(text: &mut S, given: &str) -> () = text.push_str(given);
+    push_str_truncate_measured<S: Side>(text: &mut S, given: &str) -> () = text.push_str_truncate(given);
     try_push_measured<S: Side>(text: &mut S, ch: char) -> bool = text.try_push(ch);
     pop_measured<S: Side>(text: &mut S) -> Option<char> = text.pop();
-    remove_measured<S: Side>(text: &mut S, index: u8) -> Option<char> = text.remove(usize::from(index));
-    truncate_measured<S: Side>(text: &mut S, size: u8) -> bool = text.truncate(usize::from(size));
+    remove_measured<S: Side>(text: &mut S, index: usize) -> Option<char> = text.remove(index);
+    truncate_measured<S: Side>(text: &mut S, size: usize) -> bool = text.truncate(size);
     window_measured<S: Side>(text: &mut S) -> bool = text.remove(0).is_some_and(|ch| text.try_push(ch));
     line_measured<S: Side>(text: &mut S, given: &str) -> bool = {
         text.clear();
@@ -54,29 +54,30 @@ measured! {
     };
 
     from_str_truncate_measured<S: More>(given: &str) -> S = S::from_str_truncate(given);
-    from_chars_measured<S: More>(given: &str) -> S = S::from_chars(given.chars());
+    from_chars_truncate_measured<S: More>(given: &str) -> S = S::from_chars_truncate(given.chars());
     try_from_utf8_measured<S: More>(given: &[u8]) -> Option<S> = S::try_from_utf8(given);
-    from_utf8_measured<S: More>(given: &[u8]) -> Option<S> = S::from_utf8(given);
-    from_utf16_measured<S: More>(units: &[u16]) -> Option<S> = S::from_utf16(units);
-    from_utf16_lossy_measured<S: More>(units: &[u16]) -> S = S::from_utf16_lossy(units);
-    try_insert_measured<S: More>(text: &mut S, index: u8, ch: char) -> bool = text.try_insert(usize::from(index), ch);
-    try_insert_str_measured<S: More>(text: &mut S, index: u8, given: &str) -> bool =
-        text.try_insert_str(usize::from(index), given);
-    insert_str_measured<S: More>(text: &mut S, index: u8, given: &str) -> bool = text.insert_str(usize::from(index), given);
-    replace_range_measured<S: More>(text: &mut S, start: u8, end: u8, given: &str) -> bool =
-        text.replace_range(usize::from(start), usize::from(end), given);
-    trim_measured<S: More>(text: &mut S) -> () = text.trim();
+    from_utf8_truncate_measured<S: More>(given: &[u8]) -> Option<S> = S::from_utf8_truncate(given);
+    from_utf16_truncate_measured<S: More>(units: &[u16]) -> Option<S> = S::from_utf16_truncate(units);
+    from_utf16_lossy_truncate_measured<S: More>(units: &[u16]) -> S = S::from_utf16_lossy_truncate(units);
+    try_insert_measured<S: More>(text: &mut S, index: usize, ch: char) -> bool = text.try_insert(index, ch);
+    try_insert_str_measured<S: More>(text: &mut S, index: usize, given: &str) -> bool =
+        text.try_insert_str(index, given);
+    insert_str_truncate_measured<S: More>(text: &mut S, index: usize, given: &str) -> bool =
+        text.insert_str_truncate(index, given);
+    replace_range_measured<S: More>(text: &mut S, start: usize, end: usize, given: &str) -> bool =
+        text.replace_range(start, end, given);
+    trim_in_place_measured<S: More>(text: &mut S) -> () = text.trim_in_place();
     retain_measured<S: More>(text: &mut S, dropped: char) -> () = text.retain(|ch| ch != dropped);
     retain_fourth_measured<S: More>(text: &mut S) -> () = text.retain(|ch| !(ch as u32).is_multiple_of(4));
-    split_off_measured<S: More>(text: &mut S, at: u8) -> Option<S> = text.split_off(usize::from(at));
-    drain_measured<S: More>(text: &mut S, start: u8, end: u8) -> u32 = {
+    split_off_measured<S: More>(text: &mut S, at: usize) -> Option<S> = text.split_off(at);
+    drain_measured<S: More>(text: &mut S, start: usize, end: usize) -> u32 = {
         let mut sum = 0u32;
-        text.drain(usize::from(start), usize::from(end), false, |ch| sum = sum.wrapping_add(ch as u32));
+        text.drain(start, end, false, |ch| sum = sum.wrapping_add(ch as u32));
         sum
     };
-    drain_back_measured<S: More>(text: &mut S, start: u8, end: u8) -> u32 = {
+    drain_back_measured<S: More>(text: &mut S, start: usize, end: usize) -> u32 = {
         let mut sum = 0u32;
-        text.drain(usize::from(start), usize::from(end), true, |ch| sum = sum.wrapping_add(ch as u32));
+        text.drain(start, end, true, |ch| sum = sum.wrapping_add(ch as u32));
         sum
     };
     lines_measured<S: More>(text: &mut S, given: &str) -> bool =
@@ -106,8 +107,8 @@ pub fn make<S: Side>(call: Call, text: &mut S, other: &S, case: &Case) -> Option
         Call::Eq => eq_measured(text, other).into(),
         Call::Hash => hash_measured(text),
         Call::TryPushStr => try_push_str_measured(text, given).into(),
-        Call::PushStr => {
-            push_str_measured(text, given);
+        Call::PushStrTruncate => {
+            push_str_truncate_measured(text, given);
             0
         }
         Call::TryPush => try_push_measured(text, case.ch).into(),
@@ -125,17 +126,17 @@ pub fn make_any<S: More>(call: Call, text: &mut S, other: &S, case: &Case) -> Op
     let (held, given, start) = (case.held.as_str(), case.given.as_str(), case.start);
     Some(match call {
         Call::FromStrTruncate => put(text, Some(from_str_truncate_measured(held))),
-        Call::FromChars => put(text, Some(from_chars_measured(held))),
+        Call::FromCharsTruncate => put(text, Some(from_chars_truncate_measured(held))),
         Call::TryFromUtf8 => put(text, try_from_utf8_measured(held.as_bytes())),
-        Call::FromUtf8 => put(text, from_utf8_measured(held.as_bytes())),
-        Call::FromUtf16 => put(text, from_utf16_measured(&case.units)),
-        Call::FromUtf16Lossy => put(text, Some(from_utf16_lossy_measured(&case.units))),
+        Call::FromUtf8Truncate => put(text, from_utf8_truncate_measured(held.as_bytes())),
+        Call::FromUtf16Truncate => put(text, from_utf16_truncate_measured(&case.units)),
+        Call::FromUtf16LossyTruncate => put(text, Some(from_utf16_lossy_truncate_measured(&case.units))),
         Call::TryInsert => try_insert_measured(text, start, case.ch).into(),
         Call::TryInsertStr => try_insert_str_measured(text, start, given).into(),
-        Call::InsertStr => insert_str_measured(text, start, given).into(),
+        Call::InsertStrTruncate => insert_str_truncate_measured(text, start, given).into(),
         Call::ReplaceRange => replace_range_measured(text, start, case.end, given).into(),
-        Call::Trim => {
-            trim_measured(text);
+        Call::TrimInPlace => {
+            trim_in_place_measured(text);
             0
         }
         Call::Retain => {

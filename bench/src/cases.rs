@@ -23,17 +23,17 @@ pub enum Call {
     Window,
     Line,
     FromStrTruncate,
-    FromChars,
+    FromCharsTruncate,
     TryFromUtf8,
-    FromUtf8,
-    FromUtf16,
-    FromUtf16Lossy,
-    PushStr,
+    FromUtf8Truncate,
+    FromUtf16Truncate,
+    FromUtf16LossyTruncate,
+    PushStrTruncate,
     TryInsert,
     TryInsertStr,
-    InsertStr,
+    InsertStrTruncate,
     ReplaceRange,
-    Trim,
+    TrimInPlace,
     Retain,
     RetainFourth,
     SplitOff,
@@ -55,8 +55,8 @@ pub struct Case {
     /// The character that is put in, or dropped.
     pub ch: char,
     /// Where something is put in or taken out, and where a range ends.
-    pub start: u8,
-    pub end: u8,
+    pub start: usize,
+    pub end: usize,
 }
 
 impl Case {
@@ -93,8 +93,8 @@ impl At {
             offset: 0,
             given: String::new(),
             ch: if self.is_mixed { '€' } else { 'c' },
-            start: start as u8,
-            end: end as u8,
+            start,
+            end,
         }
     }
 
@@ -109,7 +109,7 @@ impl At {
 
     fn front(self) -> Option<Case> {
         let case = self.text()?;
-        Some(Case { start: 0, end: case.held.floor_char_boundary(self.size / 4) as u8, ..case })
+        Some(Case { start: 0, end: case.held.floor_char_boundary(self.size / 4), ..case })
     }
 
     /// With a text that ends where the array ends.
@@ -168,7 +168,7 @@ impl At {
     /// A line of the length, of which as much leaves in front as comes behind.
     fn lines(self) -> Option<Case> {
         let case = self.put()?;
-        (self.size <= case.held.len()).then_some(Case { start: 0, end: self.size as u8, ..case })
+        (self.size <= case.held.len()).then_some(Case { start: 0, end: self.size, ..case })
     }
 
     fn surrogate(self) -> Option<Case> {
@@ -228,19 +228,19 @@ pub const CURVES: &[Curve] = &[
     curve("`try_from_str`", Call::TryFromStr, At::text),
     curve("`from_str_truncate`", Call::FromStrTruncate, At::text),
     curve("`from_str_truncate` of too much, mixed", Call::FromStrTruncate, At::too_much),
-    curve("`from_chars`", Call::FromChars, At::text),
-    curve("`from_chars`, mixed", Call::FromChars, At::text),
+    curve("`from_chars_truncate`", Call::FromCharsTruncate, At::text),
+    curve("`from_chars_truncate`, mixed", Call::FromCharsTruncate, At::text),
     curve("`try_from_utf8`", Call::TryFromUtf8, At::text),
     curve("`try_from_utf8`, mixed", Call::TryFromUtf8, At::text),
-    curve("`from_utf8` of too much", Call::FromUtf8, At::too_much),
-    curve("`from_utf16`", Call::FromUtf16, At::text),
-    curve("`from_utf16`, mixed", Call::FromUtf16, At::text),
-    curve("`from_utf16_lossy`", Call::FromUtf16Lossy, At::text),
-    curve("`from_utf16_lossy` of a lone surrogate", Call::FromUtf16Lossy, At::surrogate),
+    curve("`from_utf8_truncate` of too much", Call::FromUtf8Truncate, At::too_much),
+    curve("`from_utf16_truncate`", Call::FromUtf16Truncate, At::text),
+    curve("`from_utf16_truncate`, mixed", Call::FromUtf16Truncate, At::text),
+    curve("`from_utf16_lossy_truncate`", Call::FromUtf16LossyTruncate, At::text),
+    curve("`from_utf16_lossy_truncate` of a lone surrogate", Call::FromUtf16LossyTruncate, At::surrogate),
     curve("`clone`", Call::Clone, At::text),
     curve("`try_push_str`", Call::TryPushStr, At::put),
-    curve("`push_str`", Call::PushStr, At::put),
-    curve("`push_str` of too much, mixed", Call::PushStr, At::put_too_much),
+    curve("`push_str_truncate`", Call::PushStrTruncate, At::put),
+    curve("`push_str_truncate` of too much, mixed", Call::PushStrTruncate, At::put_too_much),
     curve("`try_push`", Call::TryPush, At::room_for_one),
     curve("`try_push`, mixed", Call::TryPush, At::room_for_one),
     curve("`try_push`, no room behind", Call::TryPush, At::no_room_behind),
@@ -252,7 +252,7 @@ pub const CURVES: &[Curve] = &[
     curve("`try_insert`, mixed", Call::TryInsert, At::room_for_one),
     curve("`try_insert`, no room behind", Call::TryInsert, At::no_room_behind),
     curve("`try_insert_str`", Call::TryInsertStr, At::put),
-    curve("`insert_str`", Call::InsertStr, At::put),
+    curve("`insert_str_truncate`", Call::InsertStrTruncate, At::put),
     curve("`replace_range`", Call::ReplaceRange, At::put),
     curve("`pop`", Call::Pop, At::text),
     curve("`pop`, mixed", Call::Pop, At::text),
@@ -260,8 +260,8 @@ pub const CURVES: &[Curve] = &[
     curve("`remove` in the middle", Call::Remove, At::text),
     curve("`remove` in the middle, mixed", Call::Remove, At::text),
     curve("`truncate` to half", Call::Truncate, At::text),
-    curve("`trim`, half of it spaces", Call::Trim, At::spaced),
-    curve("`trim`, half of it spaces, mixed", Call::Trim, At::spaced),
+    curve("`trim_in_place`, half of it spaces", Call::TrimInPlace, At::spaced),
+    curve("`trim_in_place`, half of it spaces, mixed", Call::TrimInPlace, At::spaced),
     curve("`retain`, one in ten dropped", Call::Retain, At::text),
     curve("`retain`, one in four dropped, mixed", Call::Retain, At::text),
     curve("`retain`, by its number, mixed", Call::RetainFourth, At::text),

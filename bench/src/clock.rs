@@ -98,7 +98,7 @@ impl Runner for Times {
 
 /// The least nanoseconds of each program a row.
 pub fn whole_programs() -> Vec<(&'static str, Counts)> {
-    let given = Given::new();
+    let given = Given::default();
     let mut found: Vec<(&str, Counts)> = Vec::new();
     for (place, side) in (0..100).flat_map(|_| SIDES.iter().enumerate()) {
         let mut times = Times(Vec::new());

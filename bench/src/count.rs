@@ -96,14 +96,14 @@ impl Runner for Parts {
 
 /// Runs each program over each string, for callgrind, which counts them.
 pub fn run_program_calls() {
-    let given = Given::new();
+    let given = Given::default();
     SIDES.iter().for_each(|side| run_all(*side, &given, &mut Parts(Vec::new())));
 }
 
 /// What each program takes a row.
 pub fn whole_programs() -> Vec<(&'static str, Counts)> {
     let mut parts = Parts(Vec::new());
-    run_all(Side::Crate, &Given::new(), &mut parts);
+    run_all(Side::Crate, &Given::default(), &mut parts);
     let mut found: Vec<_> = parts.0.into_iter().map(|title| (title, Counts::new())).collect();
     let mut totals = totals("run-program-calls", &[]).into_iter().map(|total| total / ROWS as f64);
     for side in SIDES {

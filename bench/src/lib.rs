@@ -1,8 +1,5 @@
 //! What a call costs, by the crate, by its proved build, by std's `String`, by arrayvec and by arraystring 0.3.0: see README.md.
 
-#[cfg(over_core)]
-extern crate made as arraystring;
-
 pub mod calls;
 pub mod cases;
 pub mod clock;

@@ -37,8 +37,8 @@ pub fn answer<const N: usize>(call: Call, case: &Case) -> u64 {
             units.as_ptr(),
             units.len(),
             u32::from(*ch),
-            *start,
-            *end,
+            *start as u8,
+            *end as u8,
         )
     }
 }

@@ -18,31 +18,36 @@ pub trait Side: Sized + Clone + Ord + Hash {
     fn truncate(&mut self, size: usize) -> bool;
     fn clear(&mut self);
     /// Appends the whole characters that fit.
-    fn push_str(&mut self, given: &str);
+    fn push_str_truncate(&mut self, given: &str);
 }
 
 /// The calls that arrayvec lacks.
 pub trait More: Side {
     fn from_str_truncate(given: &str) -> Self;
-    fn from_chars(chars: impl Iterator<Item = char>) -> Self;
+    fn from_chars_truncate(chars: impl Iterator<Item = char>) -> Self;
     fn try_from_utf8(given: &[u8]) -> Option<Self>;
-    fn from_utf8(given: &[u8]) -> Option<Self>;
-    fn from_utf16(units: &[u16]) -> Option<Self>;
-    fn from_utf16_lossy(units: &[u16]) -> Self;
+    fn from_utf8_truncate(given: &[u8]) -> Option<Self>;
+    fn from_utf16_truncate(units: &[u16]) -> Option<Self>;
+    fn from_utf16_lossy_truncate(units: &[u16]) -> Self;
     fn try_insert(&mut self, index: usize, ch: char) -> bool;
     fn try_insert_str(&mut self, index: usize, given: &str) -> bool;
-    fn insert_str(&mut self, index: usize, given: &str) -> bool;
+    fn insert_str_truncate(&mut self, index: usize, given: &str) -> bool;
     fn replace_range(&mut self, start: usize, end: usize, given: &str) -> bool;
-    fn trim(&mut self);
+    fn trim_in_place(&mut self);
     fn retain(&mut self, keeps: impl FnMut(char) -> bool);
     fn split_off(&mut self, at: usize) -> Option<Self>;
     /// The characters of the range, which are taken out, given to a function from the front or from the back.
     fn drain(&mut self, start: usize, end: usize, from_back: bool, each: impl FnMut(char)) -> bool;
 }
 
-/// A string whose calls have the names of this crate's. Where `remove` of an empty text is undefined, it is refused before the call.
+/// A string whose calls have the names of this crate's, but for those that are told. Where `remove` of an empty text is undefined, it is
+/// refused before the call.
 macro_rules! side {
-    ([$($generic:tt)*] $text:ty, tests_empty: $tests_empty:literal) => {
+    (
+        [$($generic:tt)*] $text:ty, index: $index:ty, tests_empty: $tests_empty:literal,
+        $push_str_truncate:ident, $insert_str_truncate:ident, $trim_in_place:ident,
+        $from_chars_truncate:ident, $from_utf8_truncate:ident, $from_utf16_truncate:ident, $from_utf16_lossy_truncate:ident
+    ) => {
         impl<$($generic)*> Side for $text {
             fn new() -> Self {
                 Self::new()
@@ -53,7 +58,7 @@ macro_rules! side {
             }
 
             fn size(&self) -> usize {
-                usize::from(Self::len(self))
+                Self::len(self) as usize
             }
 
             fn try_from_str(given: &str) -> Option<Self> {
@@ -78,19 +83,19 @@ macro_rules! side {
                 if $tests_empty && Self::is_empty(self) {
                     return None;
                 }
-                Self::remove(self, index as u8).ok()
+                Self::remove(self, index as $index).ok()
             }
 
             fn truncate(&mut self, size: usize) -> bool {
-                Self::truncate(self, size as u8).is_ok()
+                Self::truncate(self, size as $index).is_ok()
             }
 
             fn clear(&mut self) {
                 Self::clear(self);
             }
 
-            fn push_str(&mut self, given: &str) {
-                Self::push_str(self, given);
+            fn push_str_truncate(&mut self, given: &str) {
+                let _ = Self::$push_str_truncate(self, given);
             }
         }
 
@@ -100,45 +105,45 @@ macro_rules! side {
                 Self::from_str_truncate(given)
             }
 
-            fn from_chars(chars: impl Iterator<Item = char>) -> Self {
-                Self::from_chars(chars)
+            fn from_chars_truncate(chars: impl Iterator<Item = char>) -> Self {
+                Self::$from_chars_truncate(chars)
             }
 
             fn try_from_utf8(given: &[u8]) -> Option<Self> {
                 Self::try_from_utf8(given).ok()
             }
 
-            fn from_utf8(given: &[u8]) -> Option<Self> {
-                Self::from_utf8(given).ok()
+            fn from_utf8_truncate(given: &[u8]) -> Option<Self> {
+                Self::$from_utf8_truncate(given).ok()
             }
 
-            fn from_utf16(units: &[u16]) -> Option<Self> {
-                Self::from_utf16(units).ok()
+            fn from_utf16_truncate(units: &[u16]) -> Option<Self> {
+                Self::$from_utf16_truncate(units).ok()
             }
 
-            fn from_utf16_lossy(units: &[u16]) -> Self {
-                Self::from_utf16_lossy(units)
+            fn from_utf16_lossy_truncate(units: &[u16]) -> Self {
+                Self::$from_utf16_lossy_truncate(units)
             }
 
             fn try_insert(&mut self, index: usize, ch: char) -> bool {
-                Self::try_insert(self, index as u8, ch).is_ok()
+                Self::try_insert(self, index as $index, ch).is_ok()
             }
 
             fn try_insert_str(&mut self, index: usize, given: &str) -> bool {
-                Self::try_insert_str(self, index as u8, given).is_ok()
+                Self::try_insert_str(self, index as $index, given).is_ok()
             }
 
             #[inline(always)]
-            fn insert_str(&mut self, index: usize, given: &str) -> bool {
-                Self::insert_str(self, index as u8, given).is_ok()
+            fn insert_str_truncate(&mut self, index: usize, given: &str) -> bool {
+                Self::$insert_str_truncate(self, index as $index, given).is_ok()
             }
 
             fn replace_range(&mut self, start: usize, end: usize, given: &str) -> bool {
-                Self::replace_range(self, start as u8..end as u8, given).is_ok()
+                Self::replace_range(self, start as $index..end as $index, given).is_ok()
             }
 
-            fn trim(&mut self) {
-                Self::trim(self);
+            fn trim_in_place(&mut self) {
+                Self::$trim_in_place(self);
             }
 
             fn retain(&mut self, keeps: impl FnMut(char) -> bool) {
@@ -146,12 +151,12 @@ macro_rules! side {
             }
 
             fn split_off(&mut self, at: usize) -> Option<Self> {
-                Self::split_off(self, at as u8).ok()
+                Self::split_off(self, at as $index).ok()
             }
 
             #[inline(always)]
             fn drain(&mut self, start: usize, end: usize, from_back: bool, each: impl FnMut(char)) -> bool {
-                let Ok(drained) = Self::drain(self, start as u8..end as u8) else { return false };
+                let Ok(drained) = Self::drain(self, start as $index..end as $index) else { return false };
                 if from_back {
                     drained.rev().for_each(each)
                 } else {
@@ -163,9 +168,17 @@ macro_rules! side {
     };
 }
 
-side!([const N: usize] ArrayString<N>, tests_empty: false);
+side!(
+    [const N: usize] ArrayString<N>, index: usize, tests_empty: false,
+    push_str_truncate, insert_str_truncate, trim_in_place,
+    from_chars_truncate, from_utf8_truncate, from_utf16_truncate, from_utf16_lossy_truncate
+);
 #[cfg(feature = "original")]
-side!([Size: original::prelude::Capacity] original::ArrayString<Size>, tests_empty: true);
+side!(
+    [Size: original::prelude::Capacity] original::ArrayString<Size>, index: u8, tests_empty: true,
+    push_str, insert_str, trim,
+    from_chars, from_utf8, from_utf16, from_utf16_lossy
+);
 
 /// Std's `String` that holds at most `N` bytes, with that room reserved. It makes the tests that the other sides make.
 #[derive(PartialEq, Eq, PartialOrd, Ord, Hash)]
@@ -270,7 +283,7 @@ impl<const N: usize> Side for Limited<N> {
         self.0.clear();
     }
 
-    fn push_str(&mut self, given: &str) {
+    fn push_str_truncate(&mut self, given: &str) {
         self.0.push_str(self.what_fits(given));
     }
 }
@@ -281,7 +294,7 @@ impl<const N: usize> More for Limited<N> {
         Self::with(&given[..given.floor_char_boundary(N)])
     }
 
-    fn from_chars(chars: impl Iterator<Item = char>) -> Self {
+    fn from_chars_truncate(chars: impl Iterator<Item = char>) -> Self {
         let mut made = Self::new();
         for ch in chars {
             if !made.try_push(ch) {
@@ -295,17 +308,17 @@ impl<const N: usize> More for Limited<N> {
         Self::try_from_str(str::from_utf8(given).ok()?)
     }
 
-    fn from_utf8(given: &[u8]) -> Option<Self> {
+    fn from_utf8_truncate(given: &[u8]) -> Option<Self> {
         Some(Self::from_str_truncate(str::from_utf8(given).ok()?))
     }
 
-    fn from_utf16(units: &[u16]) -> Option<Self> {
+    fn from_utf16_truncate(units: &[u16]) -> Option<Self> {
         Self::from_results(char::decode_utf16(units.iter().copied()))
     }
 
-    fn from_utf16_lossy(units: &[u16]) -> Self {
+    fn from_utf16_lossy_truncate(units: &[u16]) -> Self {
         let items = char::decode_utf16(units.iter().copied());
-        Self::from_chars(items.map(|item| item.unwrap_or(char::REPLACEMENT_CHARACTER)))
+        Self::from_chars_truncate(items.map(|item| item.unwrap_or(char::REPLACEMENT_CHARACTER)))
     }
 
     fn try_insert(&mut self, index: usize, ch: char) -> bool {
@@ -325,7 +338,7 @@ impl<const N: usize> More for Limited<N> {
     }
 
     #[inline(always)]
-    fn insert_str(&mut self, index: usize, given: &str) -> bool {
+    fn insert_str_truncate(&mut self, index: usize, given: &str) -> bool {
         let fits = self.0.is_char_boundary(index);
         if fits {
             self.0.insert_str(index, self.what_fits(given));
@@ -344,7 +357,7 @@ impl<const N: usize> More for Limited<N> {
         fits
     }
 
-    fn trim(&mut self) {
+    fn trim_in_place(&mut self) {
         self.0.truncate(self.0.trim_end().len());
         let start = self.0.len() - self.0.trim_start().len();
         self.0.drain(..start);
@@ -427,7 +440,7 @@ impl<const N: usize> Side for arrayvec::ArrayString<N> {
         Self::clear(self);
     }
     /// (it has no call that cuts, so the boundary is found first)
-    fn push_str(&mut self, given: &str) {
+    fn push_str_truncate(&mut self, given: &str) {
         Self::push_str(self, &given[..given.floor_char_boundary(self.remaining_capacity())]);
     }
 }

@@ -4,10 +4,11 @@
 //! With the setting `with_alloc` it has the calls of that feature, too, and with `index_of_all` the index `[..]`. With `one_panics` it
 //! makes a call that can panic, and must not link. With ONLY it makes the call of that name alone.
 //!
-//! Left out is what may panic: the index of a range, `slice` and the case calls on a range, as those of `str`; what makes a `String`,
-//! a `Box<str>` or a `Vec`, where memory is refused; and `Debug` of a string and of a `Drain`, which `core` prints.
+//! Left out is what may panic: the index of a range, as that of `str`; what makes a `String`, a `Box<str>` or a `Vec`, where memory is
+//! refused; and `Debug` of a string and of a `Drain`, which `core` prints.
 #![no_std]
 #![no_main]
+#![allow(clippy::clone_on_copy, clippy::double_ended_iterator_last, reason = "each call is made for its own sake")]
 
 #[cfg(with_alloc)]
 extern crate alloc;
@@ -16,12 +17,10 @@ use core::borrow::{Borrow, BorrowMut};
 use core::fmt::Write;
 use core::hash::{Hash, Hasher};
 use core::hint::black_box;
-use core::ops::{Deref, DerefMut};
+use core::ops::{Bound, Deref, DerefMut};
 use core::panic::PanicInfo;
 
-use arraystring::error::{OutOfBounds, Utf8, Utf16};
-use arraystring::utf16::{Unit16, Units};
-use arraystring::{ArrayString, CacheString, Drain, Error, arraystring, utils};
+use arraystring::{ArrayString, Drain, Error, OutOfBounds, Utf8, Utf16, arraystring, try_format};
 
 #[link(name = "c")]
 unsafe extern "C" {}
@@ -70,9 +69,8 @@ struct Values<'a, S> {
     bytes: &'a [u8],
     units: &'a [u16],
     ch: char,
-    at: u8,
-    end: u8,
-    index: usize,
+    at: usize,
+    end: usize,
 }
 
 /// Whether a call is made: all are, or the one that ONLY names.
@@ -112,21 +110,30 @@ macro_rules! calls_of {
                 make! {
                     v: Values<S>, values;
                     new: S::new();
-                    capacity: S::capacity();
-                    try_from_str: S::try_from_str(v.text);
+                    capacity: v.s.capacity();
                     const_try_from_str: S::const_try_from_str(v.text);
-                    from_str_truncate: S::from_str_truncate(v.text);
+                    try_from_str: S::try_from_str(v.text);
                     try_from_iterator: S::try_from_iterator([v.text, v.text]);
-                    from_iterator: S::from_iterator([v.text, v.text]);
                     try_from_chars: S::try_from_chars(v.text.chars());
-                    from_chars: S::from_chars(v.text.chars());
                     try_from_utf8: S::try_from_utf8(v.bytes);
-                    from_utf8: S::from_utf8(v.bytes);
-                    from_utf8_lossy: S::from_utf8_lossy(v.bytes);
+                    try_from_utf8_lossy: S::try_from_utf8_lossy(v.bytes);
                     try_from_utf16: S::try_from_utf16(v.units);
-                    from_utf16: S::from_utf16(v.units);
-                    from_utf16_lossy: S::from_utf16_lossy(v.units);
+                    try_from_utf16_lossy: S::try_from_utf16_lossy(v.units);
                     try_from_format: S::try_from_format(format_args!("{}-{}", v.text, v.ch));
+                    from_str_truncate: S::from_str_truncate(v.text);
+                    from_iterator_truncate: S::from_iterator_truncate([v.text, v.text]);
+                    from_chars_truncate: S::from_chars_truncate(v.text.chars());
+                    from_utf8_truncate: S::from_utf8_truncate(v.bytes);
+                    from_utf8_lossy_truncate: S::from_utf8_lossy_truncate(v.bytes);
+                    from_utf16_truncate: S::from_utf16_truncate(v.units);
+                    from_utf16_lossy_truncate: S::from_utf16_lossy_truncate(v.units);
+                    try_from_text: S::try_from(v.text);
+                    try_from_char: S::try_from(v.ch);
+                    try_from_arguments: S::try_from(format_args!("{}-{}", v.text, v.ch));
+                    parse: v.text.parse::<S>();
+                    format: { let made: Result<S, _> = try_format!("{}-{}", v.text, v.ch); made };
+                    default: S::default();
+                    widen: { let wide: ArrayString<255> = v.s.widen(); wide };
                     as_str: v.s.as_str().len();
                     as_bytes: v.s.as_bytes().len();
                     as_mut_str: v.s.as_mut_str().make_ascii_uppercase();
@@ -134,56 +141,44 @@ macro_rules! calls_of {
                     is_empty: v.s.is_empty();
                     is_full: v.s.is_full();
                     remaining_capacity: v.s.remaining_capacity();
-                    get: (v.s.get(v.at..v.end), v.s.get(v.at..), v.s.get(..v.end), v.s.get(v.at..=v.end), v.s.get(..=v.end));
-                    get_all: v.s.get(..);
+                    get: (v.s.get(v.at..v.end), v.s.get(v.at..), v.s.get(..v.end), v.s.get(v.at..=v.end), v.s.get(..));
                     try_push: v.s.try_push(v.ch);
                     try_push_str: v.s.try_push_str(v.text);
-                    push_str: v.s.push_str(v.text);
+                    push_str_truncate: v.s.push_str_truncate(v.text).len();
                     try_write: v.s.try_write(format_args!("{}-{}", v.text, v.ch));
-                    write_truncated: v.s.write_truncated(format_args!("{}-{}", v.text, v.ch));
-                    extend_chars: v.s.extend_chars(v.text.chars());
-                    extend_strs: v.s.extend_strs([v.text, v.text]);
+                    write_truncate: v.s.write_truncate(format_args!("{}-{}", v.text, v.ch));
                     try_extend_chars: v.s.try_extend_chars(v.text.chars());
                     try_extend_strs: v.s.try_extend_strs([v.text, v.text]);
+                    extend_chars_truncate: v.s.extend_chars_truncate(v.text.chars());
+                    extend_strs_truncate: v.s.extend_strs_truncate([v.text, v.text]);
                     try_insert: v.s.try_insert(v.at, v.ch);
                     try_insert_str: v.s.try_insert_str(v.at, v.text);
-                    insert_str: v.s.insert_str(v.at, v.text);
-                    truncate: v.s.truncate(v.at);
+                    insert_str_truncate: v.s.insert_str_truncate(v.at, v.text).map(str::len);
+                    replace_range: v.s.replace_range(v.at..v.end, v.text);
+                    replace_range_through: v.s.replace_range(v.at..=v.end, v.text);
+                    replace_range_behind: v.s.replace_range((Bound::Excluded(v.at), Bound::Unbounded), v.text);
                     pop: v.s.pop();
                     remove: v.s.remove(v.at);
-                    remove_at_index: v.s.remove(v.index as u8);
-                    remove_behind_push_str: (v.s.push_str(v.text), v.s.remove(v.index as u8));
-                    clear: v.s.clear();
-                    trim: v.s.trim();
-                    trim_spaces: v.s.trim_spaces();
-                    retain: { let ch = v.ch; v.s.retain(|it| it != ch) };
+                    remove_behind_push: (v.s.push_str_truncate(v.text).len(), v.s.remove(v.at));
+                    truncate: v.s.truncate(v.at);
                     split_off: v.s.split_off(v.at);
                     drain: v.s.drain(v.at..v.end).map(|it| it.map(u32::from).fold(0, u32::wrapping_add));
                     drain_through: v.s.drain(v.at..=v.end);
-                    replace_range: v.s.replace_range(v.at..v.end, v.text);
-                    replace_range_through: v.s.replace_range(v.at..=v.end, v.text);
+                    drain_behind: v.s.drain((Bound::Excluded(v.at), Bound::Included(v.end)));
+                    retain: { let ch = v.ch; v.s.retain(|it| it != ch) };
+                    trim_in_place: v.s.trim_in_place();
+                    clear: v.s.clear();
                     make_ascii_uppercase: v.s.make_ascii_uppercase();
                     make_ascii_lowercase: v.s.make_ascii_lowercase();
-                    add: v.s + v.text;
-                    add_assign: v.s += v.text;
                     as_mut_of_str: AsMut::<str>::as_mut(&mut v.s).make_ascii_uppercase();
                     as_ref_of_bytes: AsRef::<[u8]>::as_ref(&v.s).len();
                     as_ref_of_str: AsRef::<str>::as_ref(&v.s).len();
                     borrow: Borrow::<str>::borrow(&v.s).len();
                     borrow_mut: BorrowMut::<str>::borrow_mut(&mut v.s).make_ascii_lowercase();
                     clone: v.s.clone();
-                    default: S::default();
                     deref: Deref::deref(&v.s).len();
+                    deref_mut: DerefMut::deref_mut(&mut v.s).make_ascii_uppercase();
                     display: write!(Out(0), "{}{:9}{:*^9.3}", v.s, v.s, v.s);
-                    extend_by_char_refs: v.s.extend(&[v.ch, v.ch]);
-                    extend_by_strs: v.s.extend([v.text, v.text]);
-                    extend_by_chars: v.s.extend(v.text.chars());
-                    from_str: S::from(v.text);
-                    from_char: S::from(v.ch);
-                    collect_char_refs: [v.ch, v.ch].iter().collect::<S>();
-                    collect_strs: [v.text, v.text].into_iter().collect::<S>();
-                    collect_chars: v.text.chars().collect::<S>();
-                    parse: v.text.parse::<S>();
                     hash: v.s.hash(&mut Sum(0));
                     cmp: v.s.cmp(&v.t);
                     partial_cmp: (v.s < v.t, v.s.partial_cmp(&v.t));
@@ -202,15 +197,14 @@ macro_rules! calls_of {
                 use alloc::boxed::Box;
                 use alloc::string::String;
 
-                let mut owned: (&mut Values<S>, Option<String>, Option<Box<str>>, Option<Cow<str>>) = (values, None, None, None);
+                let mut owned: (&mut Values<S>, Option<String>, Option<Box<str>>, Option<Cow<str>>) =
+                    (values, None, None, None);
                 make! {
                     v: (&mut Values<S>, Option<String>, Option<Box<str>>, Option<Cow<str>>), &mut owned;
-                    extend_by_box: v.0.s.extend(v.2.take());
-                    extend_by_cow: v.0.s.extend(v.3.take());
-                    extend_by_string: v.0.s.extend(v.1.take());
-                    collect_boxes: v.2.take().into_iter().collect::<S>();
-                    collect_cows: v.3.take().into_iter().collect::<S>();
-                    collect_strings: v.1.take().into_iter().collect::<S>();
+                    try_from_box: v.2.take().map(S::try_from);
+                    try_from_cow: v.3.take().map(S::try_from);
+                    try_from_string: v.1.take().map(S::try_from);
+                    try_from_lent_string: v.1.as_ref().map(S::try_from);
                     cow: Cow::from(&v.0.s).len();
                     eq_of_cow: v.3.as_ref().is_some_and(|cow| v.0.s == *cow && *cow == v.0.s);
                     eq_of_string: v.1.as_ref().is_some_and(|string| v.0.s == *string && *string == v.0.s);
@@ -224,17 +218,12 @@ calls_of!(at_0: ArrayString<0>);
 calls_of!(at_1: ArrayString<1>);
 calls_of!(at_23: ArrayString<23>);
 calls_of!(at_255: ArrayString<255>);
-calls_of!(at_1000: ArrayString<1000>);
-calls_of!(cached: CacheString);
 
 /// What the calls of no string, or of one type, are given.
 struct Others<'a> {
     values: Values<'a, ArrayString<23>>,
-    cached: CacheString,
     drain: Drain<23>,
     other: Drain<23>,
-    walk: Units<'a>,
-    unit: Unit16,
     error: Error,
     errors: (OutOfBounds, Utf8, Utf16),
 }
@@ -243,9 +232,6 @@ fn others(others: &mut Others) {
     make! {
         v: Others, others;
         arraystring: ArrayString::<23>::clone(&arraystring!("a"));
-        deref_mut: v.values.s.deref_mut().make_ascii_uppercase();
-        deref_mut_of_cached: v.cached.deref_mut().clear();
-        cached_from_string: CacheString::from(v.cached.0);
         error_from_fmt: Error::from(core::fmt::Error);
         error_from_out_of_bounds: (Error::from(v.errors.0), Error::from(v.errors.1), Error::from(v.errors.2));
         error_from_std: core::str::from_utf8(v.values.bytes).map_err(Error::from);
@@ -261,19 +247,12 @@ fn others(others: &mut Others) {
         drain_as_str: v.drain.as_str().len();
         drain_clone: v.drain.clone();
         drain_default: Drain::<23>::default();
-        drain_next: (v.drain.next(), v.drain.size_hint(), v.drain.nth(v.values.index));
-        drain_next_back: (v.drain.next_back(), v.drain.nth_back(v.values.index));
+        drain_next: (v.drain.next(), v.drain.size_hint(), v.drain.nth(v.values.at));
+        drain_next_back: (v.drain.next_back(), v.drain.nth_back(v.values.at));
         drain_count: (v.drain.clone().count(), v.drain.clone().last(), v.drain.clone().map(u32::from).max());
         drain_rev: v.drain.clone().rev().map(u32::from).max();
         drain_hash: v.drain.hash(&mut Sum(0));
         drain_cmp: (Ord::cmp(&v.drain, &v.other), v.drain < v.other, v.drain == v.other);
-        unit: (v.unit.clone(), v.unit == Unit16::Char(v.values.ch));
-        units_new: Units::new(v.values.units).size_hint();
-        units_next: (v.walk.next(), v.walk.size_hint(), v.walk.nth(v.values.index), v.walk.clone());
-        is_boundary: utils::is_boundary(v.values.text, v.values.index);
-        is_char_boundary: utils::is_char_boundary(&v.values.s, v.values.at);
-        is_inside_boundary: utils::is_inside_boundary(v.values.at, v.values.index);
-        truncate_str: utils::truncate_str(v.values.text, v.values.at).len();
     }
     // (it goes through the index that may panic, and the compiler sees that it does not where no other call does)
     #[cfg(index_of_all)]
@@ -320,16 +299,15 @@ fn values<S>(new: impl Fn() -> S) -> Values<'static, S> {
         bytes: b"a\xC3\xA9",
         units: &[0x61, 0xE9, 0xD83E, 0xDD14],
         ch: 'é',
-        at: 0,
+        at: 1,
         end: 3,
-        index: 1,
     })
 }
 
 #[unsafe(no_mangle)]
 extern "C" fn main() -> i32 {
     if cfg!(one_panics) {
-        return black_box(ArrayString::<23>::from(black_box("a")).slice(black_box(2)..).len()) as i32;
+        return black_box(ArrayString::<23>::from_str_truncate(black_box("a"))[black_box(2)..].len()) as i32;
     }
     macro_rules! all_at_each {
         ($($module:ident: $type:ty;)*) => {$($module::all(&mut values(<$type>::new));)*};
@@ -339,16 +317,11 @@ extern "C" fn main() -> i32 {
         at_1: ArrayString<1>;
         at_23: ArrayString<23>;
         at_255: ArrayString<255>;
-        at_1000: ArrayString<1000>;
-        cached: CacheString;
     }
     others(&mut black_box(Others {
         values: values(ArrayString::new),
-        cached: CacheString::new(),
         drain: Drain::default(),
         other: Drain::default(),
-        walk: Units::new(&[0x61]),
-        unit: Unit16::Char('a'),
         error: Error::Utf8,
         errors: (OutOfBounds, Utf8, Utf16),
     }));

@@ -21,10 +21,9 @@ fn panic(_: &PanicInfo) -> ! {
 pub unsafe extern "C" fn first_byte(level: *const u8, len: usize, percent: u8) -> u8 {
     // SAFETY: the caller says that the bytes are there.
     let level = unsafe { core::slice::from_raw_parts(level, len) };
-    let Ok(name) = ArrayString::<16>::from_utf8(level) else { return 0 };
-    let mut line = CacheString::from(name.as_str());
-    line += ": ";
-    if write!(line, "{percent}").is_err() || name.is_empty() {
+    let Ok(name) = ArrayString::<16>::from_utf8_truncate(level) else { return 0 };
+    let mut line: CacheString = name.widen();
+    if write!(line, ": {percent}").is_err() || name.is_empty() {
         return 0;
     }
     line.as_bytes().first().copied().unwrap_or(0)

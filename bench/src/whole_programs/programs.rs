@@ -170,8 +170,8 @@ pub struct Given {
     pub messages: Vec<String>,
 }
 
-impl Given {
-    pub fn new() -> Self {
+impl Default for Given {
+    fn default() -> Self {
         let lines = rows::lines();
         Given {
             characters: lines.chars().take(rows::ROWS).collect(),

@@ -112,14 +112,14 @@ macro_rules! in_an_array {
             #[inline]
             fn push_what_fits(&mut self, text: &str, _: usize) {
                 let ($pushed, $text) = (self, text);
-                $push_what_fits
+                let _ = $push_what_fits;
             }
         }
     };
 }
 
 in_an_array!(OfCrate, arraystring, try_from_str, |it| it.remove(0).expect("it is not empty"), |it, text| it
-    .push_str(text));
+    .push_str_truncate(text));
 
 in_an_array!(OfArrayvec, arrayvec, from, |it| it.remove(0), |it, text| it
     .push_str(&text[..text.floor_char_boundary(it.remaining_capacity())]));

@@ -1,6 +1,6 @@
 //! The edits of a string.
 
-use core::ops::{Bound, Range, RangeBounds};
+use core::ops::{Bound, RangeBounds};
 
 use crate::{ArrayString, Drain, Error, OutOfBounds, Utf8};
 
@@ -10,13 +10,9 @@ fn index(at: usize) -> Result<u8, Error> {
     u8::try_from(at).map_err(|_| Error::OutOfBounds)
 }
 
-/// A range of the core. An end that is behind the text is refused here, so that each end is a `u8`, and so is a range that is reversed.
+/// The ends of a range, in a text of `len` bytes.
 #[inline(always)]
-#[expect(
-    clippy::cast_possible_truncation,
-    reason = "neither end is greater than the length of a text, which is at most 255"
-)]
-fn ends(range: impl RangeBounds<usize>, len: usize) -> Result<Range<u8>, Error> {
+fn ends(range: impl RangeBounds<usize>, len: usize) -> (usize, usize) {
     let start = match range.start_bound() {
         Bound::Included(start) => *start,
         Bound::Excluded(before) => before.saturating_add(1),
@@ -27,10 +23,7 @@ fn ends(range: impl RangeBounds<usize>, len: usize) -> Result<Range<u8>, Error> 
         Bound::Excluded(end) => *end,
         Bound::Unbounded => len,
     };
-    if start > end || end > len {
-        return Err(Error::OutOfBounds);
-    }
-    Ok(start as u8..end as u8)
+    (start, end)
 }
 
 /// The rest of a text behind whole characters. (An index would leave a panic in the program, though it never comes to it.)
@@ -233,7 +226,8 @@ impl<const N: usize> ArrayString<N> {
     /// ```
     #[inline(always)]
     pub fn replace_range(&mut self, range: impl RangeBounds<usize>, text: &str) -> Result<(), Error> {
-        self.0.replace_range(ends(range, self.len())?, text).map_err(Error::of)
+        let (start, end) = ends(range, self.len());
+        self.0.replace_range(index(start)?..index(end)?, text).map_err(Error::of)
     }
 }
 
@@ -353,7 +347,8 @@ impl<const N: usize> ArrayString<N> {
     /// ```
     #[inline(always)]
     pub fn drain(&mut self, range: impl RangeBounds<usize>) -> Result<Drain<N>, Error> {
-        self.0.drain(ends(range, self.len())?).map(Drain).map_err(Error::of)
+        let (start, end) = ends(range, self.len());
+        self.0.drain(index(start)?..index(end)?).map(Drain).map_err(Error::of)
     }
 
     /// Keeps the characters for which `keeps` returns true, and removes all others. `keeps` is called once with each character, in order.
