@@ -8,12 +8,11 @@ use std::hash::{Hash, Hasher};
 
 use arraystring::ArrayString;
 
-/// Calls a generic test at each capacity on which something could depend: those of a word, of a vector, of a byte, their
-/// neighbours, and some of which only 255 bytes are used.
+/// Calls a generic test at each capacity on which something could depend: those of a word, of a vector, of a byte, and their neighbours.
 macro_rules! at_capacities {
     ($test:ident) => {
         $crate::inputs::at_capacities!($test:
-            0 1 2 3 4 7 8 9 15 16 17 23 31 32 33 63 64 65 127 128 129 254 255 256 257 300 1000);
+            0 1 2 3 4 7 8 9 15 16 17 23 31 32 33 63 64 65 127 128 129 254 255);
     };
     ($test:ident: $($capacity:literal)*) => {
         $($test::<$capacity>();)*
@@ -45,11 +44,6 @@ pub const CHARS: [char; 14] = [
     '\u{10000}',
     '\u{10FFFF}',
 ];
-
-/// How many bytes a string of a capacity takes.
-pub fn capacity<const N: usize>() -> usize {
-    N.min(MOST)
-}
 
 /// The longest prefix of whole characters that takes at most so many bytes.
 pub fn cut(text: &str, size: usize) -> &str {
@@ -95,10 +89,10 @@ pub fn edges(capacity: usize) -> Vec<usize> {
 
 /// A string whose text begins behind so many bytes of its array, where there is room for them.
 pub fn behind<const N: usize>(offset: usize, text: &str) -> ArrayString<N> {
-    let offset = offset.min(capacity::<N>() - text.len());
-    let mut string = ArrayString::<N>::from("~".repeat(offset).as_str());
+    let offset = offset.min(N - text.len());
+    let mut string = ArrayString::<N>::try_from_str(&"~".repeat(offset)).expect("room");
     string.try_push_str(text).expect("room");
-    assert_eq!(string.drain(..offset as u8).expect("a part").as_str().len(), offset);
+    assert_eq!(string.drain(..offset).expect("a part").as_str().len(), offset);
     assert_eq!(string.as_str(), text);
     string
 }

@@ -1,14 +1,16 @@
-//! What calls are given, the same on both sides.
+//! What calls are given.
 
 use std::ops::Bound;
-use std::panic::resume_unwind;
+use std::panic::{AssertUnwindSafe, catch_unwind, resume_unwind};
+
+use crate::limited::{Ends, Limited};
 
 /// What a call is given. It takes of it what it needs.
 #[derive(Clone, Copy, Debug)]
 pub struct Given<'a> {
     pub text: &'a str,
     pub index: u8,
-    pub range: (Bound<u8>, Bound<u8>),
+    pub range: Ends,
     /// Decides by its bits which characters are kept, where a text is cut into pieces, and what is no UTF-8 or UTF-16.
     pub pattern: usize,
     /// After how many items an iterator or a closure panics.
@@ -35,56 +37,65 @@ pub fn text(kind: usize, len: usize) -> String {
     text
 }
 
-/// An iterator that panics after some items.
-pub struct Panics<I> {
-    items: I,
-    left: Option<usize>,
-}
-
-/// The panic of what is handed in.
-fn panic_now() -> ! {
-    resume_unwind(Box::new("of what was handed in"))
-}
-
-impl<I: Iterator> Iterator for Panics<I> {
-    type Item = I::Item;
-
-    fn next(&mut self) -> Option<I::Item> {
-        self.left = self.left.map(|left| left.checked_sub(1).unwrap_or_else(|| panic_now()));
-        self.items.next()
-    }
-}
+/// What is asked of the closure of `retain`, and whether it panicked.
+pub type Asked = (String, bool);
 
 impl<'a> Given<'a> {
     pub fn of(text: &'a str) -> Self {
         Given { text, index: 0, range: (Bound::Unbounded, Bound::Unbounded), pattern: 0, panics_at: None }
     }
 
-    /// What a call answers that takes the characters of the text, and which of them it leaves.
-    pub fn chars<T>(&self, call: impl FnOnce(&mut dyn Iterator<Item = char>) -> T) -> (T, String) {
-        let mut items = Panics { items: self.text.chars(), left: self.panics_at };
-        (call(&mut items), items.items.collect())
+    /// The characters of the text, a piece each.
+    pub fn characters(&self) -> Vec<&'a str> {
+        self.text.split_inclusive(|_| true).collect()
     }
 
-    /// The same of pieces of the text.
-    pub fn pieces<T>(&self, call: impl FnOnce(&mut dyn Iterator<Item = &'a str>) -> T) -> (T, String) {
-        let (mut at, pattern) = (0, self.pattern);
-        let ends = move |_: char| {
+    /// Pieces of the text.
+    pub fn pieces(&self) -> Vec<&'a str> {
+        let mut at = 0;
+        let ends = |_: char| {
             at += 1;
-            pattern >> (at % 16) & 1 == 1
+            self.pattern >> (at % 16) & 1 == 1
         };
-        let mut items = Panics { items: self.text.split_inclusive(ends), left: self.panics_at };
-        (call(&mut items), items.items.collect())
+        self.text.split_inclusive(ends).collect()
     }
 
-    /// Whether a character is kept: the closure of `retain`.
-    pub fn keeps(&self, asked: &mut String, ch: char) -> bool {
-        let at = asked.chars().count();
-        if self.panics_at == Some(at) {
-            panic_now();
+    /// How many of some items a call leaves that is lent them, and whether it met the panic of their iterator.
+    pub fn left_of(&self, items: &[&'a str], call: impl FnOnce(&mut dyn Iterator<Item = &'a str>)) -> (usize, bool) {
+        let (mut left, mut asked) = (items.iter().copied(), 0);
+        let mut items = std::iter::from_fn(|| {
+            if self.panics_at == Some(asked) {
+                resume_unwind(Box::new(()));
+            }
+            asked += 1;
+            left.next()
+        });
+        let has_panicked = catch_unwind(AssertUnwindSafe(|| call(&mut items))).is_err();
+        (left.len(), has_panicked)
+    }
+
+    /// The same of the model.
+    pub fn left_by(&self, items: &[&str], model: &mut Limited) -> (usize, bool) {
+        let until = self.panics_at.unwrap_or(usize::MAX).min(items.len());
+        match model.extend(&items[..until]) {
+            Err(taken) => (items.len() - taken, false),
+            Ok(()) => (items.len() - until, self.panics_at == Some(until)),
         }
-        asked.push(ch);
-        self.pattern >> (at % 16) & 1 == 1
+    }
+
+    /// Lends the closure of `retain`: it keeps by the pattern.
+    pub fn asked(&self, retain: impl FnOnce(&mut dyn FnMut(char) -> bool)) -> Asked {
+        let (mut asked, mut at) = (String::new(), 0);
+        let mut keeps = |ch| {
+            if self.panics_at == Some(at) {
+                resume_unwind(Box::new(()));
+            }
+            asked.push(ch);
+            at += 1;
+            self.pattern >> (at % 16) & 1 == 1
+        };
+        let has_panicked = catch_unwind(AssertUnwindSafe(|| retain(&mut keeps))).is_err();
+        (asked, has_panicked)
     }
 
     /// The bytes of the text, of which one may be of no text, or the last ones be missing.
@@ -105,10 +116,8 @@ impl<'a> Given<'a> {
     pub fn units(&self) -> Vec<u16> {
         let mut units: Vec<_> = self.text.encode_utf16().collect();
         if self.pattern % 3 == 1 {
-            units.insert(
-                self.index as usize % (units.len() + 1),
-                [0xD800, 0xDC00, 0xDBFF, 0xDFFF][self.pattern / 3 % 4],
-            );
+            let half = [0xD800, 0xDC00, 0xDBFF, 0xDFFF][self.pattern / 3 % 4];
+            units.insert(self.index as usize % (units.len() + 1), half);
         }
         units
     }

@@ -1,91 +1,44 @@
-//! The core that is made of the proved sources, and the crate by hand, side by side: each call answers the same, panics with the same
-//! words, and leaves the same text at the same offset, to which further appends do the same.
+//! Calls on strings of greater capacities, and random ones on what the call before left, each beside the model: what it answers, the
+//! text that it leaves, and at which offset that begins, since one that is wrong leaves the same text.
 //!
 //! The strings have each length at each start offset at small capacities, and at greater ones those at both ends and in the middle. The
 //! variable `ARRAYSTRING_CALLS` of the environment says how many random calls are made at each capacity. Where a run is slow,
 //! `ARRAYSTRING_SHARE` says that each n-th string is played, and no other.
 
-use std::cell::Cell;
-use std::ops::Bound::{self, Excluded, Included, Unbounded};
-use std::panic::{AssertUnwindSafe, catch_unwind, set_hook, take_hook};
-use std::sync::Once;
+use std::ops::Bound::{Excluded, Included, Unbounded};
 
-use given::{CHARS, Given, Random, text};
+use self::calls::{Call, Calls, at_an_index, of_a_text, of_what_is_made, on_a_range};
+use self::given::{CHARS, Given, Random, text};
+use crate::limited::{Ends, Limited};
+use crate::{ArrayString, behind, capacity};
 
+mod calls;
 mod given;
 
-/// Both compile the same calls, each over its crate.
-#[path = "."]
-mod made {
-    pub use arraystring as tried;
-    pub mod calls;
-}
-
-#[allow(clippy::duplicate_mod, reason = "that is what is compiled twice")]
-#[path = "."]
-mod copy {
-    pub use by_hand as tried;
-    pub mod calls;
-}
-
-/// A string of each side.
-#[derive(Clone, Copy)]
-struct Pair<const N: usize>(arraystring::ArrayString<N>, by_hand::ArrayString<N>);
-
-/// A call of each side.
-type Calls<const N: usize> = Vec<(&'static str, made::calls::Call<N>, copy::calls::Call<N>)>;
-
-macro_rules! calls {
-    ($group:ident) => {{
-        let (made, copy) = (made::calls::$group(), copy::calls::$group());
-        assert_eq!(made.len(), copy.len());
-        made.into_iter().zip(copy).map(|((name, made), (_, copy))| (name, made, copy)).collect::<Vec<_>>()
-    }};
-}
-
-thread_local! {
-    static IS_TRIED: Cell<bool> = const { Cell::new(false) };
-}
-
-/// What a call answers, or the words with which it panics, which are not printed.
-fn outcome<T>(call: impl FnOnce() -> T) -> Result<T, String> {
-    static HOOK: Once = Once::new();
-    HOOK.call_once(|| {
-        let others = take_hook();
-        set_hook(Box::new(move |panicked| {
-            if !IS_TRIED.get() {
-                others(panicked)
-            }
-        }));
-    });
-    IS_TRIED.set(true);
-    let answer = catch_unwind(AssertUnwindSafe(call));
-    IS_TRIED.set(false);
-    answer.map_err(|words| match words.downcast::<String>() {
-        Ok(words) => *words,
-        Err(words) => words.downcast::<&str>().expect("words").to_string(),
-    })
-}
+/// A string and its model.
+#[derive(Clone)]
+struct Pair<const N: usize>(ArrayString<N>, Limited);
 
 impl<const N: usize> Pair<N> {
-    /// Strings of a text at an offset.
+    /// Of a text at an offset.
     fn behind(offset: usize, text: &str) -> Self {
-        let before = ".".repeat(offset);
-        Pair(made::calls::behind(&before, text), copy::calls::behind(&before, text))
+        Pair(behind(offset, text), Limited::new(offset, text, capacity::<N>()))
     }
 
     /// Makes a call on both.
-    fn call(&mut self, (name, made, copy): &(&str, made::calls::Call<N>, copy::calls::Call<N>), given: &Given) {
-        let before = *self;
-        let told = || format!("{name} of {:?} at {} of {N}, given {given:?}", before.1, copy::calls::offset(&before.1));
-        let answers = (outcome(|| made(&mut self.0, given)), outcome(|| copy(&mut self.1, given)));
-        assert_eq!(answers.0, answers.1, "{}", told());
-        assert_eq!(made::calls::state(&self.0), copy::calls::state(&self.1), "after {}", told());
+    fn call(&mut self, (name, call): &(&str, Call<N>), given: &Given) {
+        let before = self.1.clone();
+        let told = || format!("{name} of {before:?}, given {given:?}");
+        if let Err(wrong) = call(&mut self.0, &mut self.1, given) {
+            panic!("{} answers {wrong}", told());
+        }
+        assert_eq!((self.0.as_str(), self.0.as_bytes()), (&*self.1.text, self.1.text.as_bytes()), "after {}", told());
+        assert_eq!(usize::from(self.0.start), self.1.start, "the start offset after {}", told());
     }
 
     /// Makes each of these calls, and says how many that are.
-    fn each(self, calls: &Calls<N>, given: &Given) -> usize {
-        calls.iter().for_each(|call| { self }.call(call, given));
+    fn each(&self, calls: &Calls<N>, given: &Given) -> usize {
+        calls.iter().for_each(|call| self.clone().call(call, given));
         calls.len()
     }
 }
@@ -111,7 +64,7 @@ fn indices(len: usize) -> Vec<u8> {
 }
 
 /// Ranges between some indices.
-fn ranges(indices: &[u8]) -> Vec<(Bound<u8>, Bound<u8>)> {
+fn ranges(indices: &[u8]) -> Vec<Ends> {
     let mut ranges = vec![(Unbounded, Unbounded)];
     for start in indices {
         ranges.extend([(Included(*start), Unbounded), (Unbounded, Excluded(*start)), (Unbounded, Included(*start))]);
@@ -124,7 +77,7 @@ fn ranges(indices: &[u8]) -> Vec<(Bound<u8>, Bound<u8>)> {
 
 /// The strings of a capacity: of each kind of text at small ones, and else of one kind each.
 fn strings<const N: usize>() -> Vec<Pair<N>> {
-    let capacity = N.min(255);
+    let capacity = capacity::<N>();
     let at_each_offset = |len| places(capacity - len).into_iter().map(move |offset| (len, offset));
     let places = places(capacity).into_iter().flat_map(at_each_offset);
     let of_each_kind = places.flat_map(|(len, offset)| {
@@ -136,11 +89,11 @@ fn strings<const N: usize>() -> Vec<Pair<N>> {
 
 /// Makes each call on each string of a capacity, and says how many that are.
 fn each_call<const N: usize>() -> usize {
-    let (of_a_text, at_an_index, on_a_range) = (calls!(of_a_text), calls!(at_an_index), calls!(on_a_range));
+    let (of_a_text, at_an_index, on_a_range) = (of_a_text(), at_an_index(), on_a_range());
     let (mut made, mut turn) = (0, 0);
     for pair in strings::<N>() {
-        let (len, room) = (pair.1.len() as usize, pair.1.remaining_capacity() as usize);
-        let behind = room - copy::calls::offset(&pair.1);
+        let (len, room) = (pair.1.text.len(), pair.1.room());
+        let behind = room - pair.1.start;
         let sizes = [0, 1, 2, 3, 4, 7, 8, 16, behind, behind + 1, room, room + 1, room + 20];
         // There are 13 sizes, a prime, so each meets each index and each range at one string or another.
         let mut call = |calls: &Calls<N>, index, range| {
@@ -162,8 +115,8 @@ fn each_call<const N: usize>() -> usize {
 
 /// Makes a string of each size in each way.
 fn each_constructor<const N: usize>() -> usize {
-    let (calls, mut made) = (calls!(of_what_is_made), 0);
-    let (capacity, pair) = (N.min(255), Pair::<N>::behind(0, ""));
+    let (calls, mut made) = (of_what_is_made(), 0);
+    let (capacity, pair) = (capacity::<N>(), Pair::<N>::behind(0, ""));
     for size in (0..=capacity + 20).chain([300, 520]) {
         for kind in 0..CHARS.len() {
             let given = text(kind, size);
@@ -178,13 +131,12 @@ fn each_constructor<const N: usize>() -> usize {
 
 /// Makes random calls, each on what the one before it left.
 fn random_calls<const N: usize>() -> usize {
-    let (mut calls, made) =
-        (calls!(of_a_text), told("ARRAYSTRING_CALLS").unwrap_or(if cfg!(debug_assertions) { 2_000 } else { 10_000 }));
-    calls.extend([calls!(at_an_index), calls!(on_a_range), calls!(of_what_is_made)].concat());
+    let made = told("ARRAYSTRING_CALLS").unwrap_or(if cfg!(debug_assertions) { 2_000 } else { 10_000 });
+    let calls = [of_a_text(), at_an_index(), on_a_range(), of_what_is_made()].concat();
     let (mut random, mut pair) = (Random(N as u64 + 1), Pair::<N>::behind(0, ""));
     for _ in 0..made {
-        let given = random.text(N.min(255));
-        let len = pair.1.len() as usize;
+        let given = random.text(capacity::<N>());
+        let len = pair.1.text.len();
         let (start, end) = (random.place(len), random.place(len));
         let given = Given {
             index: random.place(len),
@@ -196,8 +148,7 @@ fn random_calls<const N: usize>() -> usize {
         let call = random.below(calls.len());
         pair.call(&calls[call], &given);
         if random.below(3) == 0 {
-            let (len, text) = (pair.1.len() as usize, pair.1.to_string());
-            pair = Pair::behind(random.below(N.min(255) - len + 1), &text);
+            pair = Pair::behind(random.below(pair.1.room() + 1), &pair.1.text);
         }
     }
     made
