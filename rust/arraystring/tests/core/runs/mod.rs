@@ -32,7 +32,9 @@ impl<const N: usize> Pair<N> {
         if let Err(wrong) = call(&mut self.0, &mut self.1, given) {
             panic!("{} answers {wrong}", told());
         }
-        assert_eq!((self.0.as_str(), self.0.as_bytes()), (&*self.1.text, self.1.text.as_bytes()), "after {}", told());
+        // (bytes first: what is no text can't be printed as one)
+        assert_eq!(self.0.as_bytes(), self.1.text.as_bytes(), "after {}", told());
+        assert_eq!((self.0.as_str(), self.0.len() as usize), (&*self.1.text, self.1.text.len()), "after {}", told());
         assert_eq!(usize::from(self.0.start), self.1.start, "the start offset after {}", told());
     }
 

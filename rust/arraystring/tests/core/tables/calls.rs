@@ -75,11 +75,8 @@ fn hold_from<const N: usize>(table: &str, string: impl Fn(&str) -> ArrayString<N
                 text = first;
                 make(&mut text, call, row);
                 let after = column(row, 5);
-                assert_eq!(
-                    (text.as_str(), text.as_bytes(), text.len() as usize),
-                    (after, after.as_bytes(), after.len()),
-                    "{row}"
-                );
+                assert_eq!(text.as_bytes(), after.as_bytes(), "{row}");
+                assert_eq!((text.as_str(), text.len() as usize), (after, after.len()), "{row}");
                 assert_eq!(text.is_empty(), after.is_empty(), "{row}");
             }
         })
