@@ -33,7 +33,7 @@ fn with_values<const N: usize>(mut string: ArrayString<N>) -> ArrayString<N> {
 fn edited<const N: usize>(before: &ArrayString<N>, place: usize, written: Range<usize>, name: &str, edit: Edit<N>) {
     let mut after = *before;
     edit(&mut after);
-    assert_eq!(start(&after), place, "{name} of {before:?} at {} of {N}: {after:?}", start(before));
+    assert_eq!(start(&after), place, "{name} of {before:?} at {} of {N}", start(before));
     let around = |string: &ArrayString<N>| {
         [&string.array[..written.start], &string.array[written.end..]].map(|part| values(part).to_vec())
     };

@@ -114,10 +114,6 @@ impl Limited {
         self.boundary(at).map(|at| self.text.split_off(at))
     }
 
-    pub fn retain(&mut self, keeps: impl FnMut(char) -> bool) {
-        self.text.retain(keeps);
-    }
-
     pub fn trim(&mut self) {
         self.trim_by(char::is_whitespace);
     }

@@ -50,6 +50,12 @@ fn behind<const N: usize>(offset: usize, text: &str) -> ArrayString<N> {
     between(&"~".repeat(offset), text, "")
 }
 
+/// What a drain gives. Its bytes are looked at first, since `chars` of what is no text may abort the run.
+fn given_by<const N: usize>(drain: Drain<N>) -> String {
+    assert!(std::str::from_utf8(drain.as_str().as_bytes()).is_ok(), "a drain of {:x?}", drain.as_str().as_bytes());
+    drain.collect()
+}
+
 /// So many places with a value each, of which those near each other differ.
 fn places<const N: usize>() -> [leaf::Place; N] {
     std::array::from_fn(|at| leaf::Place::new((at * 37 + at / 256) as u8))

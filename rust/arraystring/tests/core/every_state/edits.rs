@@ -213,7 +213,7 @@ fn characters_that_are_kept() {
             for pattern in 0..1 << length(&case.text) {
                 let keeps = |at: usize| pattern >> at & 1 == 1;
                 let mut places = 0..;
-                let (_, kept) = case.wanted(|model| model.retain(|_| places.next().is_some_and(keeps)));
+                let (_, kept) = case.wanted(|model| model.text.retain(|_| places.next().is_some_and(keeps)));
                 // Each character is asked about once, in order.
                 made += case.each(("retain", pattern), &(case.text.clone(), kept), |string| {
                     let asked = RefCell::new(String::new());

@@ -5,7 +5,7 @@ use std::ops::{Bound, RangeBounds};
 use super::edits::{indices, total};
 use super::states::{MadeAndWanted, WIDTHS, at_each_capacity, cases, length, texts};
 use crate::limited::{Ends, wide};
-use crate::{ArrayString, Drain};
+use crate::{ArrayString, Drain, given_by};
 
 /// Every range of two bounds at a capacity.
 fn ranges(capacity: usize) -> Vec<Ends> {
@@ -67,7 +67,7 @@ fn drains_between_two_bounds() {
         for case in cases::<N>(&WIDTHS) {
             for range in ranges(N) {
                 let wanted = case.wanted(|model| model.drain(range));
-                made += case.each(("drain", range), &wanted, |string| string.drain(range).map(Iterator::collect));
+                made += case.each(("drain", range), &wanted, |string| string.drain(range).map(given_by));
             }
         }
         (made, total::<N>(&WIDTHS) * range_count(N))
@@ -102,7 +102,7 @@ macro_rules! by_kind {
         let replaced = case.wanted(|model| model.replace_range(ends, "é"));
         case.each(("get", name, ends), &part, |string| string.get($range).map(str::to_string))
             + case.each(("slice", name, ends), &part, |string| is_part.then(|| string.slice($range).to_string()))
-            + case.each(("drain", name, ends), &drained, |string| string.drain($range).map(Iterator::collect))
+            + case.each(("drain", name, ends), &drained, |string| string.drain($range).map(given_by))
             + case.each(("replace_range", name, ends), &replaced, |string| string.replace_range($range, "é"))
     }};
 }
@@ -127,7 +127,8 @@ fn each_kind_of_range() {
 
 /// Takes what is left of a drain from both ends in every order, and says how many drains that are.
 fn walked<const N: usize>(drain: Drain<N>, left: &str) -> usize {
-    assert_eq!((drain.as_str(), format!("{drain:?}")), (left, format!("Drain({left:?})")));
+    assert_eq!(drain.as_str().as_bytes(), left.as_bytes());
+    assert_eq!(format!("{drain:?}"), format!("Drain({left:?})"));
     assert!(drain.eq(left.chars()) && drain.rev().eq(left.chars().rev()), "{left:?}");
     let (mut front, mut back) = (drain, drain);
     let (mut chars, mut backwards) = (left.chars(), left.chars());

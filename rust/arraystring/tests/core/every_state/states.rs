@@ -153,7 +153,12 @@ impl<const N: usize> Case<N> {
         let mut made = 0;
         for string in &self.strings {
             let (mut after, told) = (*string, || format!("{name:?} of {:?} at {} of {N}", self.text, string.start));
-            assert_eq!(call(&mut after), *returned, "{}", told());
+            let answer = call(&mut after);
+            if answer != *returned {
+                // (printed before the panic, since a text that is none may panic there, and a second panic aborts)
+                let answer = format!("{answer:?}");
+                panic!("{} returns {answer}, where {returned:?} is due", told());
+            }
             assert_eq!(after.as_bytes(), left.text.as_bytes(), "after {}", told());
             let start = usize::from(string.start) + left.raised_by;
             let wanted = if start + left.text.len() > N { 0 } else { start };

@@ -8,7 +8,7 @@ use crate::every_state::{is_made_of, is_made_of_pieces};
 use crate::inputs::{cut, hash_of};
 use crate::limited::{Limited, wide};
 use crate::utils::{is_boundary, truncate_str};
-use crate::{ArrayString, Drain, capacity, is_char_boundary};
+use crate::{ArrayString, Drain, capacity, given_by, is_char_boundary};
 
 /// A call with what is given. It returns what is wrong with the answer.
 pub type Call<const N: usize> = fn(&mut ArrayString<N>, &mut Limited, &Given) -> Result<(), String>;
@@ -18,6 +18,11 @@ pub type Calls<const N: usize> = Vec<(&'static str, Call<N>)>;
 
 fn told<T: Debug + PartialEq<U>, U: Debug>(answer: T, wanted: U) -> Result<(), String> {
     if answer == wanted { Ok(()) } else { Err(format!("{answer:?}, where {wanted:?} is due")) }
+}
+
+/// Of what asserts its answers by itself.
+fn asserted<T>(_: T) -> Result<(), String> {
+    Ok(())
 }
 
 /// What a call answers for each character.
@@ -73,10 +78,10 @@ pub fn of_a_text<const N: usize>() -> Calls<N> {
 /// The calls that make a string of what is given. The last one leaves it.
 pub fn of_what_is_made<const N: usize>() -> Calls<N> {
     vec![
-        ("of a text", |_, _, given| told(is_made_of::<N>(given.text) > 0, true)),
-        ("of pieces", |_, _, given| told(is_made_of_pieces::<N>(&given.pieces()) > 0, true)),
-        ("of bytes", |_, _, given| told(as_std::<N>(&given.bytes()), 1)),
-        ("of units", |_, _, given| told(are_units_read::<N>(&given.units()), ())),
+        ("of a text", |_, _, given| asserted(is_made_of::<N>(given.text))),
+        ("of pieces", |_, _, given| asserted(is_made_of_pieces::<N>(&given.pieces()))),
+        ("of bytes", |_, _, given| asserted(as_std::<N>(&given.bytes()))),
+        ("of units", |_, _, given| asserted(are_units_read::<N>(&given.units()))),
         ("try_from_chars", |_, _, given| {
             let (characters, mut made) = (given.characters(), None);
             let answer = given.left_of(&characters, |items| {
@@ -132,6 +137,7 @@ pub fn at_an_index<const N: usize>() -> Calls<N> {
 
 /// What a drain gives from both ends, by the bits of a number, beside the characters of a text.
 fn walked<const N: usize>(mut drain: Drain<N>, removed: &str, ends: usize) -> Result<(), String> {
+    told(given_by(drain), removed)?;
     told(drain.rev().collect::<String>(), removed.chars().rev().collect::<String>())?;
     let (mut chars, all) = (removed.chars(), drain);
     for turn in 0..6 {

@@ -210,7 +210,8 @@ fn walked<const N: usize>(table: &str) -> usize {
                 assert_eq!(text.as_str(), [before, after].concat(), "{row}");
             }
             let answer = if column(row, 1) == "next" { drain.next() } else { drain.next_back() };
-            assert_eq!((answer, drain.as_str()), (column(row, 2).chars().next(), column(row, 3)), "{row}");
+            let wanted = (column(row, 2).chars().next(), column(row, 3).as_bytes());
+            assert_eq!((answer, drain.as_str().as_bytes()), wanted, "{row}");
         })
         .count()
 }
