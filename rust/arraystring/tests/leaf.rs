@@ -8,6 +8,7 @@ use std::fs;
 use std::panic::{AssertUnwindSafe, catch_unwind};
 
 #[path = "../src/leaf.rs"]
+#[allow(unused_imports, reason = "the files that are made take `char` and `str` of it")]
 mod leaf;
 
 use leaf::*;
@@ -286,29 +287,6 @@ fn a_text_is_cut_at_a_boundary() {
         }
     }
     assert_eq!(count, 1 + 2 + 2 + 2 + 2 + 6 + 5 + 17 + 128 + 65);
-}
-
-#[test]
-fn a_character_and_a_text_are_made() {
-    for number in (0..=0x10_FFFF).step_by(7).filter_map(char::from_u32) {
-        // SAFETY: it is the number of a character.
-        assert_eq!(unsafe { leaf::char::from_u32_unchecked(number as u32) }, number);
-    }
-    // SAFETY: they are the bytes of a text.
-    assert_eq!(unsafe { leaf::str::from_utf8_unchecked("aé€🤔".as_bytes()) }, "aé€🤔");
-}
-
-#[cfg(feature = "checked_utf8")]
-#[test]
-fn what_is_no_character_and_no_text_panics() {
-    for number in (0xD800..0xE000).chain(0x11_0000..0x11_0100) {
-        // SAFETY: it is tested here, and so it panics.
-        assert!(catch_unwind(|| unsafe { leaf::char::from_u32_unchecked(number) }).is_err(), "{number:X}");
-    }
-    for bytes in [&b"\xFF"[..], b"a\xC3", b"\xA9", b"\xED\xA0\x80"] {
-        // SAFETY: it is tested here, and so it panics.
-        assert!(catch_unwind(|| unsafe { leaf::str::from_utf8_unchecked(bytes) }).is_err(), "{bytes:?}");
-    }
 }
 
 #[test]

@@ -1,10 +1,8 @@
 //! What constructors make, of text and of units, and what iterators add.
 
-use arraystring::error::OutOfBounds;
-use arraystring::{ArrayString, Error};
-
-use crate::at_capacity;
-use crate::rows::{Table, column, rows};
+use super::at_capacity;
+use super::rows::{Table, column, rows};
+use crate::{ArrayString, Error, OutOfBounds};
 
 /// What was made: the text, or the name of the refusal.
 fn told<const N: usize>(made: Result<ArrayString<N>, Error>) -> String {
@@ -27,7 +25,7 @@ fn made<const N: usize>(table: &str) -> usize {
     rows(table)
         .inspect(|row| {
             let (text, pieces) = (column(row, 0), column(row, 1));
-            let whole = ArrayString::<N>::try_from_utf8(text);
+            let whole = ArrayString::<N>::try_from_utf8(text.as_bytes());
             assert_eq!(told(whole), column(row, 2), "{row}");
             let (mut chars, mut rest) = (text.chars(), pieces.split(','));
             let others = [
@@ -42,20 +40,15 @@ fn made<const N: usize>(table: &str) -> usize {
             assert_eq!(cut.as_str(), column(row, 3), "{row}");
             let (mut chars, mut rest) = (text.chars(), pieces.split(','));
             let others = [text.into(), ArrayString::from_chars(&mut chars), ArrayString::from_iterator(rest.by_ref())];
-            assert_eq!((others, ArrayString::from_utf8(text)), ([cut; 3], Ok(cut)), "{row}");
+            assert_eq!((others, ArrayString::from_utf8(text.as_bytes())), ([cut; 3], Ok(cut)), "{row}");
             next(row, chars.next(), rest.next());
-            let collected: [ArrayString<N>; 2] = [text.chars().collect(), pieces.split(',').collect()];
-            assert_eq!(collected, [cut; 2], "{row}");
             if whole.is_ok() {
-                // SAFETY: the whole text fits.
-                let unchecked = unsafe {
-                    [
-                        ArrayString::from_str_unchecked(text),
-                        ArrayString::from_chars_unchecked(text.chars()),
-                        ArrayString::from_iterator_unchecked(pieces.split(',')),
-                        ArrayString::from_utf8_unchecked(text),
-                    ]
-                };
+                let unchecked = [
+                    ArrayString::from_str_unchecked(text),
+                    ArrayString::from_chars_unchecked(text.chars()),
+                    ArrayString::from_iterator_unchecked(pieces.split(',')),
+                    ArrayString::from_utf8_unchecked(text.as_bytes()),
+                ];
                 assert_eq!(unchecked, [cut; 4], "{row}");
             }
         })
@@ -101,8 +94,8 @@ fn extended<const N: usize>(table: &str) -> usize {
             let (mut chars, mut pieces) = (column(row, 1).chars(), column(row, 2).split(','));
             let before = ArrayString::<N>::from(column(row, 0));
             let (mut by_chars, mut by_pieces) = (before, before);
-            by_chars.extend(&mut chars);
-            by_pieces.extend(pieces.by_ref());
+            by_chars.extend_chars(&mut chars);
+            by_pieces.extend_strs(pieces.by_ref());
             assert_eq!((by_chars.as_str(), by_pieces), (column(row, 3), by_chars), "{row}");
             next(row, chars.next(), pieces.next());
         })

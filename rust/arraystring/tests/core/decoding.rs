@@ -3,29 +3,26 @@
 
 use std::thread;
 
-use arraystring::error::Utf8;
-use arraystring::{ArrayString, CacheString, Error};
-use inputs::cut;
-
-mod inputs;
+use crate::inputs::cut;
+use crate::{ArrayString, Error, Utf8, capacity};
 
 /// How many bytes the texts have at most: more than any string takes.
 const MOST: usize = 300;
 
 /// Asserts that bytes are taken or refused as std does it, and that what is taken is cut or refused for its size. Returns 1.
-fn as_std(bytes: &[u8]) -> usize {
+pub fn as_std<const N: usize>(bytes: &[u8]) -> usize {
     let wanted = std::str::from_utf8(bytes);
-    let made = ArrayString::<255>::from_utf8(bytes);
-    let whole = ArrayString::<255>::try_from_utf8(bytes);
+    let made = ArrayString::<N>::from_utf8(bytes);
+    let whole = ArrayString::<N>::try_from_utf8(bytes);
     let Ok(text) = wanted else {
         assert_eq!((made, whole), (Err(Utf8), Err(Error::Utf8)), "{bytes:x?}");
         return 1;
     };
-    let cut = cut(text, 255);
+    let cut = cut(text, capacity::<N>());
     assert_eq!(made.as_ref().map(|made| made.as_bytes()), Ok(cut.as_bytes()), "{bytes:x?}");
     match whole {
         Ok(whole) => assert_eq!((whole.as_bytes(), text.len()), (bytes, cut.len()), "{bytes:x?}"),
-        refused => assert!(refused == Err(Error::OutOfBounds) && text.len() > 255, "{bytes:x?}"),
+        refused => assert!(refused == Err(Error::OutOfBounds) && text.len() > cut.len(), "{bytes:x?}"),
     }
     1
 }
@@ -48,7 +45,7 @@ fn ascii(len: usize) -> Vec<u8> {
 /// Puts a byte that is not ASCII at each place of ASCII: each such byte, or those at the ends and one that changes.
 fn one_fault_in_ascii(len: usize, is_each: bool) -> usize {
     let mut bytes = ascii(len);
-    let mut count = as_std(&bytes);
+    let mut count = as_std::<255>(&bytes);
     for at in 0..len {
         let byte = bytes[at];
         let some = vec![0x80, 0xFF, 0x80 + (at + len) as u8 % 0x80];
@@ -78,7 +75,7 @@ fn one_byte_from_80_on_at_each_place_of_long_ascii() {
     let lengths: Vec<usize> =
         (MOST + 1..=520).filter(|len| len % 32 <= 1 || len % 32 == 31 || len % 100 == 0).collect();
     let count =
-        each_below(lengths.len(), |at| one_fault_in_ascii(lengths[at], false) + as_std(&cut_short(lengths[at])));
+        each_below(lengths.len(), |at| one_fault_in_ascii(lengths[at], false) + as_std::<255>(&cut_short(lengths[at])));
     assert_eq!(count, lengths.iter().map(|len| 1 + 3 * len + 1).sum());
 }
 
@@ -96,11 +93,11 @@ fn each_width_at_each_place_of_ascii() {
                 let mut bytes = ascii(len);
                 let spelled = ch.to_string();
                 bytes.splice(at..at, spelled.bytes());
-                count += as_std(&bytes);
+                count += as_std::<255>(&bytes);
                 if ch.len_utf8() > 1 {
                     // Without its last byte.
                     bytes.remove(at + ch.len_utf8() - 1);
-                    count += as_std(&bytes);
+                    count += as_std::<255>(&bytes);
                 }
             }
         }
@@ -115,7 +112,7 @@ fn each_two_bytes_at_some_places() {
     let count = each_below(0x10000, |pair| {
         let two = (pair as u16).to_be_bytes();
         let places = [(0, 0), (0, 2), (2, 0), (13, 1), (14, 0), (15, 20), (31, 3), (62, 4)];
-        places.map(|(before, after)| as_std(&[&ascii(before)[..], &two, &ascii(after)].concat())).iter().sum()
+        places.map(|(before, after)| as_std::<255>(&[&ascii(before)[..], &two, &ascii(after)].concat())).iter().sum()
     });
     assert_eq!(count, 8 * 0x10000);
 }
@@ -134,10 +131,10 @@ fn each_four_bytes_of_the_edges() {
         let mut count = 0;
         for third in EDGES {
             let three = [first, second, *third];
-            count += as_std(&three) + as_std(&[&ascii(16)[..], &three].concat());
+            count += as_std::<255>(&three) + as_std::<255>(&[&ascii(16)[..], &three].concat());
             for fourth in EDGES {
                 let four = [first, second, *third, *fourth];
-                count += as_std(&four) + as_std(&[&four[..], b"abcd"].concat());
+                count += as_std::<255>(&four) + as_std::<255>(&[&four[..], b"abcd"].concat());
             }
         }
         count
@@ -152,9 +149,9 @@ fn each_character_is_taken() {
         for ch in (0..0x1_0000).filter_map(|low| char::from_u32((plane * 0x1_0000 + low) as u32)) {
             let (mut spelled, mut units) = ([0; 4], [0; 2]);
             let spelled = ch.encode_utf8(&mut spelled);
-            let string = ArrayString::<4>::from_utf8(&*spelled).expect("a character");
+            let string = ArrayString::<4>::from_utf8(spelled.as_bytes()).expect("a character");
             assert_eq!(string.as_bytes(), spelled.as_bytes());
-            assert_eq!(ArrayString::<4>::from_utf16(&*ch.encode_utf16(&mut units)).as_ref(), Ok(&string));
+            assert_eq!(ArrayString::<4>::from_utf16(ch.encode_utf16(&mut units)).as_ref(), Ok(&string));
             let mut pushed = ArrayString::<4>::new();
             assert_eq!((pushed.try_push(ch), pushed.as_bytes()), (Ok(()), spelled.as_bytes()));
             assert_eq!((pushed.pop(), pushed.is_empty()), (Some(ch), true));
@@ -171,18 +168,14 @@ fn each_character_is_taken() {
 }
 
 #[test]
-fn a_cache_string_takes_the_same() {
+fn a_smaller_string_takes_the_same() {
     for len in 0..=70 {
         for at in 0..len {
             let mut bytes = ascii(len);
-            let cut = CacheString::from_utf8(&bytes).expect("ASCII");
-            assert_eq!(cut.as_bytes(), &bytes[..len.min(63)]);
+            as_std::<63>(&bytes);
             for fault in [0x80, 0xBF, 0xC0, 0xFF] {
                 bytes[at] = fault;
-                assert_eq!(
-                    (CacheString::from_utf8(&bytes), CacheString::try_from_utf8(&bytes)),
-                    (Err(Utf8), Err(Error::Utf8))
-                );
+                as_std::<63>(&bytes);
             }
         }
     }
@@ -206,8 +199,9 @@ const BEHIND: [&[u16]; 14] = [
     &[0xDD14, 0xD83E],
 ];
 
-fn check<const N: usize>(units: &[u16]) {
-    let capacity = N.min(255);
+/// Asserts that units are read as std reads them, and what is read is cut or refused for its size.
+pub fn are_units_read<const N: usize>(units: &[u16]) {
+    let capacity = capacity::<N>();
     let items: Vec<Result<char, u16>> =
         char::decode_utf16(units.iter().copied()).map(|item| item.map_err(|lone| lone.unpaired_surrogate())).collect();
     let prefix: String = items.iter().map_while(|item| item.ok()).collect();
@@ -234,7 +228,7 @@ fn check_runs<const N: usize>() {
             for behind in BEHIND {
                 let mut units: Vec<u16> = (0..length).map(|at| (first + at as u16) % 0x80).collect();
                 units.extend_from_slice(behind);
-                check::<N>(&units);
+                are_units_read::<N>(&units);
             }
         }
     }
@@ -256,7 +250,7 @@ fn a_run_of_ascii_in_front_of_units() {
 #[test]
 fn each_unit_behind_a_run() {
     for unit in 0..=0xFFFF {
-        check::<6>(&[0x61, 0x62, unit, 0x63]);
-        check::<3>(&[unit, 0x63]);
+        are_units_read::<6>(&[0x61, 0x62, unit, 0x63]);
+        are_units_read::<3>(&[unit, 0x63]);
     }
 }

@@ -2,13 +2,12 @@
 
 use std::cmp::Ordering;
 
-use arraystring::error::Error;
-use arraystring::utf16::{Unit16, Units};
-use arraystring::utils::{is_boundary, truncate_str};
-use arraystring::{ArrayString, CacheString, Drain, MaxString, SmallString};
-
-use crate::at_capacity;
-use crate::rows::{Table, column, hash_of, parsed, returned, rows};
+use super::at_capacity;
+use super::rows::{Table, column, parsed, returned, rows};
+use crate::inputs::{cut, hash_of};
+use crate::utf16::{Unit16, Units};
+use crate::utils::{is_boundary, truncate_str};
+use crate::{ArrayString, Drain, Error};
 
 /// How bytes among letters are read. The columns are, in hexadecimal but for the last,
 ///
@@ -52,15 +51,14 @@ fn reading_of(row: &str) -> usize {
 
 /// Asserts that bytes are read whole and cut as std reads them.
 fn as_in_std(row: &str, bytes: &[u8]) {
-    let (whole, cut) = (MaxString::try_from_utf8(bytes), MaxString::from_utf8(bytes));
+    let (whole, front) = (ArrayString::<255>::try_from_utf8(bytes), ArrayString::<255>::from_utf8(bytes));
     match std::str::from_utf8(bytes) {
         Ok(text) => {
-            let cut = cut.expect("a text");
-            let end = (0..=text.len().min(255)).rev().find(|end| text.is_char_boundary(*end));
-            assert_eq!(cut.as_str(), &text[..end.expect("the start")], "{row}");
-            assert_eq!(whole, if text.len() < 256 { Ok(cut) } else { Err(Error::OutOfBounds) }, "{row}");
+            let front = front.expect("a text");
+            assert_eq!(front.as_str(), cut(text, 255), "{row}");
+            assert_eq!(whole, if text.len() < 256 { Ok(front) } else { Err(Error::OutOfBounds) }, "{row}");
         }
-        Err(_) => assert_eq!((whole, cut.is_err()), (Err(Error::Utf8), true), "{row}"),
+        Err(_) => assert_eq!((whole, front.is_err()), (Err(Error::Utf8), true), "{row}"),
     }
 }
 
@@ -112,8 +110,6 @@ fn order_at<const N: usize>(row: &str, index: usize) -> usize {
         assert_eq!(Ord::cmp(&other, &moved), other.len().cmp(&moved.len()), "{row}");
         assert_eq!(other == moved, other.len() == moved.len(), "{row}");
         if size < 64 {
-            let cached = CacheString::from_str_truncate(one.as_str());
-            is_less(row, &cached, &CacheString::from_str_truncate(moved.as_str()));
             is_less(row, &drained(one), &drained(moved));
         }
     }
@@ -162,7 +158,7 @@ pub fn cuts(table: &Table) -> usize {
 pub fn last_characters(table: &Table) -> usize {
     rows(&table.text)
         .inspect(|row| {
-            let mut text = SmallString::from(column(row, 0));
+            let mut text = ArrayString::<23>::from(column(row, 0));
             assert_eq!((text.pop(), text.len()), (column(row, 2).chars().next(), parsed(row, 1)), "{row}");
         })
         .count()
@@ -174,7 +170,7 @@ pub fn walks(table: &Table) -> usize {
         .inspect(|row| {
             let text = column(row, 1);
             for choice in 0..parsed::<u32>(row, 0) {
-                let (mut drain, mut wanted) = (drained(SmallString::from(text)), text.chars());
+                let (mut drain, mut wanted) = (drained(ArrayString::<23>::from(text)), text.chars());
                 for step in 0..text.chars().count() {
                     let debugged = format!("Drain({:?})", wanted.as_str());
                     assert_eq!((drain.as_str(), format!("{drain:?}")), (wanted.as_str(), debugged), "{row}");
@@ -208,13 +204,14 @@ fn walked<const N: usize>(table: &str) -> usize {
         .inspect(|row| {
             if let Some((before, rest)) = column(row, 0).split_once('[') {
                 let (inside, after) = rest.split_once(']').expect("the end of the part");
-                let mut text: ArrayString<N> = [before, inside, after].into_iter().collect();
+                let mut text = ArrayString::from_iterator([before, inside, after]);
                 let start = before.len() as u8;
                 drain = text.drain(start..start + inside.len() as u8).expect("the part");
                 assert_eq!(text.as_str(), [before, after].concat(), "{row}");
             }
             let answer = if column(row, 1) == "next" { drain.next() } else { drain.next_back() };
-            assert_eq!((answer, drain.as_str()), (column(row, 2).chars().next(), column(row, 3)), "{row}");
+            let wanted = (column(row, 2).chars().next(), column(row, 3).as_bytes());
+            assert_eq!((answer, drain.as_str().as_bytes()), wanted, "{row}");
         })
         .count()
 }
@@ -239,7 +236,7 @@ pub fn drain_comparisons(table: &Table) -> usize {
 fn left(written: &str) -> Drain<8> {
     let (before, rest) = written.split_once('[').expect("where it begins");
     let (inside, after) = rest.split_once(']').expect("where it ends");
-    let mut drain = drained([before, inside, after].into_iter().collect());
+    let mut drain = drained(ArrayString::from_iterator([before, inside, after]));
     if !before.is_empty() {
         drain.next();
     }
@@ -264,7 +261,7 @@ pub fn trims(table: &Table) -> usize {
             let calls = column(row, 2);
             for ch in character(row, 0)..=character(row, 1) {
                 for text in [format!("a{ch}"), format!("{ch}a"), format!("{ch}a{ch}")] {
-                    let [mut trimmed, mut without_spaces] = [SmallString::from(text.as_str()); 2];
+                    let [mut trimmed, mut without_spaces] = [ArrayString::<23>::from(text.as_str()); 2];
                     trimmed.trim();
                     without_spaces.trim_spaces();
                     let left = |is_trimmed: bool| if is_trimmed { "a" } else { text.as_str() };

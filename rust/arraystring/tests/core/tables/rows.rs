@@ -3,7 +3,6 @@
 
 use std::fmt::Debug;
 use std::fs;
-use std::hash::{DefaultHasher, Hash, Hasher};
 use std::path::Path;
 
 /// The rows of a table.
@@ -37,13 +36,6 @@ pub fn returned<T: Debug>(row: &str, answer: T) {
     let name = name.trim_start_matches("Error::").trim_matches('\'');
     let told = if name.is_empty() { "ok" } else { written.split('"').nth(1).unwrap_or(name) };
     assert_eq!(told, column(row, 4), "{row}");
-}
-
-/// The hash of a value.
-pub fn hash_of<T: Hash + ?Sized>(value: &T) -> u64 {
-    let mut state = DefaultHasher::new();
-    value.hash(&mut state);
-    state.finish()
 }
 
 /// A table, as a text of a test has it.

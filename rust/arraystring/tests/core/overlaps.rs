@@ -5,8 +5,9 @@
 use std::ffi::c_void;
 use std::hint::black_box;
 
-use arraystring::ArrayString;
-use arraystring::utils::shift;
+use crate::leaf::Place;
+use crate::utils::shift;
+use crate::{ArrayString, behind, capacity, places, values};
 
 type Copy = unsafe extern "C" fn(*mut c_void, *const c_void, usize) -> *mut c_void;
 
@@ -42,18 +43,13 @@ fn memcpy_and_memmove_are_those_of_the_environment() {
     assert_eq!([copied(memcpy, 0, 1), copied(memcpy, 1, 0)], wanted);
 }
 
-/// Bytes that differ from each other as far as a move goes.
-fn bytes<const N: usize>() -> [u8; N] {
-    std::array::from_fn(|at| (at * 37 + at / 256) as u8)
-}
-
 /// Moves a run by `shift`, and asserts that it lies where it was to go, and that all else is as it was.
 fn is_moved<const N: usize>(from: usize, to: usize, len: usize) {
-    let before = bytes::<N>();
+    let before: [Place; N] = places();
     let (mut array, mut wanted) = (before, before);
-    // SAFETY: both runs lie in the array.
-    unsafe { shift(&mut array, from, to, len) };
+    shift(&mut array, from, to, len);
     wanted[to..to + len].copy_from_slice(&before[from..from + len]);
+    let (array, wanted) = (values(&array), values(&wanted));
     assert!(array == wanted, "{len} bytes from {from} to {to} of {N}: {array:?}");
 }
 
@@ -104,32 +100,28 @@ fn letters(size: usize) -> String {
 /// Edits of a text that move what stands behind them, and of a string of it, which begins at an offset.
 fn edited<const N: usize>(text: &str, offset: usize, at: usize, more: usize) {
     let (at, index, given) = (at.min(text.len()), at.min(text.len()) as u8, letters(more));
-    let string = || {
-        let mut string = ArrayString::<N>::from(("m".repeat(offset) + text).as_str());
-        string.drain(..offset as u8).expect("the front");
-        string
-    };
+    let string: ArrayString<N> = behind(offset, text);
     let end = (at + more).min(text.len());
-    let (mut inserted, mut wanted) = (string(), text.to_string());
-    if text.len() + more <= N.min(255) {
+    let (mut inserted, mut wanted) = (string, text.to_string());
+    if text.len() + more <= capacity::<N>() {
         inserted.try_insert_str(index, &given).expect("room");
         wanted.insert_str(at, &given);
     }
-    assert_eq!(inserted, wanted.as_str(), "{text} {offset} {at} {more}");
-    let (mut drained, mut wanted) = (string(), text.to_string());
+    assert_eq!(inserted.as_str(), wanted, "{text} {offset} {at} {more}");
+    let (mut drained, mut wanted) = (string, text.to_string());
     let taken = drained.drain(index..end as u8).expect("a part");
     assert_eq!((taken.as_str(), drained.as_str()), (&text[at..end], (text[..at].to_string() + &text[end..]).as_str()));
     wanted.replace_range(at..end, "-");
-    let mut replaced = string();
-    if wanted.len() <= N.min(255) {
+    let mut replaced = string;
+    if wanted.len() <= capacity::<N>() {
         replaced.replace_range(index..end as u8, "-").expect("room");
-        assert_eq!(replaced, wanted.as_str(), "{text} {offset} {at} {more}");
+        assert_eq!(replaced.as_str(), wanted, "{text} {offset} {at} {more}");
     }
 }
 
 /// Edits texts of each size and offset that an array holds, at some places.
 fn edited_at_each_size<const N: usize>() {
-    let capacity = N.min(255);
+    let capacity = capacity::<N>();
     for size in (0..=capacity).rev().step_by(1 + capacity / 50) {
         let text = letters(size);
         for offset in [0, 1, 8, 17, 40, 64, 130, capacity - size] {
@@ -175,20 +167,19 @@ fn long_runs_are_moved_from_each_offset_to_each() {
 /// Appends to texts of each size at each offset: what ends where the array does, a byte more, what fills the string, and a byte
 /// more. Returns how often the text moved to the front, and how often it was refused.
 fn appended_at_each_offset<const N: usize>() -> (usize, usize) {
-    let capacity = N.min(255);
+    let capacity = capacity::<N>();
     let (mut moved, mut refused) = (0, 0);
     for size in 0..=capacity {
         let text = letters(size);
         for offset in 0..=capacity - size {
-            let mut string = ArrayString::<N>::from(("m".repeat(offset) + &text).as_str());
-            string.drain(..offset as u8).expect("the front");
-            let (behind, room) = (capacity - offset - size, capacity - size);
-            for more in [behind, behind + 1, room, room + 1] {
+            let string: ArrayString<N> = behind(offset, &text);
+            let (free, room) = (capacity - offset - size, capacity - size);
+            for more in [free, free + 1, room, room + 1] {
                 let (given, mut appended) = (letters(more), string);
                 let is_refused = appended.try_push_str(&given).is_err();
                 let wanted = if is_refused { text.clone() } else { text.clone() + &given };
                 assert_eq!((is_refused, appended.as_str()), (more > room, wanted.as_str()), "{size} {offset} {more}");
-                moved += usize::from(behind < more && more <= room);
+                moved += usize::from(free < more && more <= room);
                 refused += usize::from(is_refused);
             }
             for ch in ['b', 'é', '€', '🤔'] {

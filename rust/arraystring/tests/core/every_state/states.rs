@@ -2,7 +2,8 @@
 
 use std::fmt::Debug;
 
-use arraystring::ArrayString;
+use crate::limited::Limited;
+use crate::{ArrayString, between};
 
 /// A character of each width in UTF-8.
 pub const WIDTHS: [char; 4] = ['a', 'é', '€', '🤔'];
@@ -22,7 +23,7 @@ pub type MadeAndWanted = (usize, usize);
 /// Calls a generic check at each capacity up to the greatest, and asserts that it made as many calls as it had to.
 macro_rules! at_each_capacity {
     ($check:ident) => {
-        $crate::states::checked_at_each_capacity(
+        $crate::every_state::states::checked_at_each_capacity(
             stringify!($check),
             &[$check::<0>, $check::<1>, $check::<2>, $check::<3>, $check::<4>, $check::<5>, $check::<6>, $check::<7>],
         )
@@ -101,29 +102,16 @@ fn strings_of<const N: usize>(text: &str, around: &[String]) -> Vec<ArrayString<
     for before in around.iter().filter(|before| before.len() + text.len() <= N) {
         let room = N - before.len() - text.len();
         let behind = around.iter().filter(|behind| behind.is_empty() || behind.len() == room);
-        strings.extend(behind.map(|behind| string_between(before, text, behind)));
+        strings.extend(behind.map(|behind| between(before, text, behind)));
     }
     strings
 }
 
-/// The string that is left of three texts, without the first and the last.
-fn string_between<const N: usize>(before: &str, text: &str, behind: &str) -> ArrayString<N> {
-    let mut string = ArrayString::<N>::new();
-    for part in [before, text, behind] {
-        assert_eq!(string.try_push_str(part), Ok(()));
-    }
-    assert_eq!(string.truncate((before.len() + text.len()) as u8), Ok(()));
-    for ch in before.chars() {
-        assert_eq!(string.remove(0), Ok(ch));
-    }
-    assert_eq!((string.as_str(), offset(&string)), (text, before.len()));
-    string
-}
-
-/// At which offset of its array a text begins: it is 0 in a new string.
-pub fn offset<const N: usize>(string: &ArrayString<N>) -> usize {
-    let distance = |string: &ArrayString<N>| string.as_bytes().as_ptr().addr() - std::ptr::from_ref(string).addr();
-    distance(string) - distance(&ArrayString::new())
+/// What a call has to leave: the text, and by how much its start offset is greater where it does not have to be 0.
+#[derive(Clone, Debug)]
+pub struct Left {
+    pub text: String,
+    pub raised_by: usize,
 }
 
 impl<const N: usize> Case<N> {
@@ -132,11 +120,23 @@ impl<const N: usize> Case<N> {
         string_count::<N>(&WIDTHS, self.text.len())
     }
 
-    /// Makes a call on a copy of each string. Asserts what it returns, and the text that it leaves. Says how many calls those are.
+    /// What a call returns and leaves, by the model.
+    pub fn wanted<T>(&self, call: impl FnOnce(&mut Limited) -> T) -> (T, Left) {
+        let mut model = Limited::new(0, &self.text, N);
+        let returned = call(&mut model);
+        (returned, Left { text: model.text, raised_by: model.start })
+    }
+
+    /// What a call returns that changes nothing.
+    pub fn unchanged<T>(&self, returned: T) -> (T, Left) {
+        self.wanted(|_| returned)
+    }
+
+    /// Makes a call on a copy of each string. Asserts what it returns, and what it leaves where. Says how many calls those are.
     pub fn each<T: PartialEq + Debug>(
         &self,
         name: impl Debug,
-        wanted: &(T, String),
+        wanted: &(T, Left),
         call: impl Fn(&mut ArrayString<N>) -> T,
     ) -> usize {
         self.each_by(&name, wanted, &call)
@@ -146,16 +146,23 @@ impl<const N: usize> Case<N> {
     fn each_by<T: PartialEq + Debug>(
         &self,
         name: &dyn Debug,
-        (returned, text): &(T, String),
+        (returned, left): &(T, Left),
         call: &dyn Fn(&mut ArrayString<N>) -> T,
     ) -> usize {
         // Counted one by one, so that a string that is left out is missed.
         let mut made = 0;
         for string in &self.strings {
-            let (mut after, from) = (*string, offset(string));
-            assert_eq!(call(&mut after), *returned, "{name:?} of {:?} at {from} of {N}", self.text);
-            assert_eq!(after.as_bytes(), text.as_bytes(), "after {name:?} of {:?} at {from} of {N}", self.text);
-            assert!(offset(&after) + text.len() <= N, "outside after {name:?} of {:?} at {from} of {N}", self.text);
+            let (mut after, told) = (*string, || format!("{name:?} of {:?} at {} of {N}", self.text, string.start));
+            let answer = call(&mut after);
+            if answer != *returned {
+                // (printed before the panic, since a text that is none may panic there, and a second panic aborts)
+                let answer = format!("{answer:?}");
+                panic!("{} returns {answer}, where {returned:?} is due", told());
+            }
+            assert_eq!(after.as_bytes(), left.text.as_bytes(), "after {}", told());
+            let start = usize::from(string.start) + left.raised_by;
+            let wanted = if start + left.text.len() > N { 0 } else { start };
+            assert_eq!(usize::from(after.start), wanted, "the start offset after {}", told());
             made += 1;
         }
         made

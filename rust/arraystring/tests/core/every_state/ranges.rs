@@ -1,17 +1,11 @@
 //! The calls that take a range.
 
-use std::cell::Cell;
 use std::ops::{Bound, RangeBounds};
-use std::panic::{AssertUnwindSafe, catch_unwind, set_hook, take_hook};
-use std::sync::Once;
 
-use arraystring::{ArrayString, Drain};
-
-use crate::edits::{indices, total};
-use crate::limited::wide;
-use crate::states::{MadeAndWanted, WIDTHS, at_each_capacity, cases, length, texts};
-
-type Ends = (Bound<u8>, Bound<u8>);
+use super::edits::{indices, total};
+use super::states::{MadeAndWanted, WIDTHS, at_each_capacity, cases, length, texts};
+use crate::limited::{Ends, wide};
+use crate::{ArrayString, Drain, given_by};
 
 /// Every range of two bounds at a capacity.
 fn ranges(capacity: usize) -> Vec<Ends> {
@@ -25,40 +19,20 @@ fn range_count(capacity: usize) -> usize {
     (1 + 2 * (capacity + 4)).pow(2)
 }
 
-thread_local! {
-    static IS_EXPECTED: Cell<bool> = const { Cell::new(false) };
-}
-
-/// What a call returns; none where it panics, which prints nothing.
-fn returned<T>(call: impl FnOnce() -> T) -> Option<T> {
-    static HOOK: Once = Once::new();
-    HOOK.call_once(|| {
-        let others = take_hook();
-        set_hook(Box::new(move |panicked| {
-            if !IS_EXPECTED.get() {
-                others(panicked)
-            }
-        }));
-    });
-    IS_EXPECTED.set(true);
-    let returned = catch_unwind(AssertUnwindSafe(call));
-    IS_EXPECTED.set(false);
-    returned.ok()
-}
-
 #[test]
 fn parts_between_two_bounds() {
     fn parts<const N: usize>() -> MadeAndWanted {
         let mut made = 0;
         for case in cases::<N>(&WIDTHS) {
             for range in ranges(N) {
-                let part = (case.text.get(wide(range)).map(str::to_string), case.text.clone());
-                made += case.each(("get", range), &part, |string| string.get(range).map(str::to_string));
-                made += case.each(("slice", range), &part, |string| returned(|| string.slice(range).to_string()));
-                let mut upper = case.text.clone();
-                let is_part = upper.get_mut(wide(range)).map(str::make_ascii_uppercase);
-                made += case.each(("make_ascii_uppercase_in", range), &(is_part, upper), |string| {
-                    returned(|| string.make_ascii_uppercase_in(range))
+                let wanted = case.unchanged(case.text.get(wide(range)).map(str::to_string));
+                made += case.each(("get", range), &wanted, |string| string.get(range).map(str::to_string));
+                // (the others require a part)
+                let is_part = wanted.0.is_some();
+                made += case.each(("slice", range), &wanted, |string| is_part.then(|| string.slice(range).to_string()));
+                let upper = case.wanted(|model| model.text.get_mut(wide(range)).map(str::make_ascii_uppercase));
+                made += case.each(("make_ascii_uppercase_in", range), &upper, |string| {
+                    is_part.then(|| string.make_ascii_uppercase_in(range))
                 });
             }
         }
@@ -74,10 +48,10 @@ fn capitals_between_two_bounds() {
         let mut made = 0;
         for case in cases::<N>(&CAPITALS) {
             for range in ranges(N) {
-                let mut lower = case.text.clone();
-                let is_part = lower.get_mut(wide(range)).map(str::make_ascii_lowercase);
-                made += case.each(("make_ascii_lowercase_in", range), &(is_part, lower), |string| {
-                    returned(|| string.make_ascii_lowercase_in(range))
+                let lower = case.wanted(|model| model.text.get_mut(wide(range)).map(str::make_ascii_lowercase));
+                let is_part = lower.0.is_some();
+                made += case.each(("make_ascii_lowercase_in", range), &lower, |string| {
+                    is_part.then(|| string.make_ascii_lowercase_in(range))
                 });
             }
         }
@@ -92,8 +66,8 @@ fn drains_between_two_bounds() {
         let mut made = 0;
         for case in cases::<N>(&WIDTHS) {
             for range in ranges(N) {
-                let wanted = case.wanted(|model| model.drain(wide(range)));
-                made += case.each(("drain", range), &wanted, |string| string.drain(range).map(Iterator::collect));
+                let wanted = case.wanted(|model| model.drain(range));
+                made += case.each(("drain", range), &wanted, |string| string.drain(range).map(given_by));
             }
         }
         (made, total::<N>(&WIDTHS) * range_count(N))
@@ -108,7 +82,7 @@ fn replacements_between_two_bounds() {
         let texts = texts(&WIDTHS, N + 2);
         for case in cases::<N>(&WIDTHS) {
             for (range, with) in ranges(N).into_iter().flat_map(|range| texts.iter().map(move |with| (range, with))) {
-                let wanted = case.wanted(|model| model.replace_range(wide(range), with));
+                let wanted = case.wanted(|model| model.replace_range(range, with));
                 made += case.each(("replace_range", range, with), &wanted, |string| string.replace_range(range, with));
             }
         }
@@ -117,19 +91,19 @@ fn replacements_between_two_bounds() {
     at_each_capacity!(replaced);
 }
 
-/// Makes each call that takes a range of a kind of std's, on each string of a text. The second range is the same over `usize`.
+/// Makes each call that takes a range of a kind of std's, on each string of a text.
 macro_rules! by_kind {
-    ($case:expr, $range:expr, $wide:expr) => {{
-        let (case, name) = ($case, stringify!($range));
-        let part = (case.text.get($wide).map(str::to_string), case.text.clone());
-        let bounds = (RangeBounds::<usize>::start_bound(&$wide).cloned(), RangeBounds::end_bound(&$wide).cloned());
-        let drained = case.wanted(|model| model.drain(bounds));
-        let replaced = case.wanted(|model| model.replace_range(bounds, "é"));
-        case.each(("index", name), &part, |string| returned(|| string[$range].to_string()))
-            + case.each(("slice", name), &part, |string| returned(|| string.slice($range).to_string()))
-            + case.each(("get", name), &part, |string| string.get($range).map(str::to_string))
-            + case.each(("drain", name), &drained, |string| string.drain($range).map(Iterator::collect))
-            + case.each(("replace_range", name), &replaced, |string| string.replace_range($range, "é"))
+    ($case:expr, $range:expr) => {{
+        let (case, name, range) = ($case, stringify!($range), $range);
+        let ends = (RangeBounds::<u8>::start_bound(&range).cloned(), range.end_bound().cloned());
+        let part = case.unchanged(case.text.get(wide(ends)).map(str::to_string));
+        let is_part = part.0.is_some();
+        let drained = case.wanted(|model| model.drain(ends));
+        let replaced = case.wanted(|model| model.replace_range(ends, "é"));
+        case.each(("get", name, ends), &part, |string| string.get($range).map(str::to_string))
+            + case.each(("slice", name, ends), &part, |string| is_part.then(|| string.slice($range).to_string()))
+            + case.each(("drain", name, ends), &drained, |string| string.drain($range).map(given_by))
+            + case.each(("replace_range", name, ends), &replaced, |string| string.replace_range($range, "é"))
     }};
 }
 
@@ -138,41 +112,24 @@ fn each_kind_of_range() {
     fn kinds<const N: usize>() -> MadeAndWanted {
         let mut made = 0;
         for case in &cases::<N>(&WIDTHS) {
-            made += by_kind!(case, .., ..);
+            made += by_kind!(case, ..);
             for start in indices(N) {
-                let from = usize::from(start);
-                made += by_kind!(case, start.., from..);
-                made += by_kind!(case, ..start, ..from);
-                made += by_kind!(case, ..=start, ..=from);
+                made += by_kind!(case, start..) + by_kind!(case, ..start) + by_kind!(case, ..=start);
                 for end in indices(N) {
-                    let to = usize::from(end);
-                    made += by_kind!(case, start..end, from..to);
-                    made += by_kind!(case, start..=end, from..=to);
+                    made += by_kind!(case, start..end) + by_kind!(case, start..=end);
                 }
             }
         }
-        (made, 5 * total::<N>(&WIDTHS) * (1 + 3 * (N + 4) + 2 * (N + 4) * (N + 4)))
+        (made, 4 * total::<N>(&WIDTHS) * (1 + 3 * (N + 4) + 2 * (N + 4) * (N + 4)))
     }
     at_each_capacity!(kinds);
 }
 
 /// Takes what is left of a drain from both ends in every order, and says how many drains that are.
 fn walked<const N: usize>(drain: Drain<N>, left: &str) -> usize {
-    assert_eq!((drain.as_str(), format!("{drain:?}")), (left, format!("Drain({left:?})")));
-    let (least, most) = drain.size_hint();
-    assert!(least <= length(left) && Some(length(left)) <= most, "{least} to {most:?} of {left}");
-    assert_eq!((drain.count(), drain.collect::<String>()), (length(left), left.to_string()));
-    assert_eq!(drain.fold(String::new(), |text, ch| text + ch.encode_utf8(&mut [0; 4])), left);
-    assert!(drain.rev().eq(left.chars().rev()));
-    assert!(
-        drain
-            .rfold(left.chars(), |mut wanted, ch| {
-                assert_eq!(wanted.next_back(), Some(ch));
-                wanted
-            })
-            .as_str()
-            .is_empty()
-    );
+    assert_eq!(drain.as_str().as_bytes(), left.as_bytes());
+    assert_eq!(format!("{drain:?}"), format!("Drain({left:?})"));
+    assert!(drain.eq(left.chars()) && drain.rev().eq(left.chars().rev()), "{left:?}");
     let (mut front, mut back) = (drain, drain);
     let (mut chars, mut backwards) = (left.chars(), left.chars());
     assert_eq!((front.next(), back.next_back()), (chars.next(), backwards.next_back()), "of {left}");

@@ -15,14 +15,13 @@ use std::fmt::Write;
 use std::ops::{Bound, RangeBounds};
 use std::sync::Mutex;
 
-use arraystring::utils::is_char_boundary;
-use arraystring::{ArrayString, MaxString};
+use super::at_capacity;
+use super::rows::{Table, column, parsed, returned, rows};
+use crate::inputs::hash_of;
+use crate::{ArrayString, behind, is_char_boundary};
 
-use crate::at_capacity;
-use crate::rows::{Table, column, hash_of, parsed, returned, rows};
-
-/// The calls of the tables that Rust does not have yet, since its copy of the bodies is frozen. Nothing makes them here:
-/// each leaves the text that its row has behind it.
+/// The calls of the tables that the core does not have yet, since it was not made anew. Nothing makes them here: each leaves the text
+/// that its row has behind it.
 const NOT_IN_RUST: &[&str] = &[];
 
 /// The calls that rows have made.
@@ -57,15 +56,7 @@ fn hold<const N: usize>(table: &str) -> usize {
 
 /// Makes the calls of a table on strings of 8 bytes whose texts begin at each offset of the array that leaves them their room.
 pub fn wherever_it_begins(table: &Table) -> usize {
-    let at_offset = |offset: usize| {
-        hold_from(&table.text, |text| {
-            let before = &"........"[..offset.min(8 - text.len())];
-            let mut behind = ArrayString::<8>::from(before);
-            behind.push_str(text);
-            assert!(behind.drain(..before.len() as u8).is_ok());
-            behind
-        })
-    };
+    let at_offset = |offset: usize| hold_from(&table.text, |text| behind::<8>(offset.min(8 - text.len()), text));
     (0..9).map(at_offset).sum::<usize>() / 9
 }
 
@@ -84,11 +75,8 @@ fn hold_from<const N: usize>(table: &str, string: impl Fn(&str) -> ArrayString<N
                 text = first;
                 make(&mut text, call, row);
                 let after = column(row, 5);
-                assert_eq!(
-                    (text.as_str(), text.as_bytes(), text.len() as usize),
-                    (after, after.as_bytes(), after.len()),
-                    "{row}"
-                );
+                assert_eq!(text.as_bytes(), after.as_bytes(), "{row}");
+                assert_eq!((text.as_str(), text.len() as usize), (after, after.len()), "{row}");
                 assert_eq!(text.is_empty(), after.is_empty(), "{row}");
             }
         })
@@ -129,14 +117,8 @@ fn whole<const N: usize>(text: &mut ArrayString<N>, call: &str, row: &str) -> bo
         "len" => returned(row, assert_eq!(text.len(), parsed(row, 6), "{row}")),
         "capacity" => returned(row, assert_eq!(ArrayString::<N>::capacity(), parsed(row, 6), "{row}")),
         "write_str" => returned(row, text.write_str(given)),
-        // SAFETY: it fits.
-        "push_unchecked" => {
-            returned(row, where_it_fits(text, None, given, |text| unsafe { text.push_unchecked(parsed(row, 3)) }))
-        }
-        // SAFETY: it fits.
-        "push_str_unchecked" => {
-            returned(row, where_it_fits(text, None, given, |text| unsafe { text.push_str_unchecked(given) }))
-        }
+        "push_unchecked" => returned(row, where_it_fits(text, None, given, |text| text.push_unchecked(parsed(row, 3)))),
+        "push_str_unchecked" => returned(row, where_it_fits(text, None, given, |text| text.push_str_unchecked(given))),
         #[allow(clippy::clone_on_copy)]
         "clone" => returned(row, Some(text.clone())),
         "retain_in_turn" => returned(row, retained(text, given, "")),
@@ -170,10 +152,10 @@ fn compared<const N: usize>(text: &ArrayString<N>, call: &str, row: &str) -> boo
 
 /// Keeps the characters at whose turn no `-` is given and that are not among the dropped ones, and returns all that were asked
 /// about.
-fn retained<const N: usize>(text: &mut ArrayString<N>, answers: &str, dropped: &str) -> MaxString {
-    let (mut asked, mut answers) = (MaxString::new(), answers.chars());
+fn retained<const N: usize>(text: &mut ArrayString<N>, answers: &str, dropped: &str) -> String {
+    let (mut asked, mut answers) = (String::new(), answers.chars());
     text.retain(|ch| {
-        let _ = asked.try_push(ch);
+        asked.push(ch);
         answers.next() != Some('-') && !dropped.contains(ch)
     });
     asked
@@ -197,16 +179,12 @@ fn at_index<const N: usize>(text: &mut ArrayString<N>, call: &str, row: &str) ->
     let given = column(row, 3);
     match call {
         "is_char_boundary" => returned(row, is_char_boundary(text, index)),
-        // SAFETY: it fits, and the index is a boundary.
-        "insert_unchecked" => returned(
-            row,
-            where_it_fits(text, Some(index), given, |text| unsafe { text.insert_unchecked(index, parsed(row, 3)) }),
-        ),
-        // SAFETY: it fits, and the index is a boundary.
-        "insert_str_unchecked" => returned(
-            row,
-            where_it_fits(text, Some(index), given, |text| unsafe { text.insert_str_unchecked(index, given) }),
-        ),
+        "insert_unchecked" => {
+            returned(row, where_it_fits(text, Some(index), given, |text| text.insert_unchecked(index, parsed(row, 3))))
+        }
+        "insert_str_unchecked" => {
+            returned(row, where_it_fits(text, Some(index), given, |text| text.insert_str_unchecked(index, given)))
+        }
         "try_insert" => returned(row, text.try_insert(index, parsed(row, 3))),
         "try_insert_str" => returned(row, text.try_insert_str(index, given)),
         "insert_str" => returned(row, text.insert_str(index, given)),
@@ -256,7 +234,7 @@ fn in_range<const N: usize>(text: &mut ArrayString<N>, call: &str, row: &str) ->
     }
 }
 
-/// Makes a call on a range; those that panic where there is no such part, only where `get` finds one.
+/// Makes a call on a range; those that require a part of the text, only where `get` finds one.
 fn of_range<const N: usize>(
     text: &mut ArrayString<N>,
     call: &str,

@@ -1,4 +1,4 @@
-//! The tables of the proved crate's tests, read from its files and played on the Rust crate: one table tests both builds.
+//! The tables of the proved crate's tests, read from its files and played on the core: one table tests both builds.
 //!
 //! A table begins with a line that names its player, as `# player: cuts`. `PLAYERS` has the players. A player that makes strings of
 //! a capacity has it behind its name, and a table may say what it shows: `# player: calls 23 | the first character is taken out`.
@@ -12,7 +12,7 @@ mod rows;
 
 use std::collections::BTreeMap;
 
-use rows::{Table, of_text, tables};
+use self::rows::{Table, of_text, tables};
 
 /// Where the tables are.
 const FOLDER: &str = "../../crates/arraystring_tests/src/tests";
@@ -51,7 +51,7 @@ fn player_of(table: &Table) -> Result<&'static Player, String> {
 /// Calls a function at a capacity that is known when it runs.
 macro_rules! at_capacity {
     ($capacity:expr, $function:ident, $argument:expr) => {
-        at_capacity!($capacity, $function, $argument, 0 1 2 3 4 5 6 7 8 9 10 23 32 255 300)
+        $crate::tables::at_capacity!($capacity, $function, $argument, 0 1 2 3 4 5 6 7 8 9 10 23 32 255 300)
     };
     ($capacity:expr, $function:ident, $argument:expr, $($known:literal)*) => {
         match $capacity {

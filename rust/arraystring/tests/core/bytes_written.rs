@@ -1,41 +1,30 @@
-//! How much an edit does, by addresses: where there is room behind a text it stays where it is, and no byte of the array is written
-//! but those of what is given and those behind it in the text. So for each call, at each start offset.
+//! How much an edit does: where there is room behind a text it stays where it is, and no byte of the array is written but those of what
+//! is given and those behind it in the text. So for each call, at each start offset.
 
 use std::fmt::Write;
-use std::ops::Range;
-use std::slice;
+use std::ops::{Add, Range};
 
-use arraystring::ArrayString;
-use inputs::{at_capacities, behind, capacity, cut, edges, letters, mixed};
-
-mod inputs;
+use crate::inputs::{at_capacities, cut, edges, letters, mixed};
+use crate::leaf::Place;
+use crate::{ArrayString, behind, capacity, values};
 
 type Edit<'a, const N: usize> = &'a dyn Fn(&mut ArrayString<N>);
 
-/// How many bytes after the address of a string that of its text is.
-fn distance<const N: usize>(string: &ArrayString<N>) -> usize {
-    string.as_bytes().as_ptr().addr() - std::ptr::from_ref(string).addr()
-}
-
-/// The start offset of the text: a new string begins at offset 0.
+/// The start offset of the text.
 fn start<const N: usize>(string: &ArrayString<N>) -> usize {
-    distance(string) - distance(&ArrayString::<N>::new())
+    string.start.into()
 }
 
-/// All bytes of the array of a string that [`with_values`] made, also those around the text.
-fn array<const N: usize>(string: &ArrayString<N>) -> &[u8] {
-    let place = std::ptr::from_ref(string).cast::<u8>();
-    // SAFETY: the array is a part of the value, from there on, and each byte of it has a value.
-    unsafe { slice::from_raw_parts(place.add(distance(&ArrayString::<N>::new())), N) }
+/// How many bytes more the text may have.
+fn room_in<const N: usize>(string: &ArrayString<N>) -> usize {
+    capacity::<N>() - string.as_str().len()
 }
 
 /// The same string with a value in each byte around the text, which has none in a new one.
 fn with_values<const N: usize>(mut string: ArrayString<N>) -> ArrayString<N> {
-    let (first, text) = (distance(&ArrayString::<N>::new()), start(&string)..start(&string) + string.len() as usize);
-    let place = std::ptr::from_mut(&mut string).cast::<u8>();
+    let text = start(&string)..start(&string) + string.as_str().len();
     for at in (0..N).filter(|at| !text.contains(at)) {
-        // SAFETY: the array is a part of the value, from there on, and each byte around the text may have any value.
-        unsafe { place.add(first + at).write((at * 7 + at / 256) as u8 ^ 0xA5) };
+        string.array[at] = Place::new((at * 7 + at / 256) as u8 ^ 0xA5);
     }
     string
 }
@@ -44,8 +33,10 @@ fn with_values<const N: usize>(mut string: ArrayString<N>) -> ArrayString<N> {
 fn edited<const N: usize>(before: &ArrayString<N>, place: usize, written: Range<usize>, name: &str, edit: Edit<N>) {
     let mut after = *before;
     edit(&mut after);
-    assert_eq!(start(&after), place, "{name} of {before:?} at {} of {N}: {after:?}", start(before));
-    let around = |string| [array(string)[..written.start].to_vec(), array(string)[written.end..].to_vec()];
+    assert_eq!(start(&after), place, "{name} of {before:?} at {} of {N}", start(before));
+    let around = |string: &ArrayString<N>| {
+        [&string.array[..written.start], &string.array[written.end..]].map(|part| values(part).to_vec())
+    };
     assert!(around(before) == around(&after), "{name} of {before:?} at {}: more than {written:?}", start(before));
 }
 
@@ -68,8 +59,7 @@ fn boundaries(text: &str) -> Vec<usize> {
 
 /// Texts that fit behind a text exactly, nearly or too far, and texts that fit once it moves, exactly, nearly or too far.
 fn given<const N: usize>(string: &ArrayString<N>) -> Vec<String> {
-    let (room, behind) =
-        (string.remaining_capacity() as usize, capacity::<N>() - start(string) - string.len() as usize);
+    let (room, behind) = (room_in(string), room_in(string) - start(string));
     let mut sizes: Vec<_> =
         (0..3).flat_map(|by| [by, (behind + by).saturating_sub(1), (room + by).saturating_sub(1)]).collect();
     sizes.sort_unstable();
@@ -80,7 +70,7 @@ fn given<const N: usize>(string: &ArrayString<N>) -> Vec<String> {
 /// Asserts of edits that put a text at an index, in place of so many bytes, that they move the text to the start of the array only
 /// where it has no room else.
 fn put<const N: usize>(string: &ArrayString<N>, at: usize, replaced: usize, put: &str, edits: &[(&str, Edit<N>)]) {
-    let (offset, len) = (start(string), string.len() as usize);
+    let (offset, len) = (start(string), string.as_str().len());
     let end = offset + len - replaced + put.len();
     for (name, edit) in edits {
         if end > capacity::<N>() {
@@ -95,50 +85,33 @@ fn put<const N: usize>(string: &ArrayString<N>, at: usize, replaced: usize, put:
 
 fn appended<const N: usize>() {
     for string in strings::<N>() {
-        let (len, room) = (string.len() as usize, string.remaining_capacity() as usize);
+        let (len, room) = (string.as_str().len(), room_in(&string));
         for given in given(&string) {
             let (given, (front, back)) = (given.as_str(), given.split_at(cut(&given, given.len() / 2).len()));
-            let kept = cut(given, room);
-            let cutting: [(&str, Edit<N>); 11] = [
+            let cutting: [(&str, Edit<N>); 6] = [
                 ("push_str", &|string| string.push_str(given)),
-                ("+=", &|string| *string += given),
-                ("+", &|string| *string = std::ops::Add::add(*string, given)),
+                ("+", &|string| *string = string.add(given)),
                 ("extend_chars", &|string| string.extend_chars(given.chars())),
-                ("extend of characters", &|string| string.extend(given.chars())),
                 ("extend_strs", &|string| string.extend_strs([given])),
                 ("extend_strs of two", &|string| string.extend_strs([front, back])),
-                ("extend of texts", &|string| string.extend([front, back])),
-                ("extend_strs of characters", &|string| string.extend_strs(given.chars().map(|ch| ch.to_string()))),
-                ("write_truncated", &|string| _ = string.write_truncated(format_args!("{given}"))),
-                ("write_truncated of two", &|string| _ = string.write_truncated(format_args!("{front}{back}"))),
+                ("extend_strs of characters", &|string| string.extend_strs(given.split_inclusive(|_| true))),
             ];
-            put(&string, len, 0, kept, &cutting);
-            let refusing: [(&str, Edit<N>); 5] = [
+            put(&string, len, 0, cut(given, room), &cutting);
+            let refusing: [(&str, Edit<N>); 3] = [
                 ("try_push_str", &|string| _ = string.try_push_str(given)),
-                ("try_extend_strs", &|string| _ = string.try_extend_strs([given])),
                 ("write_str", &|string| _ = string.write_str(given)),
                 ("write!", &|string| _ = write!(string, "{given}")),
-                ("try_write", &|string| _ = string.try_write(format_args!("{given}"))),
             ];
             put(&string, len, 0, if given.len() <= room { given } else { "" }, &refusing);
             if given.len() <= room {
-                let fitting: [(&str, Edit<N>); 4] = [
-                    // SAFETY: it fits.
-                    ("push_str_unchecked", &|string| unsafe { string.push_str_unchecked(given) }),
-                    ("try_write of two", &|string| _ = string.try_write(format_args!("{front}{back}"))),
-                    ("try_extend_chars", &|string| _ = string.try_extend_chars(given.chars())),
-                    ("try_extend_strs of two", &|string| _ = string.try_extend_strs([front, back])),
-                ];
-                put(&string, len, 0, given, &fitting);
+                put(&string, len, 0, given, &[("push_str_unchecked", &|string| string.push_str_unchecked(given))]);
             }
         }
         for ch in ['a', 'é', '€', '🤔'] {
-            let fits = ch.len_utf8() <= room;
-            let given = if fits { ch.to_string() } else { String::new() };
+            let given = if ch.len_utf8() <= room { ch.to_string() } else { String::new() };
             put(&string, len, 0, &given, &[("try_push", &|string| _ = string.try_push(ch))]);
-            if fits {
-                // SAFETY: it fits.
-                put(&string, len, 0, &given, &[("push_unchecked", &|string| unsafe { string.push_unchecked(ch) })]);
+            if !given.is_empty() {
+                put(&string, len, 0, &given, &[("push_unchecked", &|string| string.push_unchecked(ch))]);
             }
         }
     }
@@ -146,8 +119,8 @@ fn appended<const N: usize>() {
 
 fn inserted<const N: usize>() {
     for string in strings::<N>() {
-        let room = string.remaining_capacity() as usize;
-        for at in boundaries(&string) {
+        let room = room_in(&string);
+        for at in boundaries(string.as_str()) {
             let index = at as u8;
             for given in given(&string) {
                 let kept = cut(&given, room);
@@ -159,9 +132,8 @@ fn inserted<const N: usize>() {
                 let given = if ch.len_utf8() <= room { ch.to_string() } else { String::new() };
                 put(&string, at, 0, &given, &[("try_insert", &|string| _ = string.try_insert(index, ch))]);
                 if !given.is_empty() {
-                    // SAFETY: it fits, and the index is a boundary.
-                    let by_char: Edit<N> = &|string| unsafe { string.insert_unchecked(index, ch) };
-                    let by_text: Edit<N> = &|string| unsafe { string.insert_str_unchecked(index, &given) };
+                    let by_char: Edit<N> = &|string| string.insert_unchecked(index, ch);
+                    let by_text: Edit<N> = &|string| string.insert_str_unchecked(index, &given);
                     put(&string, at, 0, &given, &[("insert_unchecked", by_char), ("insert_str_unchecked", by_text)]);
                 }
             }
@@ -172,7 +144,7 @@ fn inserted<const N: usize>() {
 /// What is removed at the front raises the start offset, and what is removed at the end lowers the size: no byte is written.
 fn removed<const N: usize>() {
     for string in strings::<N>() {
-        let (offset, len) = (start(&string), string.len() as usize);
+        let (offset, len) = (start(&string), string.as_str().len());
         let none = |place: usize, name: &str, edit: Edit<N>| edited(&string, place, 0..0, name, edit);
         none(offset, "pop", &|string| _ = string.pop());
         none(offset, "clear", &|string| string.clear());
@@ -180,11 +152,11 @@ fn removed<const N: usize>() {
         let leading = |trimmed: &str| if trimmed.is_empty() { offset } else { offset + len - trimmed.len() };
         none(leading(string.as_str().trim_start()), "trim", &|string| string.trim());
         none(leading(string.as_str().trim_start_matches(' ')), "trim_spaces", &|string| string.trim_spaces());
-        let boundaries = boundaries(&string);
+        let boundaries = boundaries(string.as_str());
         for at in boundaries.iter().copied() {
             none(offset, "truncate", &|string| _ = string.truncate(at as u8));
             none(offset, "split_off", &|string| _ = string.split_off(at as u8));
-            let width = string[at as u8..].chars().next().map_or(0, char::len_utf8);
+            let width = string.as_str()[at..].chars().next().map_or(0, char::len_utf8);
             let remove: Edit<N> = &|string| _ = string.remove(at as u8);
             match at {
                 0 => none(offset + width, "remove", remove),
@@ -207,16 +179,15 @@ fn retained<const N: usize>() {
         let offset = start(&string);
         for pattern in 1..8 {
             let keeps = |at: usize| pattern >> (at % 3) & 1 == 1;
-            let kept: usize =
-                string.chars().enumerate().filter(|(at, _)| keeps(*at)).map(|(_, ch)| ch.len_utf8()).sum();
-            let same =
-                string.chars().enumerate().take_while(|(at, _)| keeps(*at)).map(|(_, ch)| ch.len_utf8()).sum::<usize>();
+            let widths = || string.as_str().chars().map(char::len_utf8).enumerate();
+            let kept: usize = widths().filter(|(at, _)| keeps(*at)).map(|(_, width)| width).sum();
+            let same: usize = widths().take_while(|(at, _)| keeps(*at)).map(|(_, width)| width).sum();
             edited(&string, offset, offset + same..offset + kept, "retain", &|string| {
                 let mut at = 0..;
                 string.retain(|_| at.next().is_some_and(keeps));
             });
         }
-        edited(&string, offset, offset..offset + string.len() as usize, "make_ascii_uppercase", &|string| {
+        edited(&string, offset, offset..offset + string.as_str().len(), "make_ascii_uppercase", &|string| {
             string.make_ascii_uppercase();
             string.make_ascii_lowercase();
         });
@@ -225,11 +196,11 @@ fn retained<const N: usize>() {
 
 fn replaced<const N: usize>() {
     for string in strings::<N>() {
-        let boundaries = boundaries(&string);
+        let boundaries = boundaries(string.as_str());
         for (at, end) in
             boundaries.iter().flat_map(|at| boundaries.iter().map(move |end| (*at, *end))).filter(|(at, end)| at <= end)
         {
-            let room = string.remaining_capacity() as usize + end - at;
+            let room = room_in(&string) + end - at;
             let given: Vec<_> = given(&string)
                 .into_iter()
                 .chain([letters(end - at), letters(room)])

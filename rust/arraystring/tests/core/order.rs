@@ -1,14 +1,12 @@
-//! Comparisons beside those of std, which take the place of the sources' own here: each length, and each place where texts
+//! Comparisons of strings and of drains beside those of their texts: each length, and each place where texts
 //! differ, of bytes below and above 80. Short texts: each size with each, at each offset in the array.
 
 use std::cmp::Ordering;
 use std::hash::Hash;
 use std::thread;
 
-use arraystring::{ArrayString, CacheString, Drain};
-use inputs::{behind, hash_of, letters};
-
-mod inputs;
+use crate::inputs::{hash_of, letters};
+use crate::{ArrayString, Drain, behind, between, capacity};
 
 /// Two characters of one width, the lesser first: bytes below 80, bytes on both sides of the middle of their range, bytes that
 /// differ in the first, a middle or the last place.
@@ -52,13 +50,12 @@ fn are_ordered<T: Ord + Hash>(one: &T, other: &T, texts: (&str, &str)) {
 /// Asserts that two texts are ordered as std orders them, as strings of a capacity, and returns 1; or 0, where they do not fit.
 fn at<const N: usize>(texts: (&str, &str)) -> usize {
     let longest = texts.0.len().max(texts.1.len());
-    if longest > N.min(255) {
+    if longest > capacity::<N>() {
         return 0;
     }
     let (one, other) = (ArrayString::<N>::from(texts.0), ArrayString::<N>::from(texts.1));
     are_ordered(&one, &other, texts);
-    assert_eq!((one == *texts.1, one == *texts.0, one == texts.1), (texts.0 == texts.1, true, texts.0 == texts.1));
-    let offset = (N.min(255) - longest).min(3);
+    let offset = (capacity::<N>() - longest).min(3);
     are_ordered(&behind::<N>(offset, texts.0), &other, texts);
     are_ordered(&one, &behind::<N>(offset, texts.1), texts);
     1
@@ -170,7 +167,7 @@ fn characters_of_two_widths() {
 #[test]
 fn each_capacity_compares_full_texts() {
     fn full<const N: usize>() {
-        let len = N.min(255);
+        let len = capacity::<N>();
         let text = letters(len);
         let mut count = at::<N>((&text, &text));
         for place in 0..len {
@@ -201,24 +198,22 @@ fn each_capacity_compares_full_texts() {
 }
 
 #[test]
-fn drains_and_cache_strings_are_ordered_alike() {
+fn drains_of_a_part_are_ordered_alike() {
     let mut count = 0;
     for len in 0..=63 {
         let text = letters(len);
         for place in 0..len {
             for (less, more) in PAIRS.iter().filter(|(less, _)| place + less.len_utf8() <= len) {
                 let texts = (&*with(&text, place, *less), &*with(&text, place, *more));
-                let cached = (CacheString::from_str_truncate(texts.0), CacheString::from_str_truncate(texts.1));
-                are_ordered(&cached.0, &cached.1, texts);
-                are_ordered(&cached.0, &cached.0.clone(), (texts.0, texts.0));
-                let drained = |text: &str| -> Drain<70> {
-                    let mut string = ArrayString::<70>::from(format!("é{text}z").as_str());
-                    string.drain(2..2 + text.len() as u8).expect("a part")
+                // (of a text with more on either side, in an array with more on either side)
+                let part = |text: &str| {
+                    let drained = behind::<70>(3, &format!("é{text}z")).drain(2..2 + text.len() as u8);
+                    drained.expect("a part")
                 };
-                let drains = (drained(texts.0), drained(texts.1));
+                let drains = (part(texts.0), part(texts.1));
                 are_ordered(&drains.0, &drains.1, texts);
                 are_ordered(&drains.1, &drains.1.clone(), (texts.1, texts.1));
-                count += 1;
+                count += at::<63>(texts);
             }
         }
     }
@@ -322,9 +317,6 @@ fn a_short_text_is_compared_at_each_offset() {
 fn bytes_behind_a_text_are_not_compared() {
     for size in 0..=18 {
         let text = "m".repeat(size);
-        let mut one = ArrayString::<40>::from_str_truncate(&(text.clone() + &"a".repeat(20)));
-        let mut other = ArrayString::<40>::from_str_truncate(&(text + &"z".repeat(20)));
-        assert!(one.truncate(size as u8).is_ok() && other.truncate(size as u8).is_ok());
-        compare(&one, &other);
+        compare::<40>(&between("", &text, &"a".repeat(20)), &between("", &text, &"z".repeat(20)));
     }
 }

@@ -3,17 +3,14 @@
 //!
 //! The variable `ARRAYSTRING_CAPACITY` of the environment says how far the capacities go.
 
-use states::{MadeAndWanted, WIDTHS, at_each_capacity, cases, counts, offset, string_counts, texts};
-
-#[path = "../inputs/mod.rs"]
-mod inputs;
-
 mod edits;
-mod limited;
 mod looks;
 mod made;
 mod ranges;
 mod states;
+
+pub use self::made::{is_made_of, is_made_of_pieces};
+use self::states::{MadeAndWanted, WIDTHS, at_each_capacity, cases, counts, string_counts, texts};
 
 #[test]
 fn every_string_is_there_once() {
@@ -26,7 +23,7 @@ fn every_string_is_there_once() {
         let mut made = 0;
         for (case, string) in cases.iter().flat_map(|case| case.strings.iter().map(move |string| (case, string))) {
             assert_eq!(string.as_str(), case.text);
-            assert!(offset(string) + case.text.len() <= N, "{:?} at {} of {N}", case.text, offset(string));
+            assert!(usize::from(string.start) + case.text.len() <= N, "{:?} at {} of {N}", case.text, string.start);
             made += 1;
         }
         (made, string_counts::<N>(&WIDTHS).iter().sum())

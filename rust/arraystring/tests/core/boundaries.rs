@@ -1,25 +1,23 @@
 //! Whether an index is a boundary, beside `str`: each index in and past a string of each size, the greatest of both too; and whether a
-//! size is within a limit, each as a number of each type.
+//! size is within a limit.
 
-use arraystring::utils::{is_char_boundary, is_inside_boundary};
-use arraystring::{ArrayString, OutOfBounds};
+use crate::utils::is_inside_boundary;
+use crate::{ArrayString, OutOfBounds, behind, is_char_boundary};
 
 /// A text of so many bytes that ends with as many of a character as fit into it.
 fn text_of(ch: char, size: usize) -> String {
     "x".repeat(size % ch.len_utf8()) + &String::from(ch).repeat(size / ch.len_utf8())
 }
 
-/// Asserts it of the string of a text, and of one that was drained to it. Returns how many indices there are.
+/// Asserts it of the string of a text, and of one that ends where its array does. Returns how many indices there are.
 fn compare<const N: usize>(text: &str) -> usize {
     let string = ArrayString::<N>::try_from_str(text).unwrap();
-    let room = 255 - string.len();
-    let mut drained = ArrayString::<N>::from(&*"y".repeat(room.into())) + text;
-    drained.drain(..room).unwrap();
-    assert_eq!((string.as_str(), drained.as_str()), (text, text));
+    let last: ArrayString<N> = behind(255 - text.len(), text);
+    assert_eq!((string.as_str(), last.as_str()), (text, text));
     for index in 0..=255 {
         let wanted = text.is_char_boundary(index.into());
         assert_eq!(is_char_boundary(&string, index).is_ok(), wanted, "{index} of {text:?}");
-        assert_eq!(is_char_boundary(&drained, index).is_ok(), wanted, "{index} of {text:?}, drained");
+        assert_eq!(is_char_boundary(&last, index).is_ok(), wanted, "{index} of {text:?}, at the end");
     }
     256
 }
@@ -45,11 +43,5 @@ fn each_size_beside_each_limit() {
     for (size, limit) in numbers().flat_map(|size| numbers().map(move |limit| (size, limit))) {
         let wanted = if size <= limit { Ok(()) } else { Err(OutOfBounds) };
         assert_eq!(is_inside_boundary(size, limit), wanted, "{size} and {limit}");
-        if let Ok(size) = u16::try_from(size) {
-            assert_eq!(is_inside_boundary(size, limit), wanted, "{size} and {limit}");
-        }
-        if let Ok(limit) = u8::try_from(limit) {
-            assert_eq!(is_inside_boundary(size, limit), wanted, "{size} and {limit}");
-        }
     }
 }

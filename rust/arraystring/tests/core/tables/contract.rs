@@ -2,7 +2,7 @@
 
 use std::fs;
 
-use arraystring::ArrayString;
+use crate::ArrayString;
 
 /// The code with which a cell begins.
 fn code(cell: &str) -> &str {

@@ -1,31 +1,24 @@
 //! The calls that make a string, and those of `utils`.
 
-use arraystring::utf16::{Unit16, Units};
-use arraystring::utils::{encode, is_boundary, is_inside_boundary, shift, truncate_str};
-use arraystring::{ArrayString, Error};
-
-use crate::edits::{all_pieces, indices, piece_counts};
+use super::edits::{all_pieces, indices, piece_counts};
+use super::states::{MadeAndWanted, WIDTHS, at_each_capacity, counts, texts};
 use crate::inputs::cut;
+use crate::leaf::Place;
 use crate::limited::Limited;
-use crate::states::{MadeAndWanted, WIDTHS, at_each_capacity, counts, texts};
+use crate::utf16::{Unit16, Units};
+use crate::utils::{encode, is_boundary, is_inside_boundary, shift, truncate_str};
+use crate::{ArrayString, Error, OutOfBounds, capacity, places, values};
 
 type Made<const N: usize> = Result<ArrayString<N>, Error>;
 
-/// The texts of what was made.
-fn texts_of<const N: usize, const K: usize>(made: [Made<N>; K]) -> [Result<String, Error>; K] {
-    made.map(|made| made.map(|made| made.to_string()))
-}
-
 /// What the calls make of a text that cut it.
-fn cuts_of<const N: usize>(given: &str) -> [Made<N>; 8] {
+fn cuts_of<const N: usize>(given: &str) -> [Made<N>; 6] {
     let units: Vec<_> = given.encode_utf16().collect();
     [
         Ok(ArrayString::from_str_truncate(given)),
         Ok(ArrayString::from(given)),
         Ok(ArrayString::from_chars(given.chars())),
-        Ok(given.chars().collect()),
-        Ok(given.chars().collect::<Vec<_>>().iter().collect()),
-        ArrayString::from_utf8(given).map_err(Error::from),
+        ArrayString::from_utf8(given.as_bytes()).map_err(Error::from),
         ArrayString::from_utf16(&units).map_err(Error::from),
         Ok(ArrayString::from_utf16_lossy(&units)),
     ]
@@ -37,84 +30,80 @@ fn wholes_of<const N: usize>(given: &str) -> [Made<N>; 5] {
         ArrayString::try_from_str(given).map_err(Error::from),
         given.parse().map_err(Error::from),
         ArrayString::try_from_chars(given.chars()).map_err(Error::from),
-        ArrayString::try_from_utf8(given),
-        ArrayString::try_from_utf16(given.encode_utf16().collect::<Vec<_>>()),
+        ArrayString::try_from_utf8(given.as_bytes()),
+        ArrayString::try_from_utf16(&given.encode_utf16().collect::<Vec<_>>()),
     ]
 }
 
 /// What the calls make of a text that do not ask whether it fits.
-///
-/// # Safety
-///
-/// It has to fit.
-unsafe fn unchecked_of<const N: usize>(given: &str) -> [Made<N>; 3] {
-    // SAFETY: the text fits.
-    unsafe {
-        [
-            Ok(ArrayString::from_str_unchecked(given)),
-            Ok(ArrayString::from_utf8_unchecked(given)),
-            Ok(ArrayString::from_chars_unchecked(given.chars())),
-        ]
+fn unchecked_of<const N: usize>(given: &str) -> [Made<N>; 3] {
+    [
+        Ok(ArrayString::from_str_unchecked(given)),
+        Ok(ArrayString::from_utf8_unchecked(given.as_bytes())),
+        Ok(ArrayString::from_chars_unchecked(given.chars())),
+    ]
+}
+
+/// Asserts what each call makes of a text. Says how many calls those are.
+pub fn is_made_of<const N: usize>(given: &str) -> usize {
+    let capacity = capacity::<N>();
+    let is_made = |made: &Made<N>, wanted: Result<&str, Error>| {
+        assert_eq!(made.as_ref().map(ArrayString::as_str).map_err(|error| *error), wanted, "{N} of {given}");
+        assert_eq!(made.map_or(0, |made| made.start), 0, "{N} of {given}");
+    };
+    let (cuts, wholes) = (cuts_of::<N>(given), wholes_of::<N>(given));
+    cuts.iter().for_each(|made| is_made(made, Ok(cut(given, capacity))));
+    if given.len() > capacity {
+        wholes.iter().for_each(|made| is_made(made, Err(Error::OutOfBounds)));
+        return cuts.len() + wholes.len();
     }
+    let unchecked = unchecked_of::<N>(given);
+    wholes.iter().chain(&unchecked).for_each(|made| is_made(made, Ok(given)));
+    cuts.len() + wholes.len() + unchecked.len()
 }
 
 #[test]
 fn made_of_a_text() {
     fn of_a_text<const N: usize>() -> MadeAndWanted {
-        let mut made = 0;
-        for given in texts(&WIDTHS, N + 2) {
-            let (cuts, wholes) = (texts_of(cuts_of::<N>(&given)), texts_of(wholes_of::<N>(&given)));
-            let whole = if given.len() <= N { Ok(given.clone()) } else { Err(Error::OutOfBounds) };
-            for string in cuts {
-                assert_eq!(string.as_deref(), Ok(cut(&given, N)), "of {given}");
-                made += 1;
-            }
-            for string in wholes {
-                assert_eq!(string, whole, "of {given}");
-                made += 1;
-            }
-            if whole.is_ok() {
-                // SAFETY: the text fits.
-                let unchecked = texts_of(unsafe { unchecked_of::<N>(&given) });
-                for string in unchecked {
-                    assert_eq!(string, whole, "of {given}");
-                    made += 1;
-                }
-            }
-        }
+        let made = texts(&WIDTHS, N + 2).iter().map(|given| is_made_of::<N>(given)).sum();
         let counts = counts(&WIDTHS, N + 2);
-        (made, 13 * counts.iter().sum::<usize>() + 3 * counts[..=N].iter().sum::<usize>())
+        (made, 11 * counts.iter().sum::<usize>() + 3 * counts[..=N].iter().sum::<usize>())
     }
     at_each_capacity!(of_a_text);
+}
+
+/// Asserts what the calls make of pieces, and how many of these they leave. Says how many calls those are.
+pub fn is_made_of_pieces<const N: usize>(pieces: &[&str]) -> usize {
+    let (given, capacity) = (pieces.concat(), capacity::<N>());
+    let (mut cut_at, mut refused_at) = (pieces.iter(), pieces.iter());
+    let string = ArrayString::<N>::from_iterator(cut_at.by_ref().copied());
+    assert_eq!(string.as_str(), cut(&given, capacity), "{pieces:?}");
+    let whole = ArrayString::<N>::try_from_iterator(refused_at.by_ref().copied());
+    assert_eq!(whole, if given.len() <= capacity { Ok(string) } else { Err(OutOfBounds) }, "{pieces:?}");
+    let left = Limited::new(0, "", capacity).left_of(pieces);
+    assert_eq!([cut_at.len(), refused_at.len()], [left; 2], "{pieces:?}");
+    if whole.is_err() {
+        return 2;
+    }
+    assert_eq!(ArrayString::<N>::from_iterator_unchecked(pieces.iter().copied()), string);
+    3
 }
 
 #[test]
 fn made_of_items() {
     fn of_items<const N: usize>() -> MadeAndWanted {
-        let (mut made, mut unchecked) = (0, 0);
+        let mut made = 0;
         for given in texts(&WIDTHS, N + 2) {
-            let left_of = |pieces: &[&str]| pieces.len() - Limited::new("", N).extend(pieces);
             let items: Vec<_> = given.split_inclusive(|_| true).collect();
             let (mut cut_at, mut refused_at) = (given.chars(), given.chars());
             let string = ArrayString::<N>::from_chars(&mut cut_at);
             let whole = ArrayString::<N>::try_from_chars(&mut refused_at);
-            assert_eq!([cut_at.count(), refused_at.count()], [left_of(&items); 2], "{given}");
+            let left = Limited::new(0, "", N).left_of(&items);
+            assert_eq!([cut_at.count(), refused_at.count()], [left; 2], "{given}");
             assert_eq!((string.as_str(), whole.is_ok()), (cut(&given, N), given.len() <= N));
-            for pieces in all_pieces(&given) {
-                let (mut cut_at, mut refused_at) = (pieces.iter(), pieces.iter());
-                assert_eq!(ArrayString::<N>::from_iterator(&mut cut_at), string);
-                assert_eq!(ArrayString::<N>::try_from_iterator(&mut refused_at), whole);
-                assert_eq!([cut_at.len(), refused_at.len()], [left_of(&pieces); 2], "{pieces:?}");
-                assert_eq!(pieces.iter().copied().collect::<ArrayString<N>>(), string);
-                made += 3;
-                if whole.is_ok() {
-                    // SAFETY: the pieces fit.
-                    assert_eq!(unsafe { ArrayString::<N>::from_iterator_unchecked(&pieces) }, string);
-                    unchecked += 1;
-                }
-            }
+            made += all_pieces(&given).map(|pieces| is_made_of_pieces::<N>(&pieces)).sum::<usize>();
         }
-        (made + unchecked, 3 * piece_counts(N + 2) + piece_counts(N))
+        (made, 2 * piece_counts(N + 2) + piece_counts(N))
     }
     at_each_capacity!(of_items);
 }
@@ -154,11 +143,9 @@ fn made_of_bytes() {
             };
             let whole = ArrayString::<N>::try_from_utf8(&given);
             assert_eq!((whole.err(), whole.is_err() || whole.ok() == string.ok()), (refusal, true), "{given:x?}");
-            let lossy = ArrayString::<N>::from_utf8_lossy(&given);
-            assert_eq!(lossy.as_str(), cut(&String::from_utf8_lossy(&given), N), "{given:x?}");
-            made += 3;
+            made += 2;
         }
-        (made, 3 * list_count(BYTES.len(), MOST))
+        (made, 2 * list_count(BYTES.len(), MOST))
     }
     at_each_capacity!(of_bytes);
 }
@@ -210,7 +197,7 @@ fn cuts_and_boundaries_of_a_text() {
                 let at = usize::from(size);
                 assert_eq!(truncate_str(&text, size), cut(&text, at), "{text} at {size}");
                 assert_eq!(is_boundary(&text, at), text.is_char_boundary(at), "{text} at {size}");
-                assert_eq!(is_inside_boundary(size, text.len()).is_ok(), at <= text.len());
+                assert_eq!(is_inside_boundary(at, text.len()).is_ok(), at <= text.len());
                 made += 3;
             }
         }
@@ -219,22 +206,16 @@ fn cuts_and_boundaries_of_a_text() {
     at_each_capacity!(cuts);
 }
 
-/// An array of letters.
-fn letters<const N: usize>() -> [u8; N] {
-    std::array::from_fn(|at| b'A' + at as u8)
-}
-
 #[test]
 fn moves_in_an_array() {
     fn moves<const N: usize>() -> MadeAndWanted {
         let mut made = 0;
         for len in 0..=N {
             for (from, to) in (0..=N - len).flat_map(|from| (0..=N - len).map(move |to| (from, to))) {
-                let (mut array, mut wanted) = (letters::<N>(), letters::<N>());
+                let (mut array, mut wanted) = (places::<N>(), places::<N>());
                 wanted.copy_within(from..from + len, to);
-                // SAFETY: both runs lie in the array.
-                unsafe { shift(&mut array, from, to, len) };
-                assert_eq!(array, wanted, "{len} from {from} to {to}");
+                shift(&mut array, from, to, len);
+                assert_eq!(values(&array), values(&wanted), "{len} from {from} to {to}");
                 made += 1;
             }
         }
@@ -247,14 +228,13 @@ fn moves_in_an_array() {
 fn characters_in_an_array() {
     fn characters<const N: usize>() -> MadeAndWanted {
         let mut made = 0;
-        let array = letters::<N>();
         for ch in WIDTHS {
             for at in 0..(N + 1).saturating_sub(ch.len_utf8()) {
-                let (mut array, mut wanted) = (array, array);
-                ch.encode_utf8(&mut wanted[at..]);
-                // SAFETY: the character fits behind `at`.
-                assert_eq!(unsafe { encode(ch, &mut array, at) }, ch.len_utf8());
-                assert_eq!(array, wanted, "{ch} at {at}");
+                let (mut array, mut wanted) = (places::<N>(), places::<N>());
+                let spelled = ch.to_string().bytes().map(Place::new).collect::<Vec<_>>();
+                wanted[at..at + spelled.len()].copy_from_slice(&spelled);
+                assert_eq!(encode(ch, &mut array, at), ch.len_utf8());
+                assert_eq!(values(&array), values(&wanted), "{ch} at {at}");
                 made += 1;
             }
         }

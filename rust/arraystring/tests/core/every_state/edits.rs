@@ -1,12 +1,10 @@
 //! The calls that change a string, and no range.
 
 use std::cell::RefCell;
-use std::fmt::{self, Display, Write};
+use std::fmt::Write;
 
-use arraystring::ArrayString;
-
-use crate::limited::Limited;
-use crate::states::{Case, MadeAndWanted, WIDTHS, at_each_capacity, cases, counts, length, string_counts, texts};
+use super::states::{Case, MadeAndWanted, WIDTHS, at_each_capacity, cases, counts, length, string_counts, texts};
+use crate::ArrayString;
 
 /// Characters that are white space, of one to three bytes, and a letter.
 pub const SPACES: [char; 4] = ['Z', ' ', '\u{85}', '\u{2003}'];
@@ -21,17 +19,6 @@ pub fn total<const N: usize>(characters: &[char]) -> usize {
     string_counts::<N>(characters).iter().sum()
 }
 
-impl<const N: usize> Case<N> {
-    /// What a call returns and leaves, by the model.
-    pub fn wanted<T>(&self, call: impl FnOnce(&mut Limited) -> T) -> (T, String) {
-        Limited::new(&self.text, N).after(call)
-    }
-}
-
-fn trimmed(text: &mut String, by: impl Fn(&str) -> &str) {
-    *text = by(text).to_string();
-}
-
 #[test]
 fn edits_without_an_argument() {
     fn plain<const N: usize>() -> MadeAndWanted {
@@ -40,14 +27,14 @@ fn edits_without_an_argument() {
             let popped = case.wanted(|model| model.text.pop());
             made += case.each("pop", &popped, ArrayString::pop);
             made += case.each("clear", &case.wanted(|model| model.text.clear()), ArrayString::clear);
-            let wanted = case.wanted(|model| trimmed(&mut model.text, str::trim));
-            made += case.each("trim", &wanted, |string| string.trim());
-            let wanted = case.wanted(|model| trimmed(&mut model.text, |text| text.trim_matches(' ')));
-            made += case.each("trim_spaces", &wanted, |string| string.trim_spaces());
+            let wanted = case.wanted(|model| model.trim());
+            made += case.each("trim", &wanted, ArrayString::trim);
+            let wanted = case.wanted(|model| model.trim_spaces());
+            made += case.each("trim_spaces", &wanted, ArrayString::trim_spaces);
             let upper = case.wanted(|model| model.text.make_ascii_uppercase());
-            made += case.each("make_ascii_uppercase", &upper, |string| string.make_ascii_uppercase());
+            made += case.each("make_ascii_uppercase", &upper, ArrayString::make_ascii_uppercase);
             let lower = case.wanted(|model| model.text.make_ascii_lowercase());
-            made += case.each("make_ascii_lowercase", &lower, |string| string.make_ascii_lowercase());
+            made += case.each("make_ascii_lowercase", &lower, ArrayString::make_ascii_lowercase);
         }
         (made, 6 * (total::<N>(&WIDTHS) + total::<N>(&SPACES)))
     }
@@ -80,11 +67,6 @@ fn fitting<const N: usize>() -> usize {
     (0..=N).map(|size| strings[size] * counts[..=N - size].iter().sum::<usize>()).sum()
 }
 
-/// Each way to split a text into two.
-fn halves(text: &str) -> impl Iterator<Item = (&str, &str)> {
-    (0..=text.len()).filter_map(|at| text.split_at_checked(at))
-}
-
 #[test]
 fn additions_of_a_text() {
     fn added<const N: usize>() -> MadeAndWanted {
@@ -95,37 +77,19 @@ fn additions_of_a_text() {
                 let name = |call| (call, given);
                 let whole = case.wanted(|model| model.try_push_str(given));
                 made += case.each(name("try_push_str"), &whole, |string| string.try_push_str(given));
-                made += case.each(name("write!"), &(whole.0.is_ok(), whole.1.clone()), |string| {
-                    write!(string, "{given}").is_ok()
-                });
-                for (front, back) in halves(given) {
-                    made += case.each(("try_write", front, back), &(whole.0.is_ok(), whole.1.clone()), |string| {
-                        string.try_write(format_args!("{front}{back}")).is_ok()
-                    });
-                }
+                let is_whole = (whole.0.is_ok(), whole.1.clone());
+                made += case.each(name("write!"), &is_whole, |string| write!(string, "{given}").is_ok());
                 if whole.0.is_ok() {
-                    // SAFETY: the text fits.
-                    made += case.each(name("push_str_unchecked"), &((), whole.1.clone()), |string| unsafe {
+                    made += case.each(name("push_str_unchecked"), &((), whole.1), |string| {
                         string.push_str_unchecked(given);
                     });
                 }
                 let cut = case.wanted(|model| model.push_str(given));
-                for (front, back) in halves(given) {
-                    let truncated = (Ok(whole.0.is_err()), cut.1.clone());
-                    made += case.each(("write_truncated", front, back), &truncated, |string| {
-                        string.write_truncated(format_args!("{front}{back}"))
-                    });
-                }
                 made += case.each(name("push_str"), &cut, |string| string.push_str(given));
                 made += case.each(name("+"), &cut, |string| *string = *string + given);
-                made += case.each(name("+="), &cut, |string| *string += given);
-                made += case.each(name("extend"), &cut, |string| string.extend(given.chars()));
-                let characters: Vec<_> = given.chars().collect();
-                made += case.each(name("extend of references"), &cut, |string| string.extend(&characters));
             }
         }
-        let halves: usize = texts.iter().map(|given| length(given) + 1).sum();
-        (made, total::<N>(&WIDTHS) * (7 * texts.len() + 2 * halves) + fitting::<N>())
+        (made, 4 * total::<N>(&WIDTHS) * texts.len() + fitting::<N>())
     }
     at_each_capacity!(added);
 }
@@ -150,16 +114,6 @@ pub fn piece_counts(size: usize) -> usize {
     ways.iter().sum()
 }
 
-/// Prints pieces, and goes on where one of them is refused.
-struct Printed<'a>(&'a [&'a str]);
-
-impl Display for Printed<'_> {
-    fn fmt(&self, f: &mut fmt::Formatter<'_>) -> fmt::Result {
-        self.0.iter().for_each(|piece| _ = f.write_str(piece));
-        Ok(())
-    }
-}
-
 #[test]
 fn additions_of_items() {
     fn extended<const N: usize>() -> MadeAndWanted {
@@ -169,35 +123,23 @@ fn additions_of_items() {
             for given in &texts {
                 // What is behind the first item that does not fit is not taken.
                 let items: Vec<_> = given.split_inclusive(|_| true).collect();
-                let wanted = case.wanted(|model| items.len() - model.extend(&items));
+                let wanted = case.wanted(|model| model.left_of(&items));
                 made += case.each(("extend_chars", given), &wanted, |string| {
                     let mut left = given.chars();
                     string.extend_chars(&mut left);
                     left.count()
                 });
-                let whole = case.wanted(|model| model.try_push_str(given));
-                made += case.each(("try_extend_chars", given), &whole, |string| string.try_extend_chars(given.chars()));
                 for pieces in all_pieces(given) {
-                    made += case.each(("try_extend_strs", &pieces), &whole, |string| string.try_extend_strs(&pieces));
-                    let truncated = (Ok(whole.0.is_err()), case.wanted(|model| model.push_str(given)).1);
-                    made += case.each(("write_truncated", &pieces), &truncated, |string| {
-                        string.write_truncated(format_args!("{}", Printed(&pieces)))
-                    });
-                    let wanted = case.wanted(|model| pieces.len() - model.extend(&pieces));
+                    let wanted = case.wanted(|model| model.left_of(&pieces));
                     made += case.each(("extend_strs", &pieces), &wanted, |string| {
                         let mut left = pieces.iter();
-                        string.extend_strs(&mut left);
-                        left.len()
-                    });
-                    made += case.each(("extend of texts", &pieces), &wanted, |string| {
-                        let mut left = pieces.iter().copied();
-                        string.extend(&mut left);
+                        string.extend_strs(left.by_ref().copied());
                         left.len()
                     });
                 }
             }
         }
-        (made, total::<N>(&WIDTHS) * (2 * texts.len() + 4 * piece_counts(N + 2)))
+        (made, total::<N>(&WIDTHS) * (texts.len() + piece_counts(N + 2)))
     }
     at_each_capacity!(extended);
 }
@@ -213,17 +155,13 @@ fn additions_of_a_character() {
                 let written = (pushed.0.is_ok(), pushed.1.clone());
                 made += case.each(("write_char", ch), &written, |string| string.write_char(ch).is_ok());
                 if pushed.0.is_ok() {
-                    // SAFETY: the character fits.
-                    made += case.each(("push_unchecked", ch), &((), pushed.1), |string| unsafe {
-                        string.push_unchecked(ch);
-                    });
+                    made += case.each(("push_unchecked", ch), &((), pushed.1), |string| string.push_unchecked(ch));
                 }
                 for index in indices(N) {
                     let inserted = case.wanted(|model| model.try_insert_str(index, &ch.to_string()));
                     made += case.each(("try_insert", index, ch), &inserted, |string| string.try_insert(index, ch));
                     if inserted.0.is_ok() {
-                        // SAFETY: the character fits, and the index is a boundary.
-                        made += case.each(("insert_unchecked", index, ch), &((), inserted.1), |string| unsafe {
+                        made += case.each(("insert_unchecked", index, ch), &((), inserted.1), |string| {
                             string.insert_unchecked(index, ch);
                         });
                     }
@@ -251,8 +189,7 @@ fn insertions_of_a_text() {
                 let cut = case.wanted(|model| model.insert_str(index, given));
                 made += case.each(name("insert_str"), &cut, |string| string.insert_str(index, given));
                 if whole.0.is_ok() {
-                    // SAFETY: the text fits, and the index is a boundary.
-                    unchecked += case.each(name("insert_str_unchecked"), &((), whole.1), |string| unsafe {
+                    unchecked += case.each(name("insert_str_unchecked"), &((), whole.1), |string| {
                         string.insert_str_unchecked(index, given);
                     });
                 }
@@ -275,7 +212,8 @@ fn characters_that_are_kept() {
         for case in cases::<N>(&WIDTHS) {
             for pattern in 0..1 << length(&case.text) {
                 let keeps = |at: usize| pattern >> at & 1 == 1;
-                let kept = case.text.chars().enumerate().filter(|(at, _)| keeps(*at)).map(|(_, ch)| ch).collect();
+                let mut places = 0..;
+                let (_, kept) = case.wanted(|model| model.text.retain(|_| places.next().is_some_and(keeps)));
                 // Each character is asked about once, in order.
                 made += case.each(("retain", pattern), &(case.text.clone(), kept), |string| {
                     let asked = RefCell::new(String::new());
