@@ -211,7 +211,8 @@ def without_counter(t):
         counting |= {id(token) for token in [*t[at:at + 5], *t[body:t.closing(body)]]}
     for at in t.all_at('steps', '.', WORD, '('):
         end = t.closing(at + 3)
-        if id(t[at]) in counting and t.item(at) == at and t.at(end + 1, ';') and all(t.at(i, WORD) for i in range(at + 4, end)):
+        is_statement = t.item(at) == at and t.at(end + 1, ';')
+        if id(t[at]) in counting and is_statement and all(t.at(i, WORD) or t.at(i, ',') for i in range(at + 4, end)):
             t.leave_out(at, end + 2)
     for form in ('steps', ':', '&', 'mut', 'Steps'), ('&', 'mut', 'Steps', '::', 'new', '(', ')'), ('steps',):
         for at in t.all_at(*form):

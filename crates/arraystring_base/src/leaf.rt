@@ -3,12 +3,13 @@
 //! has as its precondition what Rust would test. So the proof of a call says that the test can be left out.
 //!
 //! What is public here reads, lends or turns case. What writes or moves is for `moves` and `utf8`: a string writes by
-//! `encode`, `write_over` and `write_by_call`, and moves by `shift`, which counts. Callers of `arraystring` need none
-//! of this.
+//! `encode`, `write_over` and `write_by_call`, and moves by `shift` and `shift_by_call`, which count. Callers of
+//! `arraystring` need none of this.
 ghost use Rattle.std.specs.Prelude.{◌≡◌, ◌+◌, ◌-◌, ◌<◌, ◌≤◌, ◌++◌, ◌∷◌, IsCharBoundary, length, map, take, drop, slice_index};
 ghost use Rattle.std.specs.Char.{to_ascii_uppercase, to_ascii_lowercase};
 
-use crate::moves::move_ends;
+use crate::moves::{move_ends, shift};
+use crate::steps::Steps;
 use std::simd::Simd;
 
 /// The byte at an index. It counts no look: what has to be counted calls `look`.
@@ -109,6 +110,18 @@ pub fn text_from(text: &str, start: usize) -> &str
     ensures { result.now ≡ drop start text.now }
 {
     &text[start..]
+}
+
+/// Moves `len` bytes by `shift`, for what runs seldom. (In Rust this is one `memmove` at any length, because the tests
+/// of the length are more code than its call. Here a call would be dearer than what it spares.)
+#[inline(always)]
+pub(crate) fn move_bytes<const N: usize>(array: &mut [u8; N], from: usize, to: usize, len: usize)
+    requires source { from + len ≤ N }
+    requires target { to + len ≤ N }
+    ensures { array.new
+        ≡ take to array.old ++ (take len (drop from array.old) ++ drop (to + len) array.old) }
+{
+    shift(array, from, to, len, &mut Steps::new());
 }
 
 /// Moves `len` bytes: 16 or more, and at most `N`. The branches for sizes above `N` are left out. (In Rust this is one

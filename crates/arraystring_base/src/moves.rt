@@ -1,5 +1,5 @@
-//! The two moves of bytes: `shift`, inside an array, and `write_over`, of a given run into it, which has a second form,
-//! `write_by_call`. What makes them fast is in this file and in `leaf`.
+//! The two moves of bytes: `shift`, inside an array, and `write_over`, of a given run into it. Each has a second form for
+//! what runs seldom, `shift_by_call` and `write_by_call`. What makes them fast is in this file and in `leaf`.
 //!
 //! A run moves as its first `K` bytes and its last `K`, which may overlap, and both are read before the first is
 //! written. `memmove` moves short runs in this way too. A byte that both have is written twice, to one offset, and
@@ -8,7 +8,7 @@
 //! writes 16 bytes or more by a call, of `write_bytes`, which takes a slice and so stands once in a program.
 ghost use Rattle.std.specs.Prelude.{◌≡◌, ◌+◌, ◌-◌, ◌^◌, ◌==◌, if◌then◌else◌, ◌≤◌, ◌<◌, ◌++◌, length, take, drop};
 
-use crate::leaf::{bytes_of, move_long_run, put_bytes, write_bytes};
+use crate::leaf::{bytes_of, move_bytes, move_long_run, put_bytes, write_bytes};
 use crate::steps::Steps;
 
 /// Moves `len` bytes of the array from the offset `from` to the offset `to`; the two runs may
@@ -38,6 +38,32 @@ pub fn shift<const N: usize>(
         move_run(array, from, to, len);
         steps.count_moves(len);
     }
+}
+
+/// Moves and counts as `shift` does. It is for what runs seldom, where in Rust the tests of the length would only be more
+/// code.
+///
+/// # Precondition
+///
+/// Both runs must lie in the array, and the count of moves plus `len` must be below 2^64.
+#[inline(always)]
+pub fn shift_by_call<const N: usize>(
+    array: &mut [u8; N],
+    from: usize,
+    to: usize,
+    len: usize,
+    steps: &mut Steps,
+)
+    requires source { from + len ≤ N }
+    requires target { to + len ≤ N }
+    requires countable { steps.old.moved + len < 2 ^ 64 }
+    ensures bytes { array.new
+        ≡ take to array.old ++ (take len (drop from array.old) ++ drop (to + len) array.old) }
+    ensures moved { steps.new.moved ≡ steps.old.moved + (if from == to then 0 else len) }
+    ensures looked { steps.new.looked ≡ steps.old.looked }
+{
+    move_bytes(array, from, to, len);
+    steps.count_run(from, to, len);
 }
 
 /// Moves as `shift` does, and counts nothing. No test is made for more bytes than an array of `N` bytes can have.

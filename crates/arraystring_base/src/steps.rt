@@ -1,5 +1,5 @@
 //! Counting what a call does to bytes.
-ghost use Rattle.std.specs.Prelude.{◌≡◌, ◌+◌, ◌-◌, ◌^◌, ◌<◌};
+ghost use Rattle.std.specs.Prelude.{◌≡◌, ◌+◌, ◌-◌, ◌^◌, ◌<◌, ◌==◌, if◌then◌else◌};
 
 use std::marker::Model;
 
@@ -98,5 +98,16 @@ impl Steps {
         ensures looked { self.new.looked ≡ self.old.looked }
     {
         self.moved += len as u64;
+    }
+
+    /// Counts the moves of `len` bytes from one offset to another: none if they stay.
+    pub(crate) fn count_run(&mut self, from: usize, to: usize, len: usize)
+        requires { self.old.moved + len < 2 ^ 64 }
+        ensures moved { self.new.moved ≡ self.old.moved + (if from == to then 0 else len) }
+        ensures looked { self.new.looked ≡ self.old.looked }
+    {
+        if from != to {
+            self.count_moves(len);
+        }
     }
 }

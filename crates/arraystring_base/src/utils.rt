@@ -3,7 +3,7 @@
 ghost use Rattle.std.specs.Prelude.{◌≤◌, ◌↔◌, IsOk};
 
 use crate::error::OutOfBounds;
-pub use crate::moves::{shift, write_by_call, write_over};
+pub use crate::moves::{shift, shift_by_call, write_by_call, write_over};
 pub use crate::steps::Steps;
 pub use crate::utf8::{
     encode, first_char, is_boundary, last_char, look, truncate_str, truncate_str_counted,

@@ -160,6 +160,22 @@ pub(crate) fn text_from(text: &str, start: usize) -> &str {
     unsafe { text.get_unchecked(start..) }
 }
 
+/// Moves `len` bytes by one call.
+///
+/// ```text
+/// requires source { from + len ≤ N }
+/// requires target { to + len ≤ N }
+/// ensures { array.new
+///     ≡ take to array.old ++ (take len (drop from array.old) ++ drop (to + len) array.old) }
+/// ```
+#[inline(always)]
+pub(crate) fn move_bytes<const N: usize>(array: &mut [Place; N], from: usize, to: usize, len: usize) {
+    required!(from <= N, len <= N - from, to <= N, len <= N - to);
+    let bytes = array.as_mut_ptr();
+    // SAFETY: both runs are within, as is required. They may overlap.
+    unsafe { ptr::copy(bytes.add(from), bytes.add(to), len) };
+}
+
 /// Moves `len` bytes: 16 or more, and at most `N`.
 ///
 /// ```text

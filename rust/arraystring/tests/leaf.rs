@@ -109,7 +109,7 @@ fn contracts(file: &str, between: (&str, &str)) -> BTreeMap<String, String> {
 fn each_function_has_the_contract_of_its_source() {
     let source = "../../crates/arraystring_base/src/leaf.rt";
     let here = contracts("src/leaf.rs", ("```text\nrequires", "```"));
-    assert_eq!(here.len(), 12, "{here:?}");
+    assert_eq!(here.len(), 13, "{here:?}");
     if fs::exists(source).expect("whether it is there") {
         let there = contracts(source, ("\n    requires", "\n{"));
         for (name, contract) in here {
@@ -228,6 +228,32 @@ fn any_number_of_bytes_is_written() {
         }
         assert_eq!(values(&all), bytes(len), "what is refused changes nothing");
     }
+}
+
+#[test]
+fn any_run_of_an_array_is_moved() {
+    fn of<const N: usize>() {
+        for (from, end) in ranges(N) {
+            for to in places(N - (end - from)) {
+                let edit = |all: &mut [Place]| move_bytes::<N>(all.try_into().expect("N places"), from, to, end - from);
+                changes(N, edit, |all| all.copy_within(from..end, to));
+            }
+        }
+        let mut all: [Place; N] = written(&bytes(N)).try_into().expect("N places");
+        for run in ends(N) {
+            for past in past(N - run) {
+                refused(|| move_bytes(&mut all, 0, past, run));
+                refused(|| move_bytes(&mut all, past, 0, run));
+            }
+        }
+        assert_eq!(values(&all), bytes(N), "what is refused changes nothing");
+    }
+    of::<0>();
+    of::<1>();
+    of::<15>();
+    of::<16>();
+    of::<40>();
+    of::<256>();
 }
 
 #[test]

@@ -5,7 +5,7 @@ ghost use Rattle.arraystring_core.specs.Edits.{Makes, addition_of_cut};
 ghost use Rattle.arraystring_core.specs.Layout.{stored, IsStored};
 
 use crate::ArrayString;
-use arraystring_base::utils::{Steps, encode, shift, truncate_str, write_by_call};
+use arraystring_base::utils::{Steps, encode, shift_by_call, truncate_str, write_by_call};
 
 impl<const N: usize> ArrayString<N> {
     /// Whether there is room for `ch` after `len` bytes. ASCII has a test of its own, which the
@@ -40,7 +40,7 @@ impl<const N: usize> ArrayString<N> {
         ensures text { (stored array.new 0 result).text
             ≡ (stored array.old start size).text ++ (ch ∷ []) }
     {
-        shift(array, start, 0, size, &mut Steps::new());
+        shift_by_call(array, start, 0, size, &mut Steps::new());
         size + encode(ch, array, size)
     }
 
@@ -55,7 +55,7 @@ impl<const N: usize> ArrayString<N> {
         let (from, size) = (self.start as usize, self.size as usize);
         self.start = 0;
         self.size += string.len() as u8;
-        shift(&mut self.array, from, 0, size, &mut Steps::new());
+        shift_by_call(&mut self.array, from, 0, size, &mut Steps::new());
         write_by_call(&mut self.array, size, string.as_bytes());
     }
 

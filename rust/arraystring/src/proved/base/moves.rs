@@ -1,6 +1,6 @@
 // Made from crates/arraystring_base/src/moves.rt by rust/generate.py: change that, and run this.
-//! The two moves of bytes: `shift`, inside an array, and `write_over`, of a given run into it, which has a second form,
-//! `write_by_call`. What makes them fast is in this file and in `leaf`.
+//! The two moves of bytes: `shift`, inside an array, and `write_over`, of a given run into it. Each has a second form for
+//! what runs seldom, `shift_by_call` and `write_by_call`. What makes them fast is in this file and in `leaf`.
 //!
 //! A run moves as its first `K` bytes and its last `K`, which may overlap, and both are read before the first is
 //! written. `memmove` moves short runs in this way too. A byte that both have is written twice, to one offset, and
@@ -8,7 +8,7 @@
 //! stack. `N` is a constant, so the compiler leaves out the sizes that an array of `N` bytes can't have. `write_over`
 //! writes 16 bytes or more by a call, of `write_bytes`, which takes a slice and so stands once in a program.
 
-use crate::leaf::{bytes_of, move_long_run, put_bytes, write_bytes};
+use crate::leaf::{bytes_of, move_bytes, move_long_run, put_bytes, write_bytes};
 
 /// Moves `len` bytes of the array from the offset `from` to the offset `to`; the two runs may
 /// overlap. Each byte counts as one move, also if it is written twice on the way. If `from` is `to`,
@@ -27,6 +27,22 @@ pub fn shift<const N: usize>(
     if from != to {
         move_run(array, from, to, len);
     }
+}
+
+/// Moves and counts as `shift` does. It is for what runs seldom, where in Rust the tests of the length would only be more
+/// code.
+///
+/// # Precondition
+///
+/// Both runs must lie in the array, and the count of moves plus `len` must be below 2^64.
+#[inline(always)]
+pub fn shift_by_call<const N: usize>(
+    array: &mut [crate::leaf::Place; N],
+    from: usize,
+    to: usize,
+    len: usize,
+) {
+    move_bytes(array, from, to, len);
 }
 
 /// Moves as `shift` does, and counts nothing. No test is made for more bytes than an array of `N` bytes can have.

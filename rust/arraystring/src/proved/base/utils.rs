@@ -3,7 +3,7 @@
 //! UTF-8.
 
 use crate::proved::base::error::OutOfBounds;
-pub use crate::proved::base::moves::{shift, write_by_call, write_over};
+pub use crate::proved::base::moves::{shift, shift_by_call, write_by_call, write_over};
 pub use crate::proved::base::utf8::{
     encode, first_char, is_boundary, last_char, look, truncate_str,
 };

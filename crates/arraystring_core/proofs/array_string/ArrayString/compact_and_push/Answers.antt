@@ -5,8 +5,8 @@ use Rattle.arraystring_core.proofs.AppendLemmas.{char-appended_at_front}
 use Rattle.arraystring_core.proofs.array_string.ArrayString.compact_and_push.Given as given
 use Rattle.arraystring_core.proofs.array_string.ArrayString.compact_and_push.Goals as goal
 
-pub shift-requires : goal.shift-requires
-shift-requires g c =
+pub shift_by_call-requires : goal.shift_by_call-requires
+shift_by_call-requires g c =
     (search rules, (omega (arith, c.requires.in_array.within), (omega (arith, c.requires.in_array.within), omega (arith, c.requires.in_array.within))))
 
 pub encode-requires : goal.encode-requires
@@ -17,7 +17,7 @@ written : (g : given.Over) (c : goal.After-encode g)
     → StoredAt g.row.N c.encode.new.array 0 (c.args.size + c.encode.result) ((stored c.args.array.now c.args.start c.args.size).text ++ c.args.ch ∷ [])
 written g c =
     char-appended_at_front c.requires.in_array refl c.args.ch (search rules) c.encode.ensures.width c.requires.room
-    c.shift.ensures.bytes c.encode.ensures.bytes
+    c.shift_by_call.ensures.bytes c.encode.ensures.bytes
 
 pub returns : goal.returns
 returns g c = record { in_array = (written g c).in_array; text = (written g c).shown }

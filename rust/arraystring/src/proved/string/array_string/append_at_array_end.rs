@@ -2,7 +2,7 @@
 //! Appends to a text that may end where its array ends: the test of the room, and what first moves the text to the start.
 
 use crate::proved::string::ArrayString;
-use crate::proved::base::utils::{encode, shift, truncate_str, write_by_call};
+use crate::proved::base::utils::{encode, shift_by_call, truncate_str, write_by_call};
 
 impl<const N: usize> ArrayString<N> {
     /// Whether there is room for `ch` after `len` bytes. ASCII has a test of its own, which the
@@ -28,7 +28,7 @@ impl<const N: usize> ArrayString<N> {
         start: usize,
         size: usize,
     ) -> usize {
-        shift(array, start, 0, size);
+        shift_by_call(array, start, 0, size);
         size + encode(ch, array, size)
     }
 
@@ -40,7 +40,7 @@ impl<const N: usize> ArrayString<N> {
         let (from, size) = (self.start as usize, self.size as usize);
         self.start = 0;
         self.size += string.len() as u8;
-        shift(&mut self.array, from, 0, size);
+        shift_by_call(&mut self.array, from, 0, size);
         write_by_call(&mut self.array, size, string.as_bytes());
     }
 
