@@ -41,8 +41,8 @@ fn main() -> Result<(), Box<dyn StdError>> {
     assert_eq!((line.try_push_str("defgh"), line.as_str()), (Err(OutOfBounds), "bc"));
 
     // It is written to, made of characters, and walked.
-    let mut row = SmallString::new();
-    write!(row, "{}={}", "zoé", 7)?;
+    let (mut row, name) = (SmallString::new(), "zoé");
+    write!(row, "{name}={}", 7)?;
     assert_eq!((row.as_str(), row.find('=')), ("zoé=7", Some(4)));
     assert_eq!(ArrayString::<4>::from_chars_truncate('0'..='9'), "0123");
     assert_eq!(row.drain(..5)?.rev().collect::<String>(), "=éoz");

@@ -74,6 +74,7 @@ fn a_longer_text_is_another() {
 }
 
 #[test]
+#[allow(clippy::nonminimal_bool, clippy::useless_asref, reason = "that these forms are compiled is what is shown")]
 fn strings_stand_in_the_place_of_a_text() {
     let string = ArrayString::<4>::try_from_str("b").expect("room");
     assert_eq!("b", string);

@@ -72,8 +72,9 @@ fn an_error_is_equal_to_itself_and_hashed() {
             assert_eq!((one == other, hash_of(&one) == hash_of(&other)), (is_same, is_same));
         }
     }
-    assert_eq!((Utf8, Utf16, OutOfBounds), Default::default());
-    assert_eq!([hash_of(&Utf8), hash_of(&OutOfBounds)], [hash_of(&Utf8::default()), hash_of(&OutOfBounds::default())]);
+    let made: (Utf8, Utf16, OutOfBounds) = Default::default();
+    assert_eq!(made, (Utf8, Utf16, OutOfBounds));
+    assert_eq!([hash_of(&made.0), hash_of(&made.2)], [hash_of(&Utf8), hash_of(&OutOfBounds)]);
 }
 
 /// `?` takes the error of each call into `Error`.
