@@ -3,6 +3,7 @@
 use core::char;
 use core::fmt;
 
+use crate::leaf::Place;
 use crate::proved::string as core_of;
 use crate::{ArrayString, Error, OutOfBounds, Utf8, Utf16};
 
@@ -11,6 +12,19 @@ use crate::{ArrayString, Error, OutOfBounds, Utf8, Utf16};
 /// Their contracts are in `crates/arraystring_core/src/array_string/construct.rt` and `utf16.rt` of the repository, except that
 /// `try_from_iterator`, the lossy forms and `try_from_format` have none.
 impl<const N: usize> ArrayString<N> {
+    /// An empty string.
+    ///
+    /// ```
+    /// let string = arraystring::ArrayString::<8>::new();
+    /// assert_eq!((string.len(), string.as_str()), (0, ""));
+    /// ```
+    #[must_use]
+    #[inline(always)]
+    pub const fn new() -> Self {
+        let _ = Self::CAPACITY;
+        ArrayString(core_of::ArrayString::new())
+    }
+
     /// The string of `text`. So do `parse` and `try_from`.
     ///
     /// # Errors
@@ -28,10 +42,51 @@ impl<const N: usize> ArrayString<N> {
     #[doc(alias = "from")]
     #[inline]
     pub fn try_from_str(text: &str) -> Result<Self, OutOfBounds> {
-        core_of::ArrayString::try_from_str(text).map(Self::of).map_err(OutOfBounds::of)
+        let _ = Self::CAPACITY;
+        core_of::ArrayString::try_from_str(text).map(ArrayString).map_err(OutOfBounds::of)
     }
 
-    /// The string of all pieces, joined.
+    /// The string of `text`, in a constant. Where it is no constant, [`try_from_str`](Self::try_from_str) is faster. The macro
+    /// [`arraystring!`](crate::arraystring) does not compile if the text does not fit.
+    ///
+    /// # Errors
+    ///
+    /// Returns [`OutOfBounds`] if `text` is larger than the capacity.
+    ///
+    /// # Examples
+    ///
+    /// ```
+    /// use arraystring::{ArrayString, OutOfBounds};
+    ///
+    /// const fn name_or(text: &str, other: ArrayString<8>) -> ArrayString<8> {
+    ///     match ArrayString::const_try_from_str(text) {
+    ///         Ok(name) => name,
+    ///         Err(OutOfBounds) => other,
+    ///     }
+    /// }
+    ///
+    /// const NAMES: [ArrayString<8>; 2] =
+    ///     [name_or("Zoé", ArrayString::new()), name_or("Maximilian", ArrayString::new())];
+    /// assert_eq!(NAMES, ["Zoé", ""]);
+    /// ```
+    #[inline]
+    pub const fn const_try_from_str(text: &str) -> Result<Self, OutOfBounds> {
+        let _ = Self::CAPACITY;
+        if text.len() > N {
+            return Err(OutOfBounds);
+        }
+        let mut made = Self::new();
+        let (mut array, mut bytes): (&mut [Place], _) = (&mut made.0.array, text.as_bytes());
+        while let ([place, places @ ..], [byte, others @ ..]) = (array, bytes) {
+            *place = Place::new(*byte);
+            // So many bytes of the text are there, which fits by the test above. Behind the loop it is all of it.
+            made.0.size += 1;
+            (array, bytes) = (places, others);
+        }
+        Ok(made)
+    }
+
+    /// The string of all pieces, one behind the other.
     ///
     /// # Errors
     ///
@@ -50,6 +105,7 @@ impl<const N: usize> ArrayString<N> {
     #[doc(alias = "from_iter")]
     #[inline]
     pub fn try_from_iterator(pieces: impl IntoIterator<Item = impl AsRef<str>>) -> Result<Self, OutOfBounds> {
+        let _ = Self::CAPACITY;
         let mut made = Self::new();
         for piece in pieces {
             made.try_push_str(piece.as_ref())?;
@@ -75,7 +131,8 @@ impl<const N: usize> ArrayString<N> {
     #[doc(alias = "from_iter")]
     #[inline]
     pub fn try_from_chars(characters: impl IntoIterator<Item = char>) -> Result<Self, OutOfBounds> {
-        core_of::ArrayString::try_from_chars(characters).map(Self::of).map_err(OutOfBounds::of)
+        let _ = Self::CAPACITY;
+        core_of::ArrayString::try_from_chars(characters).map(ArrayString).map_err(OutOfBounds::of)
     }
 
     /// The string of UTF-8.
@@ -99,7 +156,8 @@ impl<const N: usize> ArrayString<N> {
     #[doc(alias = "from_utf8")]
     #[inline]
     pub fn try_from_utf8(bytes: &[u8]) -> Result<Self, Error> {
-        core_of::ArrayString::try_from_utf8(bytes).map(Self::of).map_err(Error::of)
+        let _ = Self::CAPACITY;
+        core_of::ArrayString::try_from_utf8(bytes).map(ArrayString).map_err(Error::of)
     }
 
     /// The string of bytes, in which each run that is no UTF-8 becomes U+FFFD (three bytes), as in `String::from_utf8_lossy`.
@@ -119,6 +177,7 @@ impl<const N: usize> ArrayString<N> {
     #[doc(alias = "from_utf8_lossy")]
     #[inline]
     pub fn try_from_utf8_lossy(bytes: &[u8]) -> Result<Self, OutOfBounds> {
+        let _ = Self::CAPACITY;
         let mut made = Self::new();
         for chunk in bytes.utf8_chunks() {
             made.try_push_str(chunk.valid())?;
@@ -151,7 +210,8 @@ impl<const N: usize> ArrayString<N> {
     #[doc(alias = "from_utf16")]
     #[inline]
     pub fn try_from_utf16(units: &[u16]) -> Result<Self, Error> {
-        core_of::ArrayString::try_from_utf16(units).map(Self::of).map_err(Error::of)
+        let _ = Self::CAPACITY;
+        core_of::ArrayString::try_from_utf16(units).map(ArrayString).map_err(Error::of)
     }
 
     /// The string of UTF-16, in which each lone surrogate becomes U+FFFD (three bytes), as in `String::from_utf16_lossy`.
@@ -172,6 +232,7 @@ impl<const N: usize> ArrayString<N> {
     #[doc(alias = "from_utf16_lossy")]
     #[inline]
     pub fn try_from_utf16_lossy(units: &[u16]) -> Result<Self, OutOfBounds> {
+        let _ = Self::CAPACITY;
         let read = char::decode_utf16(units.iter().copied());
         Self::try_from_chars(read.map(|unit| unit.unwrap_or(char::REPLACEMENT_CHARACTER)))
     }
@@ -195,6 +256,7 @@ impl<const N: usize> ArrayString<N> {
     #[doc(alias = "format")]
     #[inline]
     pub fn try_from_format(arguments: fmt::Arguments<'_>) -> Result<Self, fmt::Error> {
+        let _ = Self::CAPACITY;
         let mut made = Self::new();
         made.try_write(arguments)?;
         Ok(made)
@@ -217,10 +279,11 @@ impl<const N: usize> ArrayString<N> {
     #[must_use]
     #[inline]
     pub fn from_str_truncate(text: &str) -> Self {
-        Self::of(core_of::ArrayString::from_str_truncate(text))
+        let _ = Self::CAPACITY;
+        ArrayString(core_of::ArrayString::from_str_truncate(text))
     }
 
-    /// The longest prefix of whole characters of all pieces, joined, that fits. The iterator may be endless, if its pieces are not all
+    /// The longest prefix that fits of whole characters of all pieces, one behind the other. The iterator may be endless, if its pieces are not all
     /// empty.
     ///
     /// ```
@@ -232,6 +295,7 @@ impl<const N: usize> ArrayString<N> {
     #[must_use]
     #[inline]
     pub fn from_iterator_truncate(pieces: impl IntoIterator<Item = impl AsRef<str>>) -> Self {
+        let _ = Self::CAPACITY;
         let mut made = Self::new();
         made.extend_strs_truncate(pieces);
         made
@@ -249,7 +313,8 @@ impl<const N: usize> ArrayString<N> {
     #[must_use]
     #[inline]
     pub fn from_chars_truncate(characters: impl IntoIterator<Item = char>) -> Self {
-        Self::of(core_of::ArrayString::from_chars(characters))
+        let _ = Self::CAPACITY;
+        ArrayString(core_of::ArrayString::from_chars(characters))
     }
 
     /// The longest prefix of whole characters that fits of a text in UTF-8.
@@ -268,7 +333,8 @@ impl<const N: usize> ArrayString<N> {
     /// ```
     #[inline]
     pub fn from_utf8_truncate(bytes: &[u8]) -> Result<Self, Utf8> {
-        core_of::ArrayString::from_utf8(bytes).map(Self::of).map_err(Utf8::of)
+        let _ = Self::CAPACITY;
+        core_of::ArrayString::from_utf8(bytes).map(ArrayString).map_err(Utf8::of)
     }
 
     /// The longest prefix of whole characters that fits of a text, in which each run of bytes that is no UTF-8 is U+FFFD.
@@ -282,6 +348,7 @@ impl<const N: usize> ArrayString<N> {
     #[must_use]
     #[inline]
     pub fn from_utf8_lossy_truncate(bytes: &[u8]) -> Self {
+        let _ = Self::CAPACITY;
         let mut made = Self::new();
         for chunk in bytes.utf8_chunks() {
             if !made.push_str_truncate(chunk.valid()).is_empty()
@@ -310,7 +377,8 @@ impl<const N: usize> ArrayString<N> {
     /// ```
     #[inline]
     pub fn from_utf16_truncate(units: &[u16]) -> Result<Self, Utf16> {
-        core_of::ArrayString::from_utf16(units).map(Self::of).map_err(Utf16::of)
+        let _ = Self::CAPACITY;
+        core_of::ArrayString::from_utf16(units).map(ArrayString).map_err(Utf16::of)
     }
 
     /// The longest prefix of the characters of UTF-16 that fits, in which each lone surrogate is U+FFFD.
@@ -324,6 +392,7 @@ impl<const N: usize> ArrayString<N> {
     #[must_use]
     #[inline]
     pub fn from_utf16_lossy_truncate(units: &[u16]) -> Self {
-        Self::of(core_of::ArrayString::from_utf16_lossy(units))
+        let _ = Self::CAPACITY;
+        ArrayString(core_of::ArrayString::from_utf16_lossy(units))
     }
 }

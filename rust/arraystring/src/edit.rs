@@ -321,7 +321,7 @@ impl<const N: usize> ArrayString<N> {
     /// ```
     #[inline]
     pub fn split_off(&mut self, at: usize) -> Result<Self, Error> {
-        self.0.split_off(index(at)?).map(Self::of).map_err(Error::of)
+        self.0.split_off(index(at)?).map(ArrayString).map_err(Error::of)
     }
 
     /// Removes the part in the range, and returns its characters. The part is removed at once, whether or not the [`Drain`] is used.

@@ -2,8 +2,8 @@
 
 use crate::{ArrayString, OutOfBounds};
 
-/// A string of a text that is known when the program is compiled. If the text does not fit, the program does not compile. The type that is
-/// wanted decides the capacity.
+/// A string of a text that is known when the program is compiled, anywhere in a program. If the text does not fit, the program does not
+/// compile. The type that is wanted decides the capacity.
 ///
 /// ```
 /// use arraystring::{ArrayString, CacheString, arraystring};
@@ -11,17 +11,18 @@ use crate::{ArrayString, OutOfBounds};
 /// const GREETING: ArrayString<8> = arraystring!("hello");
 /// static KEY: CacheString = arraystring!(concat!("user:", "42"));
 /// assert_eq!((GREETING.as_str(), KEY.as_str()), ("hello", "user:42"));
+///
+/// let greeting: ArrayString<8> = if GREETING.len() > 4 { arraystring!("hi") } else { GREETING };
+/// assert_eq!(greeting, "hi");
 /// ```
 ///
-/// `hello` takes five bytes:
+/// `hello` takes five bytes, so neither of these compiles:
 ///
 /// ```compile_fail,E0080
 /// use arraystring::{ArrayString, arraystring};
 ///
 /// const GREETING: ArrayString<4> = arraystring!("hello");
 /// ```
-///
-/// A `let` does not compile either. There [`try_from_str`](crate::ArrayString::try_from_str) would be refused only when the program runs:
 ///
 /// ```compile_fail,E0080
 /// use arraystring::{ArrayString, arraystring};

@@ -20,6 +20,7 @@ macro_rules! made_of {
 
             #[inline]
             fn try_from(text: $text) -> Result<Self, OutOfBounds> {
+                let _ = Self::CAPACITY;
                 Self::try_from_str(&text)
             }
         }

@@ -1,15 +1,14 @@
 //! The type, and what is read of a string.
 
-use crate::OutOfBounds;
-use crate::leaf::Place;
 use crate::proved::string as core_of;
 
 /// A string of at most `N` bytes of UTF-8, stored inline: `N` is at most 255. Lengths, indices, ranges and capacities are `usize`, and
 /// count bytes.
 ///
 /// A text *fits* if the string with it is not larger than the capacity. **No call loses a part of a text, unless its name says so:** a call
-/// whose name ends in `truncate` keeps the longest prefix of whole characters that fits, and returns what it left. Every other call
-/// refuses what does not fit, returns an error, and changes nothing.
+/// whose name ends in `_truncate` keeps the longest prefix of whole characters that fits. If it edits a string, it returns the rest of
+/// the text, or whether anything was left. Every other call that is given too much refuses it, returns an error, and changes nothing
+/// (a `write!` is many calls, one for each piece).
 ///
 /// A *boundary* is an index at which a character begins or the text ends. An index is *past* the text if it is greater than the length,
 /// and *inside* a character if it is less and no boundary.
@@ -42,7 +41,7 @@ use crate::proved::string as core_of;
 ///
 /// # Capacities above 255
 ///
-/// They do not compile: each call that makes a string is an error of `cargo build` (`cargo check` does not see it).
+/// They do not compile: each call that makes a string is an error of `cargo build`. (`cargo check` does not see it.)
 ///
 /// ```compile_fail,E0080
 /// let string = arraystring::ArrayString::<256>::new();
@@ -71,64 +70,6 @@ impl<const N: usize> ArrayString<N> {
         );
         N
     };
-
-    /// An empty string.
-    ///
-    /// ```
-    /// let string = arraystring::ArrayString::<8>::new();
-    /// assert_eq!((string.len(), string.as_str()), (0, ""));
-    /// ```
-    #[must_use]
-    #[inline(always)]
-    pub const fn new() -> Self {
-        Self::of(core_of::ArrayString::new())
-    }
-
-    /// The string of the core. Each string is made by this, so that none has a capacity above 255.
-    #[inline(always)]
-    pub(crate) const fn of(string: core_of::ArrayString<N>) -> Self {
-        let _ = Self::CAPACITY;
-        ArrayString(string)
-    }
-
-    /// The string of `text`, in a constant. Where it is no constant, [`try_from_str`](Self::try_from_str) is faster. The macro
-    /// [`arraystring!`](crate::arraystring) does not compile if the text does not fit.
-    ///
-    /// # Errors
-    ///
-    /// Returns [`OutOfBounds`] if `text` is larger than the capacity.
-    ///
-    /// # Examples
-    ///
-    /// ```
-    /// use arraystring::{ArrayString, OutOfBounds};
-    ///
-    /// const fn name_or(text: &str, other: ArrayString<8>) -> ArrayString<8> {
-    ///     match ArrayString::const_try_from_str(text) {
-    ///         Ok(name) => name,
-    ///         Err(OutOfBounds) => other,
-    ///     }
-    /// }
-    ///
-    /// const NAMES: [ArrayString<8>; 2] =
-    ///     [name_or("Zoé", ArrayString::new()), name_or("Maximilian", ArrayString::new())];
-    /// assert_eq!(NAMES, ["Zoé", ""]);
-    /// ```
-    #[inline]
-    pub const fn const_try_from_str(text: &str) -> Result<Self, OutOfBounds> {
-        if text.len() > Self::CAPACITY {
-            return Err(OutOfBounds);
-        }
-        let mut made = Self::new();
-        let (mut array, mut bytes): (&mut [Place], _) = (&mut made.0.array, text.as_bytes());
-        while let ([place, places @ ..], [byte, others @ ..]) = (array, bytes) {
-            *place = Place::new(*byte);
-            // So many bytes of the text are there, which fits by the test above. Behind the loop it is all of it.
-            made.0.size += 1;
-            (array, bytes) = (places, others);
-        }
-        Ok(made)
-    }
 
     /// The capacity in bytes, which is `N`.
     #[must_use]
@@ -202,7 +143,8 @@ impl<const N: usize> ArrayString<N> {
     #[must_use]
     #[inline]
     pub fn widen<const M: usize>(&self) -> ArrayString<M> {
+        let _ = ArrayString::<M>::CAPACITY;
         const { assert!(N <= M, "the capacity that is wanted is smaller: `try_from_str` may refuse the text") };
-        ArrayString::of(core_of::ArrayString::from_str_truncate(self.as_str()))
+        ArrayString(core_of::ArrayString::from_str_truncate(self.as_str()))
     }
 }

@@ -10,6 +10,7 @@ use crate::{ArrayString, OutOfBounds};
 impl<const N: usize> Default for ArrayString<N> {
     #[inline]
     fn default() -> Self {
+        let _ = Self::CAPACITY;
         Self::new()
     }
 }
@@ -27,6 +28,7 @@ impl<const N: usize> FromStr for ArrayString<N> {
 
     #[inline]
     fn from_str(text: &str) -> Result<Self, OutOfBounds> {
+        let _ = Self::CAPACITY;
         Self::try_from_str(text)
     }
 }
@@ -43,6 +45,7 @@ impl<const N: usize> TryFrom<&str> for ArrayString<N> {
 
     #[inline]
     fn try_from(text: &str) -> Result<Self, OutOfBounds> {
+        let _ = Self::CAPACITY;
         Self::try_from_str(text)
     }
 }
@@ -60,6 +63,7 @@ impl<const N: usize> TryFrom<char> for ArrayString<N> {
 
     #[inline]
     fn try_from(ch: char) -> Result<Self, OutOfBounds> {
+        let _ = Self::CAPACITY;
         let mut made = Self::new();
         made.try_push(ch)?;
         Ok(made)
@@ -72,6 +76,7 @@ impl<const N: usize> TryFrom<fmt::Arguments<'_>> for ArrayString<N> {
 
     #[inline]
     fn try_from(arguments: fmt::Arguments<'_>) -> Result<Self, fmt::Error> {
+        let _ = Self::CAPACITY;
         Self::try_from_format(arguments)
     }
 }

@@ -19,8 +19,9 @@ impl<const N: usize> ArrayString<N> {
     #[must_use]
     #[inline]
     pub unsafe fn from_str_unchecked(text: &str) -> Self {
+        let _ = Self::CAPACITY;
         required!(text.len() <= N);
-        Self::of(core_of::ArrayString::from_str_unchecked(text))
+        ArrayString(core_of::ArrayString::from_str_unchecked(text))
     }
 
     /// The string of UTF-8.
@@ -31,8 +32,9 @@ impl<const N: usize> ArrayString<N> {
     #[must_use]
     #[inline]
     pub unsafe fn from_utf8_unchecked(bytes: &[u8]) -> Self {
+        let _ = Self::CAPACITY;
         required!(from_utf8(bytes).is_ok(), bytes.len() <= N);
-        Self::of(core_of::ArrayString::from_utf8_unchecked(bytes))
+        ArrayString(core_of::ArrayString::from_utf8_unchecked(bytes))
     }
 
     /// Appends `ch`.
