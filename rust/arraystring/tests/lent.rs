@@ -6,7 +6,7 @@ use std::ops::{Deref, DerefMut};
 use std::panic::{AssertUnwindSafe, catch_unwind};
 
 use arraystring::ArrayString;
-use inputs::{at_capacities, at_each_capacity, behind, cut, edges, letters, mixed, some_offsets, texts_of};
+use inputs::{at_capacities, behind, cut, edges, letters, mixed, some_offsets, texts_of};
 
 mod inputs;
 
@@ -71,7 +71,7 @@ fn a_text_is_lent_at_each_offset() {
     at_capacities!(at);
 }
 
-/// A string of each capacity goes into the greatest, and into one that is as large.
+/// A string goes into the greatest, and into one that is as large.
 #[test]
 fn a_text_is_widened_at_each_offset() {
     fn at<const N: usize>() {
@@ -86,7 +86,7 @@ fn a_text_is_widened_at_each_offset() {
             }
         }
     }
-    at_each_capacity!(at).for_each(drop);
+    at_capacities!(at);
 }
 
 /// Asserts what is written through a part, by each range that has these ends.

@@ -5,7 +5,7 @@ use std::fmt::{self, Display, Write};
 use std::panic::{AssertUnwindSafe, catch_unwind, resume_unwind};
 
 use arraystring::{ArrayString, Error, SmallString};
-use inputs::{at_capacities, at_each_capacity, behind, cut, edges};
+use inputs::{at_capacities, behind, cut, edges};
 
 mod inputs;
 
@@ -235,7 +235,7 @@ fn long_pieces_fill_long_strings() {
 }
 
 #[test]
-fn what_is_cut_at_each_capacity_and_each_offset() {
+fn what_is_cut_at_each_offset() {
     fn at<const N: usize>() {
         for before in edges(N).into_iter().filter(|before| *before <= N) {
             let room = N - before;
@@ -250,7 +250,7 @@ fn what_is_cut_at_each_capacity_and_each_offset() {
             }
         }
     }
-    at_each_capacity!(at).for_each(drop);
+    at_capacities!(at);
 }
 
 fn text_of<const N: usize>(text: &str) -> ArrayString<N> {

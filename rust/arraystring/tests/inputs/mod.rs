@@ -20,20 +20,6 @@ macro_rules! at_capacities {
 }
 pub(crate) use at_capacities;
 
-/// Calls a generic function, or makes something of it, at each capacity that there is.
-macro_rules! at_each_capacity {
-    ($check:ident) => {
-        $crate::inputs::at_each_capacity!($check: 0 1 2 3 4 5 6 7 8 9 10 11 12 13 14 15)
-    };
-    ($check:ident: $($tens:literal)*) => {
-        [$($crate::inputs::at_each_capacity!($check, $tens, 0 1 2 3 4 5 6 7 8 9 10 11 12 13 14 15)),*].into_iter().flatten()
-    };
-    ($check:ident, $tens:literal, $($ones:literal)*) => {
-        [$($check::<{ 16 * $tens + $ones }>()),*]
-    };
-}
-pub(crate) use at_each_capacity;
-
 /// The greatest length of a string, which is the greatest capacity.
 pub const MOST: usize = 255;
 

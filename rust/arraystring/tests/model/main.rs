@@ -56,7 +56,15 @@ fn face<const N: usize>() -> Box<dyn Tried + Send> {
 /// The capacities that are tried, each with a new string.
 #[cfg(debug_assertions)]
 fn faces() -> Vec<Box<dyn Tried + Send>> {
-    let faces: Vec<_> = inputs::at_each_capacity!(face).collect();
+    macro_rules! faces {
+        ($($sixteen:literal)*) => {
+            [$(faces!($sixteen, 0 1 2 3 4 5 6 7 8 9 10 11 12 13 14 15)),*]
+        };
+        ($sixteen:literal, $($one:literal)*) => {
+            [$(face::<{ 16 * $sixteen + $one }>()),*]
+        };
+    }
+    let faces: Vec<_> = faces!(0 1 2 3 4 5 6 7 8 9 10 11 12 13 14 15).into_iter().flatten().collect();
     assert_eq!(faces.iter().map(|face| face.capacity()).collect::<Vec<_>>(), (0..=MOST).collect::<Vec<_>>());
     faces
 }
