@@ -9,8 +9,8 @@ use crate::{ArrayString, Error, OutOfBounds, Utf8, Utf16};
 
 /// # Strings made, whole or not at all
 ///
-/// Their contracts are in `crates/arraystring_core/src/array_string/construct.rt` and `utf16.rt` of the repository, except that
-/// `try_from_iterator`, the lossy forms and `try_from_format` have none.
+/// Their contracts are in `crates/arraystring_core/src/array_string/construct.rt` and `utf16.rt` of the repository, and that of `new` is in
+/// `../array_string.rt`. But `const_try_from_str`, `try_from_iterator`, the lossy forms and `try_from_format` have none.
 impl<const N: usize> ArrayString<N> {
     /// An empty string.
     ///

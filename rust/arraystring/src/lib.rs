@@ -19,12 +19,10 @@ mod leaf;
 mod proved;
 
 // The reference shows the calls of a string in the order of these: first what most programs need, and last what is unchecked.
-mod string;
-
 mod construct;
+mod string;
 mod edit;
 mod whole;
-
 mod lent;
 mod unchecked;
 
