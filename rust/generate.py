@@ -9,7 +9,7 @@ as it is, with its comments, and rustc compiles it or refuses it. A comment befo
  2. laws       So are the modules `laws` and `integration` (JSON), and the statements that call what a file imports of `laws`: they help the prover.
  3. counter    So is the module `steps`: the parameter `steps: &mut Steps`, the arguments `steps` and `&mut Steps::new()`, statements `steps.f(..);`.
  4. counted    `f`, which only calls `f_counted`, gets the body of that, which is left out. A call of `f_counted` is one of `f`.
- 5. paths      `std` is `core`, `crate` and a crate's name a module of `crate::proved`. `leaf` is by hand, and has what `char` and `str` of std have.
+ 5. paths      `std` is `core`, `crate` and a crate's name a module of `crate::proved`, but for `leaf`, which is by hand.
  6. places     `[u8` behind `mut`, and as the type of an `array`, is of `leaf::Place`, which may have no value yet, and `[0; N]` of `leaf::UNWRITTEN`.
  7. fields     A struct with an array is `#[repr(C)]` and has it last: no write into it then seems to change a number. A field is `pub(crate)`.
  8. constants  `as_str` and `as_bytes` are `const`: in Rattle an index is none, and in Rust it is `leaf::part`.
@@ -253,7 +253,7 @@ def uncounted(t, counted):
 def in_rust(t, module):
     for at in range(len(t)):
         if t.at(at, 'std', '::'):
-            t[at][1] = f'crate::{BY_HAND}' if t.at(at + 2, {'char', 'str'}, ';') else 'core'
+            t[at][1] = 'core'
         elif t.at(at, {'crate', *CRATES}, '::'):
             t[at][1] = 'crate' if t.at(at + 2, BY_HAND) else f'crate::proved::{CRATES.get(t[at][1], module)}'
         elif t.at(at, 'mut', '[', 'u8') or t.at(at, ':', '[', 'u8') and t.at(at - 1, 'array'):

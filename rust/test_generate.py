@@ -28,7 +28,7 @@ MADE = {
         'fn f(a: u8) -> [u8; 2] {\n    Self::g()\n}\n\nfn g() {\n}',
     'use crate::a::{Steps, g, g_counted};\nuse crate::laws::{it as fact};\nuse std::str;\n'
     'fn g() {\n    fact(&self.a); // why\n    let _ = &h();\n}\nfn g_counted(steps: &mut Steps) {\n    let _ = &h();\n}':
-        'use crate::proved::base::a::g;\nuse crate::leaf::str;\nfn g() {\n    let _ = &h();\n}',
+        'use crate::proved::base::a::g;\nuse core::str;\nfn g() {\n    let _ = &h();\n}',
     '/// It.\n///\n/// # Examples\n///\n/// ```\n/// # use a;\n/// ```\n///\n/// # Errors\n///\n/// None.\nfn f();':
         '/// It.\n///\n/// # Errors\n///\n/// None.\nfn f();',
     'macro_rules! m {\n    ($a:ident) => { #[tactic(none)] fn $a() requires { true } { crate::leaf::b() } };\n}':

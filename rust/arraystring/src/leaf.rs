@@ -6,8 +6,6 @@
 use core::mem::MaybeUninit;
 use core::{ptr, slice};
 
-pub(crate) use core::{char, str};
-
 /// Whether each access is tested all the same.
 pub(crate) const IS_TESTED: bool = cfg!(any(debug_assertions, feature = "checked", not(target_pointer_width = "64")));
 

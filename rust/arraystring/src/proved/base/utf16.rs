@@ -1,7 +1,7 @@
 // Made from crates/arraystring_base/src/utf16.rt by rust/generate.py: change that, and run this.
 //! UTF-16, read as characters and lone surrogates (the Unicode Standard, section 3.9).
 
-use crate::leaf::char;
+use core::char;
 use core::iter::FusedIterator;
 
 /// What UTF-16 units are read as: a character, or a lone surrogate.

@@ -3,7 +3,7 @@
 //! bytes of a character. Sizes and indices count bytes of UTF-8.
 
 use crate::leaf::{byte, put_array, put_byte, text_to};
-use crate::leaf::char;
+use core::char;
 
 /// Returns whether `at` is a boundary of `text`: the size of one of its prefixes of whole characters.
 /// Returns false if `at` is past the length of the text.

@@ -42,7 +42,7 @@
 //! the removed text, and an index into it. `next` raises the index, and `next_back` lowers the size.
 
 use crate::leaf::part;
-use crate::leaf::str;
+use core::str;
 
 mod append_at_array_end;
 mod appended_items;

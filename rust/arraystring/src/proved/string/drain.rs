@@ -2,7 +2,7 @@
 //! `Drain`: the characters that were removed from a string, from both ends. `traits` has its impls of traits.
 
 use crate::leaf::part;
-use crate::leaf::str;
+use core::str;
 
 mod traits;
 

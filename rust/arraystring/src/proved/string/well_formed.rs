@@ -2,7 +2,7 @@
 //! The test of UTF-8.
 
 use crate::proved::base::error::Utf8;
-use crate::leaf::str;
+use core::str;
 
 /// Returns the text whose UTF-8 is `given`, or `Err(Utf8)` if `given` is not well-formed.
 #[inline]

@@ -5,7 +5,7 @@ use crate::proved::string::ArrayString;
 use crate::proved::string::well_formed::read_utf8;
 use crate::proved::base::error::{Error, OutOfBounds, Utf8};
 use crate::proved::base::utils::{truncate_str, write_by_call};
-use crate::leaf::str;
+use core::str;
 
 impl<const N: usize> ArrayString<N> {
     /// Creates a string from `string`.

@@ -4,7 +4,7 @@
 use crate::proved::string::ArrayString;
 use crate::leaf::{byte, part};
 use crate::proved::base::utils::{first_char, shift};
-use crate::leaf::str;
+use core::str;
 
 impl<const N: usize> ArrayString<N> {
     /// Keeps the characters for which `f` returns true and removes all others. `f` is called once

@@ -6,7 +6,7 @@
 use crate::proved::string::ArrayString;
 use crate::leaf::part;
 use crate::proved::base::utils::{encode, shift, write_over};
-use crate::leaf::str;
+use core::str;
 
 impl<const N: usize> ArrayString<N> {
     /// Replaces the text between two boundaries by `given`. The new text must fit.

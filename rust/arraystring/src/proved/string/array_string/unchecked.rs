@@ -4,7 +4,7 @@
 
 use crate::proved::string::ArrayString;
 use crate::proved::base::utils::{write_by_call, write_over};
-use crate::leaf::str;
+use core::str;
 
 impl<const N: usize> ArrayString<N> {
     /// Creates a string from `string`.

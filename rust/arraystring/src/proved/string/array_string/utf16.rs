@@ -4,7 +4,7 @@
 use crate::proved::string::ArrayString;
 use crate::proved::base::error::{Error, Utf16};
 use crate::proved::base::utf16::{Unit16, Units};
-use crate::leaf::char;
+use core::char;
 
 impl<const N: usize> ArrayString<N> {
     /// Creates a string from the UTF-16 in `units`.
