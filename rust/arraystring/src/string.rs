@@ -41,7 +41,7 @@ use crate::proved::string as core_of;
 ///
 /// # Capacities above 255
 ///
-/// They do not compile: each call that makes a string is an error of `cargo build`. (`cargo check` does not see it.)
+/// They do not compile: each call that makes a string or reads one is an error of `cargo build`. (`cargo check` does not see it.)
 ///
 /// ```compile_fail,E0080
 /// let string = arraystring::ArrayString::<256>::new();
@@ -64,6 +64,8 @@ impl<const N: usize> ArrayString<N> {
     /// assert_eq!([0u8; Name::CAPACITY].len(), 8);
     /// ```
     pub const CAPACITY: usize = {
+        // Each call that makes a string asks for this first, so that rustc shows the line of the caller. So do `len`, `as_str` and `as_bytes`:
+        // a library that only reads such a string would compile otherwise, and no program that makes one.
         assert!(
             N <= 255,
             "an `ArrayString` has at most 255 bytes: for more take that of arrayvec, or the `String` of heapless or std"
@@ -82,6 +84,7 @@ impl<const N: usize> ArrayString<N> {
     #[must_use]
     #[inline(always)]
     pub const fn len(&self) -> usize {
+        let _ = Self::CAPACITY;
         self.0.len() as usize
     }
 
@@ -115,6 +118,7 @@ impl<const N: usize> ArrayString<N> {
     #[must_use]
     #[inline(always)]
     pub const fn as_str(&self) -> &str {
+        let _ = Self::CAPACITY;
         self.0.as_str()
     }
 
@@ -122,6 +126,7 @@ impl<const N: usize> ArrayString<N> {
     #[must_use]
     #[inline(always)]
     pub const fn as_bytes(&self) -> &[u8] {
+        let _ = Self::CAPACITY;
         self.0.as_bytes()
     }
 
