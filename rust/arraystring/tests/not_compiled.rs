@@ -17,13 +17,13 @@ struct Row {
     /// What the error begins with.
     error: &'static str,
     /// What rustc says of it somewhere.
-    cause: &'static str,
+    cause: String,
     wrong: String,
     right: String,
 }
 
-fn row(error: &'static str, cause: &'static str, wrong: &str, right: &str) -> Row {
-    Row { error, cause, wrong: wrong.to_string(), right: right.to_string() }
+fn row(error: &'static str, cause: &str, wrong: &str, right: &str) -> Row {
+    Row { error, cause: cause.to_string(), wrong: wrong.to_string(), right: right.to_string() }
 }
 
 /// The crate with the features `alloc` and `std`, made by rustc from its sources. Its folder goes with it.
@@ -105,7 +105,7 @@ fn is_the_reason(row: &Row, said: &str) {
     let others = errors.iter().filter(|line| !line.starts_with(row.error) && !line.contains("aborting due to"));
     assert!(!errors.is_empty(), "it compiles: {}", row.wrong);
     assert_eq!(others.count(), 0, "{}:\n{said}", row.wrong);
-    assert!(said.contains(row.cause), "{}: `{}` is not said:\n{said}", row.wrong, row.cause);
+    assert!(said.contains(&row.cause), "{}: `{}` is not said:\n{said}", row.wrong, row.cause);
 }
 
 /// A text and what is made of it, and a string to be edited.
@@ -307,6 +307,31 @@ fn a_capacity_above_255_is_an_error_of_each_call_that_makes_a_string() {
     let new = |capacity: &str| format!("ArrayString::<{capacity}>::new();");
     let rows = capacities.map(|capacity| row("error[E0080]", TOO_LARGE, &new(capacity), &new("255")));
     library.refuses(HEAD, &rows, &[]);
+}
+
+/// A function that rustc makes machine code of, though nobody calls it, as of one that a library exports.
+#[test]
+fn a_capacity_above_255_is_an_error_of_what_only_reads_a_string() {
+    let reads = ["name.len()", "name.as_str().len()", "name.as_bytes().len()", "name.find('a').unwrap_or(0)"];
+    let rows: Vec<_> = (reads.iter().enumerate())
+        .map(|(number, read)| {
+            wide(&format!(
+                "#[unsafe(no_mangle)] pub fn reads_{number}(name: &ArrayString<LARGE>) -> usize {{ {read} }}"
+            ))
+        })
+        .collect();
+    Library::shared().refuses(HEAD, &rows, &[]);
+}
+
+/// What says that a capacity is too large names the line of the program.
+#[test]
+fn a_capacity_above_255_is_an_error_at_the_line_of_the_caller() {
+    let makes = ["new()", "default()", "try_from_str(\"\")", "try_from_chars([])", "from_str_truncate(\"\")"];
+    let rows = makes.map(|make| {
+        let line = |capacity: usize| format!("let made = ArrayString::<{capacity}>::{make};");
+        row("error[E0080]", &format!("ArrayString::<256>::{make}"), &line(256), &line(255))
+    });
+    Library::shared().refuses(HEAD, &rows, &[]);
 }
 
 #[test]
