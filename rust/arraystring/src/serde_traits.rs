@@ -37,7 +37,8 @@ impl<const N: usize> Visitor<'_> for Whole<N> {
     }
 
     fn visit_bytes<E: Error>(self, bytes: &[u8]) -> Result<ArrayString<N>, E> {
-        self.visit_str(text_of(bytes, &self)?)
+        let text = text_of(bytes, &self)?;
+        self.visit_str(text)
     }
 }
 

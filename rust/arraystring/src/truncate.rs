@@ -50,6 +50,7 @@ impl<const N: usize> Visitor<'_> for Truncated<N> {
     }
 
     fn visit_bytes<E: Error>(self, bytes: &[u8]) -> Result<ArrayString<N>, E> {
-        self.visit_str(text_of(bytes, &self)?)
+        let text = text_of(bytes, &self)?;
+        self.visit_str(text)
     }
 }
