@@ -14,6 +14,8 @@ extern crate std;
 
 #[macro_use]
 mod leaf;
+#[cfg(feature = "arbitrary")]
+mod arbitrary_trait;
 mod comparisons;
 mod construct;
 mod drain;
@@ -35,6 +37,8 @@ mod traits;
 pub mod truncate;
 mod unchecked;
 mod whole;
+#[cfg(feature = "zeroize")]
+mod zeroize_trait;
 
 pub use drain::Drain;
 pub use error::{Error, OutOfBounds, Utf8, Utf16};

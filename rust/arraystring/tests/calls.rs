@@ -9,8 +9,8 @@ const TRIED_ELSEWHERE: &[(&str, &str)] = &[
     ("as_mut_str", "tests/by_hand/mutable_loans.rs writes into each text through it"),
     ("const_try_from_str", "tests/constants.rs and tests/by_hand/made.rs"),
     ("of_constant", "`arraystring!` calls it: tests/constants.rs, and tests/panics.rs where the text is too long"),
-    ("deserialize", "rust/with_serde of the repository"),
-    ("serialize", "rust/with_serde of the repository"),
+    ("deserialize", "rust/with_features of the repository"),
+    ("serialize", "rust/with_features of the repository"),
     ("try_from_format", "tests/by_hand/made.rs, and tests/both.rs of both types"),
 ];
 

@@ -170,7 +170,7 @@ fn pages_of_the_repository() -> Vec<(String, String)> {
     let pages = ["../../README.md", "../CONTRIBUTING.md", "../DECISIONS.md", "../SPEED.md"].map(Path::new).into_iter();
     let read = |page: &Path| (page.display().to_string(), fs::read_to_string(page).expect("a text"));
     let found = pages.filter(|page| page.exists()).map(read);
-    let folders = ["../../docs", "../with_serde/examples"].map(Path::new).into_iter().filter(|it| it.exists());
+    let folders = ["../../docs", "../with_features/examples"].map(Path::new).into_iter().filter(|it| it.exists());
     found.chain(folders.flat_map(files)).collect()
 }
 

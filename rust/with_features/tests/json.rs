@@ -10,7 +10,7 @@ use serde::de::value::{
 };
 use serde::de::{DeserializeOwned, IntoDeserializer};
 use serde::{Deserialize, Serialize};
-use with_serde::Cut;
+use with_features::Cut;
 
 mod inputs;
 

@@ -12,7 +12,7 @@ use serde::de::value::Error;
 use serde::de::{Deserializer, Visitor};
 use serde::ser::{Impossible, Serializer};
 use serde::{Deserialize, Serialize, forward_to_deserialize_any};
-use with_serde::Cut;
+use with_features::Cut;
 
 mod inputs;
 

@@ -13,7 +13,7 @@ use serde::de::value::{
 };
 use serde::de::{DeserializeOwned, Error, Expected, IntoDeserializer, Unexpected};
 use serde::{Deserialize, Serialize};
-use with_serde::Cut;
+use with_features::Cut;
 
 mod inputs;
 
