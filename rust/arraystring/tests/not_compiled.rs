@@ -122,6 +122,11 @@ const HEAD: &str = "#![allow(unused)]
 #[test]
 fn no_conversion_cuts() {
     let mut rows = Vec::new();
+    // MOVING.md quotes this, for who comes from a string that has such a `from`.
+    let said = "expected `ArrayString<8>`, found `&str`";
+    assert_eq!(include_str!("../MOVING.md").matches(said).count(), 2);
+    let wrong = "let text = \"ab\"; Name::from(text);";
+    rows.push(row("error[E0308]", said, wrong, "let text = \"ab\"; Name::try_from_str(text).unwrap();"));
     for (given, of) in [
         ("\"ab\"", "From<&str>"),
         ("'a'", "From<char>"),
