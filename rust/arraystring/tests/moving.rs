@@ -9,7 +9,7 @@ use std::panic::{AssertUnwindSafe, catch_unwind};
 use std::path::PathBuf;
 
 use arraystring::{
-    ArrayString, CacheString, Drain, Error, MaxString, OutOfBounds, SmallString, Utf8, Utf16, try_format,
+    ArrayString, CacheString, Drain, Error, MaxString, OutOfBounds, SmallString, Utf8, Utf16, arraystring, try_format,
 };
 use page::Column;
 
@@ -184,7 +184,12 @@ fn what_is_written_for_a_string() -> Result<(), Box<dyn std::error::Error>> {
     assert_eq!(run!(here, Name::try_from_utf16(&units)?), run!(of, String::from_utf16(&units)?).as_str());
     edits_of_a_part(&mut of, &mut here)?;
     same!(s, of: s = s.trim().to_string(); here: s.trim_in_place());
-    same!(s, of: s = s.to_lowercase(); here: s = Name::try_from_str(&s.to_lowercase())?);
+    same!(s, of: s = s.to_ascii_lowercase(); here: s.make_ascii_lowercase());
+    same!(s, of: s = s.to_lowercase();
+        here: s = Name::try_from_chars(s.chars().flat_map(char::to_lowercase))?, s = Name::try_from_str(&s.to_lowercase())?);
+    let mut s = Name::try_from_str("ab")?;
+    run!(here, s[..at].make_ascii_uppercase());
+    assert_eq!(s, "Ab");
     looks_of_all_of_it(&mut of, &mut here)?;
     // (`from` is what a program writes that rustc refuses: tests/not_compiled.rs)
     of.assert_all_run_but(&["Name::from(text)", "s.reserve(len)", "s.shrink_to_fit()", "std::fs::read(s)"]);
@@ -248,6 +253,8 @@ fn what_is_written_for_arrayvec_and_heapless() -> Result<(), Error> {
     run!(here, s.try_push('c')?);
     run!(here, s.try_push_str(text)?);
     assert_eq!((s.as_str(), run!(here, Name::try_from_utf8(b"abcd")?).as_str()), ("ccde", "abcd"));
+    let constant: Name = run!(here, arraystring!("abcd"));
+    assert_eq!((constant.as_str(), run!(here, Name::const_try_from_str(text)?).as_str()), ("abcd", "cde"));
     assert_eq!(run!(here, Name::try_from_utf8(&bytes[..len])?), "abc");
     let parsed: Name = run!(here, text.parse()?);
     assert_eq!((run!(here, Name::try_from_str(text)?), run!(here, Name::try_from(text)?)), (parsed, parsed));
