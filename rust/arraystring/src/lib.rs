@@ -26,6 +26,8 @@ mod whole;
 mod lent;
 mod unchecked;
 
+#[cfg(feature = "arbitrary")]
+mod arbitrary_trait;
 mod comparisons;
 mod drain;
 mod error;
@@ -39,6 +41,8 @@ mod serde_traits;
 mod traits;
 #[cfg(feature = "serde")]
 pub mod truncate;
+#[cfg(feature = "zeroize")]
+mod zeroize_trait;
 
 pub use drain::Drain;
 pub use error::{Error, OutOfBounds, Utf8, Utf16};

@@ -29,6 +29,22 @@ use crate::proved::string as core_of;
 /// # Ok::<(), OutOfBounds>(())
 /// ```
 ///
+/// # Copies
+///
+/// A string is `Copy`, as an array is. So an edit of a copy leaves the string that it was copied from, where rustc would refuse to move a
+/// `String`: take a `&mut`.
+///
+/// ```
+/// use arraystring::{ArrayString, OutOfBounds, arraystring};
+///
+/// let mut notes: [Option<ArrayString<8>>; 2] = [Some(arraystring!("ab")), None];
+/// for note in notes.iter_mut().flatten() {
+///     note.try_push('!')?; // `for mut note in notes` would write to copies
+/// }
+/// assert_eq!(notes[0].unwrap(), "ab!");
+/// # Ok::<(), OutOfBounds>(())
+/// ```
+///
 /// # Size
 ///
 /// A string takes `N + 2` bytes, and is aligned to one.

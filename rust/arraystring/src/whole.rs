@@ -133,8 +133,8 @@ impl<const N: usize> ArrayString<N> {
         Ok(())
     }
 
-    /// Appends the longest prefix of the characters that fits, and returns whether one was left, which is the last that the iterator is
-    /// asked for. If the iterator panics, the text has the characters before that.
+    /// Appends the longest prefix of the characters that fits, and returns whether one was left. That one is the last that the iterator is
+    /// asked for, and is lost. If the iterator panics, the text has the characters before that.
     ///
     /// ```
     /// let mut string = arraystring::ArrayString::<4>::try_from_str("a").unwrap();
@@ -147,8 +147,8 @@ impl<const N: usize> ArrayString<N> {
         characters.into_iter().any(|ch| self.try_push(ch).is_err())
     }
 
-    /// Appends the longest prefix of whole characters of the joined pieces that fits, and returns whether anything was left of the last
-    /// piece that the iterator was asked for. If the iterator panics, the text has the pieces before that.
+    /// Appends the longest prefix that fits of whole characters of the pieces, one behind the other, and returns whether anything was left.
+    /// Then it is of the last piece that the iterator is asked for, and is lost. If the iterator panics, the text has the pieces before that.
     ///
     /// ```
     /// let mut string = arraystring::ArrayString::<8>::try_from_str("one").unwrap();

@@ -32,7 +32,7 @@ fn texts(size: usize) -> Vec<String> {
 }
 
 /// Texts that begin with a text and are longer, also by as many bytes as a byte counts, so that the lengths are one byte.
-fn lengthened(text: &str) -> impl Iterator<Item = String> {
+fn lengthened(text: &str) -> impl Iterator<Item = String> + '_ {
     [1, 255, 256, 257, 512].into_iter().flat_map(move |more| ["m", "\0"].map(|ch| text.to_string() + &ch.repeat(more)))
 }
 
@@ -83,7 +83,7 @@ fn long_texts_differ_at_each_place() {
 }
 
 /// Each part of a text that has its start, its end, or its middle.
-fn parts(text: &str) -> impl Iterator<Item = (usize, usize)> {
+fn parts(text: &str) -> impl Iterator<Item = (usize, usize)> + '_ {
     let len = text.len();
     let ends = (0..=len).flat_map(move |at| [(0, at), (at, len), (at.min(len - at), at.max(len - at))]);
     ends.filter(|(start, end)| text.is_char_boundary(*start) && text.is_char_boundary(*end))

@@ -127,7 +127,7 @@ fn tried(folder: &Path, names: &mut BTreeSet<String>) {
     }
 }
 
-/// Those that are not are of serde: the repository tries them in `rust/with_serde`.
+/// Those that are not are of a feature over another crate: the repository tries them in `rust/with_features`.
 #[test]
 fn each_call_is_tried_by_a_test() {
     let mut names = BTreeSet::new();

@@ -9,7 +9,7 @@ use std::panic::{AssertUnwindSafe, catch_unwind};
 use std::path::PathBuf;
 
 use arraystring::{
-    ArrayString, CacheString, Drain, Error, MaxString, OutOfBounds, SmallString, Utf8, Utf16, try_format,
+    ArrayString, CacheString, Drain, Error, MaxString, OutOfBounds, SmallString, Utf8, Utf16, arraystring, try_format,
 };
 use page::Column;
 
@@ -184,9 +184,15 @@ fn what_is_written_for_a_string() -> Result<(), Box<dyn std::error::Error>> {
     assert_eq!(run!(here, Name::try_from_utf16(&units)?), run!(of, String::from_utf16(&units)?).as_str());
     edits_of_a_part(&mut of, &mut here)?;
     same!(s, of: s = s.trim().to_string(); here: s.trim_in_place());
-    same!(s, of: s = s.to_lowercase(); here: s = Name::try_from_str(&s.to_lowercase())?);
+    same!(s, of: s = s.to_ascii_lowercase(); here: s.make_ascii_lowercase());
+    same!(s, of: s = s.to_lowercase();
+        here: s = Name::try_from_chars(s.chars().flat_map(char::to_lowercase))?, s = Name::try_from_str(&s.to_lowercase())?);
+    let mut s = Name::try_from_str("ab")?;
+    run!(here, s[..at].make_ascii_uppercase());
+    assert_eq!(s, "Ab");
     looks_of_all_of_it(&mut of, &mut here)?;
-    of.assert_all_run_but(&["unsafe { s.as_mut_vec() }", "s.reserve(len)", "s.shrink_to_fit()", "std::fs::read(s)"]);
+    // (`from` is what a program writes that rustc refuses: tests/not_compiled.rs)
+    of.assert_all_run_but(&["Name::from(text)", "s.reserve(len)", "s.shrink_to_fit()", "std::fs::read(s)"]);
     here.assert_all_run_but(&["Vec::from(s)", "Box::<str>::from(s)", "std::fs::read(s.as_str())"]);
     Ok(())
 }
@@ -219,18 +225,16 @@ fn edits_of_a_part(of: &mut Column, here: &mut Column) -> Result<(), Error> {
 fn looks_of_all_of_it(of: &mut Column, here: &mut Column) -> Result<(), Error> {
     let (text, at) = ("xaby", 1);
     let t = ArrayString::<4>::try_from_str("ab")?;
-    let mut s = Name::try_from_str("ab")?;
+    let s = Name::try_from_str("ab")?;
     assert_eq!(run!(here, s.as_bytes()), b"ab");
-    // SAFETY: the bytes are looked at, and stay as they are.
-    assert_eq!(run!(here, unsafe { s.as_bytes_mut() }), b"ab");
     assert!(run!(here, text.contains(s.as_str())) && run!(here, s.as_str() == t.as_str()));
     assert_eq!(run!(here, std::io::Error::other(s.as_str())).to_string(), "ab");
-    let (map, key, name) = (BTreeMap::from([(s, at)]), String::from("ab"), Some(s));
-    assert_eq!((run!(here, map.get(key.as_str())), name.as_deref()), (Some(&at), Some("ab")));
+    let (map, key) = (BTreeMap::from([(s, at)]), String::from("ab"));
+    assert_eq!(run!(here, map.get(key.as_str())), Some(&at));
     let (s, t) = (key.clone(), key.clone());
-    let (map, name) = (BTreeMap::from([(s.clone(), at)]), Some(t.clone()));
+    let map = BTreeMap::from([(s.clone(), at)]);
     assert!(run!(of, text.contains(&s)) && run!(of, s == t));
-    assert_eq!((run!(of, map.get(&key)), run!(of, name.as_deref())), (Some(&at), Some("ab")));
+    assert_eq!(run!(of, map.get(&key)), Some(&at));
     assert_eq!(run!(of, PathBuf::from(s)).to_str(), Some("ab"));
     let s = t.clone();
     assert_eq!(run!(of, std::io::Error::other(s)).to_string(), "ab");
@@ -244,18 +248,22 @@ fn looks_of_all_of_it(of: &mut Column, here: &mut Column) -> Result<(), Error> {
 #[test]
 fn what_is_written_for_arrayvec_and_heapless() -> Result<(), Error> {
     let mut here = Column::below("Moving from arrayvec", 1);
-    let (text, at) = ("cde", 12);
+    let (text, at, bytes, len) = ("cde", 12, *b"abcd", 3);
     let mut s = run!(here, Name::new());
     run!(here, s.try_push('c')?);
     run!(here, s.try_push_str(text)?);
     assert_eq!((s.as_str(), run!(here, Name::try_from_utf8(b"abcd")?).as_str()), ("ccde", "abcd"));
-    assert_eq!((Name::try_from(format_args!("{at}"))?, Name::try_from(text)?), ("12".parse()?, text.parse()?));
-    assert_eq!(run!(here, Name::try_from_str(text)?), "cde");
+    let constant: Name = run!(here, arraystring!("abcd"));
+    assert_eq!((constant.as_str(), run!(here, Name::const_try_from_str(text)?).as_str()), ("abcd", "cde"));
+    assert_eq!(run!(here, Name::try_from_utf8(&bytes[..len])?), "abc");
+    let parsed: Name = run!(here, text.parse()?);
+    assert_eq!((run!(here, Name::try_from_str(text)?), run!(here, Name::try_from(text)?)), (parsed, parsed));
+    assert_eq!((Name::try_from(format_args!("{at}"))?, parsed.as_str()), ("12".parse()?, "cde"));
     assert_eq!(run!(here, s.try_push_str(text).or(Err(text))), Ok(()));
     assert_eq!(run!(here, s.try_push_str(text).or(Err(text))), Err("cde"));
     s.clear();
     run!(here, s.try_push_str(text).map_err(Error::from)?);
-    assert_eq!((s.remove(0)?, s.truncate(1)?, s.as_str(), run!(here, *"n" < *s)), ('c', (), "d", false));
+    assert_eq!((s.remove(0)?, s.truncate(1)?, s.as_str()), ('c', (), "d"));
     here.assert_all_run_but(&[]);
 
     let mut here = Column::below("Moving from heapless", 1);
@@ -265,8 +273,6 @@ fn what_is_written_for_arrayvec_and_heapless() -> Result<(), Error> {
     run!(here, s.try_push('c')?);
     run!(here, s.try_push_str(text)?);
     assert_eq!((s.as_str(), run!(here, s.as_bytes())), ("7ccde", b"7ccde".as_slice()));
-    // SAFETY: the bytes are looked at, and stay as they are.
-    assert_eq!(run!(here, unsafe { s.as_bytes_mut() }).len(), 5);
     run!(here, s.try_push_str(text).map_err(Error::from)?);
     assert_eq!(run!(here, Name::try_from_chars(text.chars())?).as_str(), text);
     assert_eq!(run!(here, s.as_str()), "7ccdecde");
@@ -308,7 +314,6 @@ fn what_is_written_for_the_crate_before() -> Result<(), Error> {
     here.assert_all_run_but(&[
         "fn f<const N: usize>(s: ArrayString<N>)",
         "#[repr(align(64))] struct Line(ArrayString<62>);",
-        "Drain(\"\")",
         "#[serde(with = \"arraystring::truncate\")]",
     ]);
     Ok(())

@@ -31,9 +31,10 @@ struct Library {
     folder: PathBuf,
 }
 
-fn rustc() -> Command {
+/// rustc, by an edition: that of the crate, or the newest one for a program, which is what `cargo init` takes.
+fn rustc(edition: &str) -> Command {
     let mut rustc = Command::new(std::env::var_os("RUSTC").unwrap_or_else(|| "rustc".into()));
-    rustc.args(["--edition", "2024", "--color", "never"]);
+    rustc.args(["--edition", edition, "--color", "never"]);
     rustc
 }
 
@@ -53,7 +54,7 @@ impl Library {
         let folder = Path::new(env!("CARGO_TARGET_TMPDIR")).join(name);
         fs::create_dir_all(&folder).expect("a folder");
         let source = Path::new(env!("CARGO_MANIFEST_DIR")).join("src/lib.rs");
-        let mut command = rustc();
+        let mut command = rustc("2021");
         command.args(["--crate-type", "rlib", "--crate-name", "arraystring", "--cap-lints", "allow"]);
         command.args(["--cfg", "feature=\"alloc\"", "--cfg", "feature=\"std\"", "--out-dir"]).arg(&folder).arg(source);
         assert!(command.status().expect("rustc").success());
@@ -64,7 +65,7 @@ impl Library {
     fn said_of(&self, head: &str, line: &str, options: &[&str]) -> String {
         static COUNT: AtomicUsize = AtomicUsize::new(0);
         let object = self.folder.join(format!("{}.o", COUNT.fetch_add(1, Ordering::Relaxed)));
-        let mut command = rustc();
+        let mut command = rustc("2024");
         command.args(["--crate-type", "bin", "--crate-name", "program", "--emit", "obj", "-A", "unused"]).args(options);
         command.arg("--extern").arg(format!("arraystring={}", self.folder.join("libarraystring.rlib").display()));
         command.arg("-o").arg(&object).arg("-").stdin(Stdio::piped()).stderr(Stdio::piped());
@@ -121,6 +122,11 @@ const HEAD: &str = "#![allow(unused)]
 #[test]
 fn no_conversion_cuts() {
     let mut rows = Vec::new();
+    // MOVING.md quotes this, for who comes from a string that has such a `from`.
+    let said = "expected `ArrayString<8>`, found `&str`";
+    assert_eq!(include_str!("../MOVING.md").matches(said).count(), 2);
+    let wrong = "let text = \"ab\"; Name::from(text);";
+    rows.push(row("error[E0308]", said, wrong, "let text = \"ab\"; Name::try_from_str(text).unwrap();"));
     for (given, of) in [
         ("\"ab\"", "From<&str>"),
         ("'a'", "From<char>"),

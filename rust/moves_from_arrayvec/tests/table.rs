@@ -37,9 +37,8 @@ fn what_a_program_writes_for_arrayvec() -> Result<(), Refused> {
     is_copy::<Name>();
     let mut of = Column::below("Moving from arrayvec", 0);
     let (text, at, len) = ("cde", 1, 1);
-    assert_eq!(run!(of, Name::from(text)?), run!(of, Name::try_from(text)?));
-    let parsed: Name = run!(of, text.parse()?);
-    assert_eq!((parsed.as_str(), run!(of, Name::try_from(format_args!("{at}"))?).as_str()), ("cde", "1"));
+    let made = run!(of, Name::from(text)?);
+    assert_eq!((made.as_str(), run!(of, Name::try_from(format_args!("{at}"))?).as_str()), ("cde", "1"));
     assert_eq!(
         (run!(of, Name::new_const()).as_str(), run!(of, Name::from_byte_string(b"abcd")?).as_str()),
         ("", "abcd")
@@ -57,7 +56,6 @@ fn what_a_program_writes_for_arrayvec() -> Result<(), Refused> {
     s.clear();
     run!(of, s.try_push('c')?);
     run!(of, s.try_push_str(text)?);
-    assert!(run!(of, *"n" < s) == ("n" < "ccde"));
     assert_eq!(run!(of, s.remove(at)), 'c');
     run!(of, s.truncate(len));
     assert_eq!(s.as_str(), "c");

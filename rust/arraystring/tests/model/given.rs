@@ -89,12 +89,12 @@ impl Given {
     }
 
     /// The characters, which are counted as they are asked for.
-    pub fn characters(&self) -> impl Iterator<Item = char> {
+    pub fn characters(&self) -> impl Iterator<Item = char> + '_ {
         self.source.text.chars().inspect(|_| self.asked.set(self.asked.get() + 1))
     }
 
     /// The pieces, which are counted as they are asked for.
-    pub fn pieces(&self) -> impl Iterator<Item = &'static str> {
+    pub fn pieces(&self) -> impl Iterator<Item = &'static str> + '_ {
         self.source.pieces.iter().copied().inspect(|_| self.asked.set(self.asked.get() + 1))
     }
 

@@ -11,11 +11,17 @@ mod made;
 mod rows;
 
 use std::collections::BTreeMap;
+use std::path::Path;
 
 use self::rows::{Table, of_text, tables};
 
 /// Where the tables are.
 const FOLDER: &str = "../../crates/arraystring_tests/src/tests";
+
+/// Whether the repository is around the crate, which has the tables. A package of the crate has the tests, and not what two of them read.
+fn is_in_the_repository() -> bool {
+    Path::new("../generate.py").exists()
+}
 
 /// A player: its name in the tables, how many rows it plays at least, and what plays a table here and returns how many rows it has
 /// played.
@@ -64,8 +70,11 @@ pub(crate) use at_capacity;
 
 #[test]
 fn each_table_holds_here_too() {
+    if !is_in_the_repository() {
+        return;
+    }
     let mut played: BTreeMap<&str, usize> = BTreeMap::new();
-    for table in tables(std::path::Path::new(FOLDER)) {
+    for table in tables(Path::new(FOLDER)) {
         let (name, _, play) = player_of(&table).unwrap_or_else(|told| panic!("{told}"));
         *played.entry(name).or_default() += play(&table);
     }

@@ -1,5 +1,5 @@
 //! What the tests of this folder go through: texts of each length, and the rule by which one is cut.
-#![allow(dead_code)]
+#![allow(dead_code, unused_imports, unused_macros)]
 
 /// The lengths of what is given: to more than twice what any string takes.
 pub const GIVEN: std::ops::RangeInclusive<usize> = 0..=600;
@@ -30,3 +30,17 @@ pub fn texts_of(len: usize) -> [String; 3] {
     assert!(texts.iter().all(|text| text.len() == len));
     texts
 }
+
+/// Calls a generic test at each capacity.
+macro_rules! at_each_capacity {
+    ($test:ident($($given:expr),*)) => {
+        $crate::inputs::at_each_capacity!($test($($given),*): 0 1 2 3 4 5 6 7 8 9 10 11 12 13 14 15);
+    };
+    ($test:ident $given:tt: $($tens:literal)*) => {
+        $($crate::inputs::at_each_capacity!($test $given: $tens, 0 1 2 3 4 5 6 7 8 9 10 11 12 13 14 15);)*
+    };
+    ($test:ident $given:tt: $tens:literal, $($ones:literal)*) => {
+        $($test::<{ 16 * $tens + $ones }> $given;)*
+    };
+}
+pub(crate) use at_each_capacity;

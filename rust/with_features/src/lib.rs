@@ -9,7 +9,7 @@
 //! ```
 //!
 //! ```compile_fail,E0080
-//! let read: Result<with_serde::Truncated<256>, _> = serde_json::from_str("\"ab\"");
+//! let read: Result<with_features::Truncated<256>, _> = serde_json::from_str("\"ab\"");
 //! ```
 //!
 //! The greatest capacity that there is does:
@@ -17,12 +17,14 @@
 //! ```
 //! let read: Result<arraystring::ArrayString<255>, _> = serde_json::from_str("\"ab\"");
 //! assert!(read.is_ok_and(|read| read == "ab"));
-//! let read: Result<with_serde::Truncated<255>, _> = serde_json::from_str("\"ab\"");
+//! let read: Result<with_features::Truncated<255>, _> = serde_json::from_str("\"ab\"");
 //! assert!(read.is_ok_and(|read| read.0 == "ab"));
 //! ```
 
 use arraystring::ArrayString;
 use serde::{Deserialize, Serialize};
+
+pub mod given_back;
 
 /// A string whose text is cut.
 #[derive(Clone, Copy, Debug, Deserialize, PartialEq, Serialize)]

@@ -9,7 +9,7 @@ use serde::de::value::{
 };
 use serde::de::{DeserializeOwned, IntoDeserializer};
 use serde::{Deserialize, Serialize};
-use with_serde::Truncated;
+use with_features::Truncated;
 
 mod inputs;
 

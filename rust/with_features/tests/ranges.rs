@@ -11,7 +11,7 @@ use serde::de::value::{
     StringDeserializer, U64Deserializer, UnitDeserializer,
 };
 use serde::de::{Error, Expected, IntoDeserializer, Unexpected};
-use with_serde::Truncated;
+use with_features::Truncated;
 
 mod inputs;
 

@@ -9,7 +9,7 @@ use serde::de::value::Error;
 use serde::de::{Deserializer, Visitor};
 use serde::ser::{Impossible, Serializer};
 use serde::{Deserialize, Serialize, forward_to_deserialize_any};
-use with_serde::Truncated;
+use with_features::Truncated;
 
 mod inputs;
 

@@ -1,1 +1,0 @@
-//! Nothing: Cargo asks for the optional dependencies of the package that it builds, also where their feature is off.
