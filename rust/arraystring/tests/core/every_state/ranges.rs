@@ -125,11 +125,17 @@ fn each_kind_of_range() {
     at_each_capacity!(kinds);
 }
 
+/// Whether an iterator gives these characters. It is a `dyn`, because in a loop over the drain of one byte rustc tests this byte before it
+/// asks whether it is left. Nothing hangs on that test then, but memcheck tells of it where the byte has no value.
+fn gives(items: &mut dyn Iterator<Item = char>, wanted: impl Iterator<Item = char>) -> bool {
+    items.eq(wanted)
+}
+
 /// Takes what is left of a drain from both ends in every order, and says how many drains that are.
 fn walked<const N: usize>(drain: Drain<N>, left: &str) -> usize {
     assert_eq!(drain.as_str().as_bytes(), left.as_bytes());
     assert_eq!(format!("{drain:?}"), format!("Drain({left:?})"));
-    assert!(drain.eq(left.chars()) && drain.rev().eq(left.chars().rev()), "{left:?}");
+    assert!(gives(&mut { drain }, left.chars()) && gives(&mut drain.rev(), left.chars().rev()), "{left:?}");
     let (mut front, mut back) = (drain, drain);
     let (mut chars, mut backwards) = (left.chars(), left.chars());
     assert_eq!((front.next(), back.next_back()), (chars.next(), backwards.next_back()), "of {left}");
