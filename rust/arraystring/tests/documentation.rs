@@ -225,6 +225,14 @@ fn the_blocks_of_the_pages_are_run() {
     );
 }
 
+/// The page names the oldest Rust of the manifest.
+#[test]
+fn the_page_names_the_oldest_rust() {
+    let page = fs::read_to_string("README.md").expect("a text");
+    let oldest = concat!("The crate needs Rust ", env!("CARGO_PKG_RUST_VERSION"), " or later");
+    assert!(page.contains(oldest), "{oldest}");
+}
+
 /// Names with a `_` in them, as most calls have, that the page says and that are none of this crate's.
 const OF_OTHERS: &[&str] = &[
     "from_utf16",
