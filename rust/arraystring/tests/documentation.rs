@@ -225,6 +225,16 @@ fn the_blocks_of_the_pages_are_run() {
     );
 }
 
+/// Each call that refuses or cuts what it is given is named by the page, which has a table of these and one of their errors.
+#[test]
+fn the_page_names_each_call_that_refuses_or_cuts() {
+    let page = fs::read_to_string("README.md").expect("a text");
+    let is_meant = |call: &Call| call.head.contains("-> Result<") || call.name.ends_with("_truncate");
+    let calls = calls().into_iter().filter(|call| !["drain", "truncate"].contains(&&*call.module) && is_meant(call));
+    let unnamed: Vec<_> = calls.map(|call| call.name).filter(|name| !page.contains(&format!("`{name}`"))).collect();
+    assert!(unnamed.is_empty(), "no table names {unnamed:?}");
+}
+
 /// The page names the oldest Rust of the manifest.
 #[test]
 fn the_page_names_the_oldest_rust() {
