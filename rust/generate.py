@@ -1,24 +1,24 @@
 #!/usr/bin/env python3
-"""generate.py [--check] [CRATES [OUT]] makes the core of the Cargo crate: the files below OUT (arraystring/src/proved) are the proved sources
-of CRATES (../crates) without what is only for the proof. With --check it writes nothing, prints what differs, and fails if anything does.
+"""generate.py [--check] makes the core of the Cargo crate: the files below arraystring/src/proved are the proved sources of ../crates
+without what is only for the proof. With --check it writes nothing, prints what differs, and fails if anything does.
 
 A file becomes tokens, each with the blanks and comments before it. The rules leave tokens out, or write others. What no rule names stays
 as it is, with its comments, and rustc compiles it or refuses it. A comment before what is left out, or in it, goes with it.
 
- 1. ghosts     `ghost ..`, the clauses `requires` and `ensures`, `impl Model for ..`, `#[tactic(..)]`, `+ Drop` and a derived `Drop` are left out.
- 2. laws       So are the modules `laws` and `integration` (JSON), and the statements that call what a file imports of `laws`: they help the prover.
- 3. counter    So is the module `steps`: the parameter `steps: &mut Steps`, the arguments `steps` and `&mut Steps::new()`, statements `steps.f(..);`.
- 4. counted    `f`, which only calls `f_counted`, gets the body of that, which is left out. A call of `f_counted` is one of `f`.
+ 1. ghosts     `ghost ..`, the clauses `requires` and `ensures`, `impl Model for ..`, `#[tactic(..)]`, `+ Drop` and a derived `Drop` go.
+ 2. laws       So do the modules `laws` and `integration` (JSON), and statements that call what is imported of `laws`: they help the prover.
+ 3. counter    So does the module `steps`: the parameter `steps: &mut Steps`, arguments `steps` and `&mut Steps::new()`, and `steps.f(..);`.
+ 4. counted    `f`, which stands above `f_counted` and only calls it, gets its body. A call of `f_counted` is one of `f`.
  5. paths      `std` is `core`, `crate` and a crate's name a module of `crate::proved`, but for `leaf`, which is by hand.
- 6. places     `[u8` behind `mut`, and as the type of an `array`, is of `leaf::Place`, which may have no value yet, and `[0; N]` of `leaf::UNWRITTEN`.
- 7. fields     A struct with an array is `#[repr(C)]` and has it last: no write into it then seems to change a number. A field is `pub(crate)`.
+ 6. places     `[u8` behind `mut` or as the type of an `array` is of `leaf::Place`, which may have no value; `[0; N]` of `leaf::UNWRITTEN`.
+ 7. fields     A struct with an array is `#[repr(C)]` and has it last: no write into it seems to change a number. A field is `pub(crate)`.
  8. constants  `as_str` and `as_bytes` are `const`: in Rattle an index is none, and in Rust it is `leaf::part`.
  9. examples   `# Examples` is left out of a comment: it would be a test of rustdoc, which sees no private module.
 10. formatter  `fn fmt<W: fmt::Write>(.. fmt::Formatter<W>)` is `fn fmt(.. fmt::Formatter<'_>)`.
 
-An error with its file and line is what looks like one of these and is left over: a word of LEFT, a name that ends with `_counted`, an example, an
-`unsafe` without its `SAFETY`, a comment from `/*` on. One thing no rule sees: a proof that reads a zero of `[0; N]`, which nothing writes in Rust.
-memcheck sees that, in `rust/shipped`.
+An error with its file and line is what looks like one of these and is left over: a word of LEFT (so a comment from `/*` on), a name that
+ends with `_counted`, an example, an `unsafe` without its `SAFETY`. One thing no rule sees: a proof that reads a zero of `[0; N]`, which
+nothing writes in Rust. memcheck sees that, in `rust/shipped`.
 """
 import difflib
 import re
@@ -29,12 +29,13 @@ from pathlib import Path
 CRATES = {'arraystring_base': 'base', 'arraystring_core': 'string'}
 GONE, BY_HAND = {'laws', 'integration', 'steps'}, 'leaf'
 GHOST_TYPES, CONSTANT = {'Steps', 'Model'}, {'as_str', 'as_bytes'}
-LEFT = {*GONE, *CRATES, *GHOST_TYPES, 'ghost', 'requires', 'ensures', 'tactic', 'Drop', 'std', 'prove', 'prove_eq', 'prove_ne'}
+LEFT = {*GONE, *CRATES, *GHOST_TYPES, 'ghost', 'requires', 'ensures', 'tactic', 'Drop', 'std', 'prove', 'prove_eq', 'prove_ne', '/*'}
 TOKEN = re.compile(r'''
-    (?P<gap> (?: \s | //[^\n]* )+ )
-  | (?P<token> [bc]?r(?P<hashes>\#*)".*?"(?P=hashes) | [bc]?"(?:\\.|[^"\\])*" | b?'(?:\\(?:x..|u\{[^}]*\}|.)|[^'\\\n])' | '\w+
+    (?P<gap> (?: \s | //[^\n]* )* )
+    (?P<token> [bc]?r(?P<hashes>\#*)".*?"(?P=hashes) | [bc]?"(?:\\.|[^"\\])*" | b?'(?:\\(?:x..|u\{[^}]*\}|.)|[^'\\\n])' | '\w+
       | \w+ | /\* | :: | -> | => | \.\.= | \.\. | . )
 ''', re.X | re.S)
+GHOST_ATTRIBUTES = ('#', '[', 'tactic'), ('#', '!', '[', 'tactic'), ('#', '[', 'derive', '(', 'Drop', ')', ']')
 OPEN, CLOSE = {'(', '[', '{'}, {')', ']', '}'}
 WORD = re.compile(r'\w+')
 
@@ -43,15 +44,12 @@ class Tokens(list):
     """A file as [gap, text, line] of each token. A gap has the blanks and comments before it."""
 
     def __init__(self, path, text):
-        self.path, gap, line = path, '', 1
+        self.path, line = path, 1
         for match in TOKEN.finditer(text):
-            if match['gap'] is None:
-                self.append([gap, match['token'], line])
-                if match['token'] == '/*':
-                    self.refuse(-1, 'a comment that does not begin with `//`')
-            gap = match['gap'] or ''
-            line += match[0].count('\n')
-        self.append([gap, '', line])
+            line += match['gap'].count('\n')
+            self.append([match['gap'], match['token'], line])
+            line += match['token'].count('\n')
+        self.append([text[match.end():], '', line])
 
     def __str__(self):
         made = ''
@@ -76,14 +74,22 @@ class Tokens(list):
         """Where these tokens are, from the end on: what is done to one leaves the others where they are."""
         return [at for at in reversed(range(len(self))) if self.at(at, *pattern)]
 
-    def closing(self, start):
+    def closing(self, start, opens=OPEN, closes=CLOSE):
         """The index of the bracket that closes the one at an index."""
         depth = 0
         for at in range(start, len(self)):
-            depth += self.at(at, OPEN) - self.at(at, CLOSE)
+            depth += self.at(at, opens) - self.at(at, closes)
             if depth == 0:
                 return at
         self.refuse(start, 'a bracket stays open')
+
+    def opening(self, at):
+        """The index of the bracket that a token is in, or -1."""
+        return next((i for i in reversed(range(at)) if self.at(i, OPEN) and self.closing(i) >= at), -1)
+
+    def behind_angles(self, start):
+        """The index behind a list between `<` and `>`, if one begins at an index."""
+        return self.closing(start, '<', '>') + 1 if self.at(start, '<') else start
 
     def next(self, start, *wanted):
         """The index of the first of these tokens from an index on that is in no brackets of its own."""
@@ -94,28 +100,12 @@ class Tokens(list):
             at = self.closing(at) + 1 if self.at(at, OPEN) else at + 1
         return at
 
-    def behind_angles(self, start):
-        """The index behind a list between `<` and `>`, if one begins at an index."""
-        depth = 0
-        for at in range(start, len(self)):
-            depth += self.at(at, '<') - self.at(at - 1, '>') * (at > start)
-            if depth == 0:
-                return at
-        self.refuse(start, 'a bracket stays open')
-
     def item(self, at):
         """Where the item or statement begins that a token is in: behind the last `;` or brace."""
-        while at > 0 and not self.at(at - 1, {';', '{', '}'}) and not (self.at(at - 1, ']') and self.at(self.opening(at - 1) - 2, '#', '!')):
+        closes_attribute = lambda at: self.at(at, ']') and self.at(self.opening(at) - 2, '#', '!')
+        while at > 0 and not self.at(at - 1, {';', '{', '}'}) and not closes_attribute(at - 1):
             at -= 1
         return at
-
-    def opening(self, at):
-        """The index of the bracket that a token is in."""
-        depth = 0
-        while at > 0 and (depth or not self.at(at - 1, OPEN)):
-            at -= 1
-            depth += self.at(at, CLOSE) - self.at(at, OPEN)
-        return at - 1
 
     def is_in_list(self, start, end, brackets):
         """Whether these tokens are a whole item of a list in such brackets."""
@@ -154,20 +144,16 @@ def without_ghosts(t):
                 t.refuse(at, 'a clause of a form that no rule names')
             t.leave_out(at, t.closing(body) + 1)
             t[at][0] = t[at][0] if '//' in t[at][0] else ' '
-        elif t.at(at, '#', '[', 'tactic') or t.at(at, '#', '[', 'derive', '(', 'Drop', ')', ']'):
-            t.leave_out(at, t.closing(at + 1) + 1, keep=True)
-        elif t.at(at, '#', '!', '[', 'tactic'):
-            t.leave_out(at, t.closing(at + 2) + 1)
+        elif any(t.at(at, *form) for form in GHOST_ATTRIBUTES):
+            t.leave_out(at, t.closing(t.next(at, '[')) + 1, keep=t.at(at + 1, '['))
         elif t.at(at, 'Drop') and t.is_in_list(at, at + 1, '()'):
             t.leave_out_of_list(at, at + 1)
         elif t.at(at, '+', 'Drop'):
             t.leave_out(at, at + 2)
-        elif t.at(at, 'Model', 'for'):
-            start = t.item(at)
-            t.leave_out(start, t.closing(t.next(at, '{')) + 1)
-            at = start
         else:
             at += 1
+    for at in t.all_at('Model', 'for'):
+        t.leave_out(t.item(at), t.closing(t.next(at, '{')) + 1)
 
 
 def without_modules(t, counted):
@@ -178,25 +164,20 @@ def without_modules(t, counted):
         names = t.texts(at, end)
         path = names[:names.index('{')] if '{' in names else names
         if GONE & set(path) or t.at(at, 'mod', BY_HAND) or path[-1] in GHOST_TYPES:
-            facts |= {name for name, after in zip(names, [*names[1:], ';']) if after != 'as'} - set(path[:-1]) if 'laws' in path else set()
+            if 'laws' in path:
+                facts |= {t[i][1] for i in range(at + len(path) - 1, end) if t.at(i, WORD) and not t.at(i + 1, 'as')}
             t.leave_out(t.item(at), end + 1)
             continue
         for i in reversed(range(at, end)):
-            if t.at(i, counted) and t[i][1].removesuffix('_counted') not in names:
-                t[i][1] = t[i][1].removesuffix('_counted')
-            elif t.at(i, counted | GHOST_TYPES) and t.is_in_list(i, i + 1, '{}'):
+            if t.at(i, counted | GHOST_TYPES) and t.is_in_list(i, i + 1, '{}'):
                 t.leave_out_of_list(i, i + 1)
         end = t.next(at, ';')
-        if t.at(end - 2, '{', '}'):
-            t.leave_out(t.item(at), end + 1)
-        elif t.at(end - 3, '{', WORD, '}') and not t.at(end - 2, 'self'):
+        if t.at(end - 3, '{', WORD, '}') and not t.at(end - 2, 'self'):
             del t[end - 1], t[end - 3]
-    return {name for name in facts if WORD.fullmatch(name)}
+    return facts
 
 
 def without_facts(t, facts):
-    for at in t.all_at('fn', facts):
-        t.refuse(at, f'`{t[at + 1][1]}` has the name of what is imported of `laws`')
     for at in t.all_at(facts, '('):
         end = t.closing(at + 1)
         if t.item(at) != at or not t.at(end + 1, ';') or not all(t.at(i, WORD) or t.at(i, {',', '.', '&'}) for i in range(at + 2, end)):
@@ -220,32 +201,29 @@ def without_counter(t):
                 t.leave_out_of_list(at, at + len(form))
 
 
-def functions(t, name):
-    """The functions of a name with a body: the brace that each is in, where it begins, its body and its end, and its parameters."""
-    found = []
-    for at in t.all_at('fn', name):
-        first = t.behind_angles(at + 2)
-        last = t.closing(first)
-        body = t.next(last + 1, '{', ';')
-        if t.at(body, '{'):
-            found.append((t.opening(at), t.item(at), body, t.closing(body) + 1, [t[i][1] for i in range(first, last) if t.at(i, WORD, ':')]))
-    return found
+def function(t, at):
+    """Where the function of a `fn` begins, its body and its end, and its parameters."""
+    first = t.behind_angles(at + 2)
+    last = t.closing(first)
+    body = t.next(last + 1, '{', ';')
+    return t.item(at), body, t.closing(body) + 1, [t[i][1] for i in range(first, last) if t.at(i, WORD, ':')]
 
 
 def uncounted(t, counted):
-    for name in sorted(name for name in counted if functions(t, name)):
-        brace, start, body, end, parameters = functions(t, name)[0]
-        beside = lambda: [it for it in functions(t, name.removesuffix('_counted')) if it[0] == brace]
-        if len(functions(t, name)) > 1 or len(beside()) != 1:
-            t.refuse(body, f'`{name}` is not the counted form of one function beside it')
-        _, _, plain_body, plain_end, plain_parameters = beside()[0]
-        arguments = [text for parameter in parameters for text in (parameter, ',')][:-1]
-        calls = [['{', *by, name, '(', *arguments, ')', *ends, '}'] for by in ([], ['self', '.'], ['Self', '::']) for ends in ([], [';'])]
+    while found := t.all_at('fn', counted):
+        name = t[found[0] + 1][1]
+        start, body, end, parameters = function(t, found[0])
+        beside = [at for at in t.all_at('fn', name.removesuffix('_counted')) if t.opening(at) == t.opening(found[0])]
+        if len(beside) != 1 or beside[0] > start:
+            t.refuse(body, f'`{name}` is not the counted form of one function above it')
+        _, plain_body, plain_end, plain_parameters = function(t, beside[0])
+        call = f'{name} ( {" , ".join(parameters)} )'.split()
+        calls = [['{', *by, *call, *ends, '}'] for by in ([], ['self', '.'], ['Self', '::']) for ends in ([], [';'])]
         if parameters != plain_parameters or t.texts(plain_body, plain_end) not in [*calls, t.texts(body, end)]:
             t.refuse(plain_body, f'more than a call of `{name}` with the same parameters')
         taken = t[body:end]
         t.leave_out(start, end)
-        t[beside()[0][2]:beside()[0][3]] = taken
+        t[plain_body:plain_end] = taken
     for at in t.all_at(counted, '(') + t.all_at(counted, '::'):
         t[at][1] = t[at][1].removesuffix('_counted')
 
@@ -269,18 +247,15 @@ def in_rust(t, module):
 
 
 def with_arrays_last(t):
-    for at in sorted(t.all_at('struct', WORD) + t.all_at('struct', '$', WORD), reverse=True):
-        body = t.next(t.behind_angles(at + 2 + t.at(at + 1, '$')), '{', ';')
+    for at in t.all_at('struct'):
+        body = t.next(at, '{', ';')
         if t.at(body, ';') and ';' in t.texts(at, body):
             t.refuse(at, 'a struct with an array whose fields have no names')
         field, fields = body + 1, []
         while t.at(body, '{') and not t.at(field, '}'):
-            name = field
-            while t.at(name, '#', '['):
-                name = t.closing(name + 1) + 1
-            if t.at(name, WORD, ':'):
-                t[name][1] = f'pub(crate) {t[name][1]}'
-            colon = end = t.next(name, ':')
+            colon = end = t.next(field, ':')
+            if t.at(colon - 2, {'{', ',', ']'}):
+                t[colon - 1][1] = f'pub(crate) {t[colon - 1][1]}'
             while not t.at(end, {',', '}'}):
                 end = t.behind_angles(end) if t.at(end, '<') else t.closing(end) + 1 if t.at(end, OPEN) else end + 1
             fields.append((t.at(colon + 1, '['), [*t[field:end], ['', ',', t[end][2]]]))
@@ -294,7 +269,7 @@ def with_arrays_last(t):
                     t.refuse(i, 'a comment behind a field, where fields change places')
             t[body + 1:field] = [token for _, tokens in ordered for token in tokens]
             head = next(i for i in range(t.item(at), at + 1) if t.at(i, {'pub', 'struct'}))
-            t[head:head + 1] = [[t[head][0], '#[repr(C)]', t[head][2]], ['\n', *t[head][1:]]]
+            t[head][1] = f'#[repr(C)]\n{t[head][1]}'
 
 
 def without_examples(t):
@@ -315,7 +290,7 @@ def refuse_what_is_left(t):
 
 
 def made(crates):
-    """The text of each file, by its path below OUT."""
+    """The text of each file, by its path below arraystring/src/proved."""
     sources, counted, texts = {}, set(), {}
     for crate, module in CRATES.items():
         folder = crates / crate / 'src'
@@ -339,9 +314,9 @@ def made(crates):
 
 
 def main(arguments):
-    here, paths = Path(__file__).resolve().parent, [Path(it) for it in arguments if it != '--check']
-    crates, out = [*paths, *[here.parent / 'crates', here / 'arraystring/src/proved'][len(paths):]]
-    wanted, there = made(crates), {path.relative_to(out): path.read_text(encoding='utf8') for path in out.rglob('*.rs')}
+    here = Path(__file__).resolve().parent
+    out = here / 'arraystring/src/proved'
+    wanted, there = made(here.parent / 'crates'), {path.relative_to(out): path.read_text(encoding='utf8') for path in out.rglob('*.rs')}
     stale = sorted(path for path in {*wanted, *there} if wanted.get(path) != there.get(path))
     if '--check' in arguments:
         for path in stale:
