@@ -1,6 +1,6 @@
 //! The part of a text in a range of bytes, taken out as a `Drain`.
-ghost use Rattle.std.specs.Prelude.{◌≡◌, ◌≢◌, ◌+◌, ◌-◌, ◌^◌, ◌≤◌, min, OnOk, OnErr};
-ghost use Rattle.arraystring_base.specs.Text.{size};
+ghost use Rattle.std.specs.Prelude.{◌≡◌, ◌≢◌, ◌+◌, ◌-◌, ◌^◌, ◌≤◌, ◌++◌, min, IsTrue, OnOk, OnErr};
+ghost use Rattle.arraystring_base.specs.Text.{size, front, back, boundary};
 ghost use Rattle.arraystring_core.specs.RangeEnds.{OfReturnedBounds, saturated_start, saturated_end};
 ghost use Rattle.arraystring_core.specs.Drained.{with_left};
 ghost use Rattle.arraystring_core.specs.Edits.{Makes, draining};
@@ -83,7 +83,47 @@ impl<const N: usize> ArrayString<N> {
         let (from, to) = saturating_ends(range, self.len());
         self.check_part(from, to)?;
         let removed = Drain::new(self.array, self.start + from, to - from);
-        self.remove_range(from as usize, to as usize, steps);
+        self.remove_drained(from as usize, to as usize, steps);
         Ok(removed)
+    }
+
+    /// Removes as `remove_range` does, but by a call where the moves would be long. So the compiler puts the rest of
+    /// `drain` into each of its callers, which then copy the array once or twice less.
+    #[inline]
+    fn remove_drained(&mut self, start: usize, end: usize, steps: &mut Steps)
+        requires order { start ≤ end }
+        requires start { IsTrue (boundary self.old.text start) }
+        requires end { IsTrue (boundary self.old.text end) }
+        requires countable { steps.old.moved ≤ 2 ^ 63 }
+        ensures text { self.new.text ≡ front self.old.text start ++ back self.old.text end }
+        ensures free { start ≡ 0 → steps.new.moved ≡ steps.old.moved }
+        ensures tail_alone { steps.new.moved ≤ steps.old.moved + (size self.old.text - end) }
+        ensures least { start ≢ end
+            → steps.old.moved + min start (size self.old.text - end) ≤ steps.new.moved }
+        ensures counted { steps.old.moved ≤ steps.new.moved }
+        ensures looked { steps.new.looked ≡ steps.old.looked }
+    {
+        if N <= 32 || start == 0 {
+            return self.remove_range(start, end, steps);
+        }
+        self.remove_by_call(start, end, steps);
+    }
+
+    /// Removes as `remove_range` does, in a function that is never inlined.
+    #[inline(never)]
+    fn remove_by_call(&mut self, start: usize, end: usize, steps: &mut Steps)
+        requires order { start ≤ end }
+        requires start { IsTrue (boundary self.old.text start) }
+        requires end { IsTrue (boundary self.old.text end) }
+        requires countable { steps.old.moved ≤ 2 ^ 63 }
+        ensures text { self.new.text ≡ front self.old.text start ++ back self.old.text end }
+        ensures free { start ≡ 0 → steps.new.moved ≡ steps.old.moved }
+        ensures tail_alone { steps.new.moved ≤ steps.old.moved + (size self.old.text - end) }
+        ensures least { start ≢ end
+            → steps.old.moved + min start (size self.old.text - end) ≤ steps.new.moved }
+        ensures counted { steps.old.moved ≤ steps.new.moved }
+        ensures looked { steps.new.looked ≡ steps.old.looked }
+    {
+        self.remove_range(start, end, steps);
     }
 }

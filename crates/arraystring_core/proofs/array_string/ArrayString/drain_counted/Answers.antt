@@ -10,8 +10,8 @@ pub new-removed-requires : goal.new-removed-requires
 new-removed-requires g c =
     (search rules, (search rules, (takable c.self.invariant c.self.view_is _ _ c.in_ok-check_part.ensures).in_array))
 
-pub remove_range-requires : goal.remove_range-requires
-remove_range-requires g c =
+pub remove_drained-requires : goal.remove_drained-requires
+remove_drained-requires g c =
     let part = takable c.self.invariant c.self.view_is _ _ c.in_ok-check_part.ensures in
     (search rules, (part.order, (part.starts, (part.ends, c.requires.moves))))
 
@@ -19,9 +19,9 @@ pub returns-clause-edit : goal.returns-clause-edit
 returns-clause-edit g c =
     let ends = c.saturating_ends-from.ensures in
     let part = takable c.self.invariant c.self.view_is _ _ c.in_ok-check_part.ensures in
-    let made = part.made _ _ c.new-removed.ensures c.remove_range.ensures.text in
+    let made = part.made _ _ c.new-removed.ensures c.remove_drained.ensures.text in
     let high = ends.holds.1 ∙ ap (saturated_end ends.end) c.len.ensures.value in
-    let moved = c.remove_range.ensures in
+    let moved = c.remove_drained.ensures in
     record {
       start = ends.start;
       end = ends.end;

@@ -24,7 +24,23 @@ impl<const N: usize> ArrayString<N> {
         let (from, to) = saturating_ends(range, self.len());
         self.check_part(from, to)?;
         let removed = Drain::new(self.array, self.start + from, to - from);
-        self.remove_range(from as usize, to as usize);
+        self.remove_drained(from as usize, to as usize);
         Ok(removed)
+    }
+
+    /// Removes as `remove_range` does, but by a call where the moves would be long. So the compiler puts the rest of
+    /// `drain` into each of its callers, which then copy the array once or twice less.
+    #[inline]
+    fn remove_drained(&mut self, start: usize, end: usize) {
+        if N <= 32 || start == 0 {
+            return self.remove_range(start, end);
+        }
+        self.remove_by_call(start, end);
+    }
+
+    /// Removes as `remove_range` does, in a function that is never inlined.
+    #[inline(never)]
+    fn remove_by_call(&mut self, start: usize, end: usize) {
+        self.remove_range(start, end);
     }
 }
