@@ -3,7 +3,7 @@
 ghost use Rattle.std.specs.Prelude.{◌≡◌, ◌+◌, ◌-◌, ◌^◌, ◌≤◌, ◌<◌, ◌↔◌, ◌++◌, ◌∷◌, [], ℕ, List, length, slice_index, take, drop, chars, IsTrue, IfSome, IfNone, IsCharBoundary};
 ghost use Rattle.arraystring_base.specs.Text.{bytes, cut, utf8, width, size, boundary};
 
-use crate::leaf::{byte, put_array, put_byte, text_to};
+use crate::leaf::{byte, put_array, text_to};
 use crate::steps::Steps;
 use std::char;
 
@@ -238,22 +238,9 @@ pub fn encode<const N: usize>(ch: char, array: &mut [u8; N], at: usize) -> usize
     let code = ch as u32;
     let all = &mut array[..];
     if code < 0x80 {
-        put_byte(all, at, code as u8);
+        put_array(all, at, [code as u8]);
         return 1;
     }
-    encode_wide(ch, all, at)
-}
-
-/// Writes the UTF-8 of a character that is not ASCII. The compiler inlines it where it serves: a cold function only
-/// calls it.
-#[tactic(auto, unfolding(crate::specs::Text::width, crate::specs::Text::utf8))]
-fn encode_wide(ch: char, all: &mut [u8], at: usize) -> usize
-    requires room { at + width ch ≤ length all.old }
-    requires wide { 0x80 ≤ ch }
-    ensures width { result ≡ width ch }
-    ensures bytes { all.new ≡ take at all.old ++ (utf8 ch ++ drop (at + width ch) all.old) }
-{
-    let code = ch as u32;
     let last = (0x80 + code % 64) as u8;
     if code < 0x800 {
         let first = (0xC0 + code / 64) as u8;
