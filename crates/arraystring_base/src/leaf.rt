@@ -5,7 +5,7 @@
 //! What is public here reads, lends or turns case. What writes or moves is for `moves` and `utf8`: a string writes by
 //! `encode`, `write_over` and `write_by_call`, and moves by `shift` and `shift_by_call`, which count. Callers of
 //! `arraystring` need none of this.
-ghost use Rattle.std.specs.Prelude.{◌≡◌, ◌+◌, ◌-◌, ◌<◌, ◌≤◌, ◌++◌, ◌∷◌, IsCharBoundary, length, map, take, drop, slice_index};
+ghost use Rattle.std.specs.Prelude.{◌≡◌, ◌+◌, ◌-◌, ◌<◌, ◌≤◌, ◌++◌, IsCharBoundary, length, map, take, drop, slice_index};
 ghost use Rattle.std.specs.Char.{to_ascii_uppercase, to_ascii_lowercase};
 
 use crate::moves::{move_ends, shift};
@@ -23,15 +23,6 @@ pub fn byte(bytes: &[u8], at: usize) -> u8
     ensures { result ≡ slice_index bytes.now at }
 {
     bytes[at]
-}
-
-/// Writes one byte.
-#[inline(always)]
-pub(crate) fn put_byte(all: &mut [u8], at: usize, byte: u8)
-    requires { at < length all.old }
-    ensures { all.new ≡ take at all.old ++ (byte ∷ drop (at + 1) all.old) }
-{
-    all[at] = byte;
 }
 
 /// Writes `K` bytes, which are no vector, from `at` on.

@@ -35,7 +35,12 @@ pub fn shift<const N: usize>(
     ensures looked { steps.new.looked ≡ steps.old.looked }
 {
     if from != to {
-        move_run(array, from, to, len);
+        let all = &mut array[..];
+        if N < 16 || len < 16 {
+            move_short_run::<N>(all, from, to, len);
+        } else {
+            move_long_run::<N>(all, from, to, len);
+        }
         steps.count_moves(len);
     }
 }
@@ -64,22 +69,6 @@ pub fn shift_by_call<const N: usize>(
 {
     move_bytes(array, from, to, len);
     steps.count_run(from, to, len);
-}
-
-/// Moves as `shift` does, and counts nothing. No test is made for more bytes than an array of `N` bytes can have.
-#[inline(always)]
-fn move_run<const N: usize>(array: &mut [u8; N], from: usize, to: usize, len: usize)
-    requires source { from + len ≤ N }
-    requires target { to + len ≤ N }
-    ensures { array.new
-        ≡ take to array.old ++ (take len (drop from array.old) ++ drop (to + len) array.old) }
-{
-    let all = &mut array[..];
-    if N < 16 || len < 16 {
-        move_short_run::<N>(all, from, to, len);
-    } else {
-        move_long_run::<N>(all, from, to, len);
-    }
 }
 
 /// Moves `len` bytes: fewer than 16, and at most `N`. The branches for sizes above `N` are left out.

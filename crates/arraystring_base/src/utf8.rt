@@ -3,7 +3,7 @@
 ghost use Rattle.std.specs.Prelude.{◌≡◌, ◌+◌, ◌-◌, ◌^◌, ◌≤◌, ◌<◌, ◌↔◌, ◌++◌, ◌∷◌, [], ℕ, List, length, slice_index, take, drop, chars, IsTrue, IfSome, IfNone, IsCharBoundary};
 ghost use Rattle.arraystring_base.specs.Text.{bytes, cut, utf8, width, size, boundary};
 
-use crate::leaf::{byte, put_array, put_byte, text_to};
+use crate::leaf::{byte, put_array, text_to};
 use crate::steps::Steps;
 use std::char;
 
@@ -238,7 +238,7 @@ pub fn encode<const N: usize>(ch: char, array: &mut [u8; N], at: usize) -> usize
     let code = ch as u32;
     let all = &mut array[..];
     if code < 0x80 {
-        put_byte(all, at, code as u8);
+        put_array(all, at, [code as u8]);
         return 1;
     }
     encode_wide(ch, all, at)

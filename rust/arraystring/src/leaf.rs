@@ -58,19 +58,6 @@ pub(crate) fn byte(bytes: &[impl Held], at: usize) -> u8 {
     unsafe { bytes.get_unchecked(at) }.value()
 }
 
-/// Writes one byte.
-///
-/// ```text
-/// requires { at < length all.old }
-/// ensures { all.new ≡ take at all.old ++ (byte ∷ drop (at + 1) all.old) }
-/// ```
-#[inline(always)]
-pub(crate) fn put_byte(all: &mut [Place], at: usize, byte: u8) {
-    required!(at < all.len());
-    // SAFETY: the index is within, as is required.
-    *unsafe { all.get_unchecked_mut(at) } = Place::new(byte);
-}
-
 /// Writes `K` bytes, which are no vector, from `at` on.
 ///
 /// ```text

@@ -10,7 +10,7 @@ ghost use Rattle.arraystring_core.specs.Taken.{Takes, Gives, joined, joined_piec
 use crate::ArrayString;
 use crate::well_formed::read_utf8;
 use arraystring_base::error::{Error, OutOfBounds, Utf8};
-use arraystring_base::utils::{truncate_str, write_by_call};
+use arraystring_base::utils::truncate_str;
 use std::str;
 
 impl<const N: usize> ArrayString<N> {
@@ -26,13 +26,7 @@ impl<const N: usize> ArrayString<N> {
         if string.len() > Self::capacity() as usize {
             return Err(OutOfBounds);
         }
-        let mut array = [0; N];
-        write_by_call(&mut array, 0, string.as_bytes());
-        Ok(ArrayString {
-            array,
-            start: 0,
-            size: string.len() as u8,
-        })
+        Ok(Self::from_str_unchecked(string))
     }
 
     /// Creates a string from the longest prefix of whole characters of `string` that fits.
