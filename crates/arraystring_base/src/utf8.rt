@@ -71,8 +71,8 @@ fn last_boundary(text: &str, limit: usize, steps: &mut Steps) -> usize
 {
     let all = text.as_bytes();
     let mut end = limit;
-    // The first byte of a text continues no character, and at most three bytes in a row do. The bound is for
-    // the compiler, which unrolls the loop.
+    // The first byte of a text continues no character, and at most three bytes in a row do. So the second test is
+    // always true here. It tells the compiler that there are at most three turns, and the loop is unrolled.
     while continues(look(all, end, steps)) && limit - end < 3 {
         end -= 1;
     }
@@ -244,8 +244,8 @@ pub fn encode<const N: usize>(ch: char, array: &mut [u8; N], at: usize) -> usize
     encode_wide(ch, all, at)
 }
 
-/// Writes the UTF-8 of a character that is not ASCII. The compiler inlines it where it serves: a cold function only
-/// calls it.
+/// Writes the UTF-8 of a character that is not ASCII. No attribute says whether it is inlined, because the compiler
+/// does so where it serves, and lets a cold function call it.
 #[tactic(auto, unfolding(crate::specs::Text::width, crate::specs::Text::utf8))]
 fn encode_wide(ch: char, all: &mut [u8], at: usize) -> usize
     requires room { at + width ch ≤ length all.old }

@@ -31,7 +31,7 @@ pub enum Error {
 }
 
 impl Error {
-    /// The refusal of the core.
+    /// The error of this crate for one of the core.
     #[inline(always)]
     pub(crate) const fn of(refusal: by_core::Error) -> Self {
         match refusal {
@@ -63,7 +63,7 @@ macro_rules! part {
         pub struct $part;
 
         impl $part {
-            /// The refusal of the core.
+            /// The error of this crate for one of the core.
             #[inline(always)]
             pub(crate) const fn of(_refusal: by_core::$part) -> Self {
                 $part
