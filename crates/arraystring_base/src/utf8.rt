@@ -9,6 +9,13 @@ use std::char;
 
 /// Returns whether `at` is a boundary of `text`: the size of one of its prefixes of whole characters.
 /// Returns false if `at` is past the length of the text.
+///
+/// # Examples
+///
+/// ```
+/// assert!(utils::is_boundary("aé", 1) && utils::is_boundary("aé", 3));
+/// assert!(!utils::is_boundary("aé", 2)); // inside `é`
+/// ```
 #[inline]
 pub fn is_boundary(text: &str, at: usize) -> bool
     ensures { result ≡ boundary (chars text.now) at }
@@ -18,6 +25,13 @@ pub fn is_boundary(text: &str, at: usize) -> bool
 
 /// Returns the longest prefix of whole characters of `text` that takes at most `size` bytes,
 /// borrowed from the text.
+///
+/// # Examples
+///
+/// ```
+/// assert_eq!(utils::truncate_str("aéb", 3), "aé");
+/// assert_eq!(utils::truncate_str("aéb", 2), "a"); // not half of `é`
+/// ```
 #[inline]
 pub fn truncate_str(text: &str, size: u8) -> &str
     ensures { result.now ≡ bytes (cut (chars text.now) size) }
@@ -228,6 +242,14 @@ fn char_before_end(text: &str, steps: &mut Steps) -> (usize, char)
 /// # Precondition
 ///
 /// `at` plus the number of bytes of the UTF-8 of `ch` must be at most `N`.
+///
+/// # Examples
+///
+/// ```
+/// let mut array = *b"abcd";
+/// assert_eq!(utils::encode('é', &mut array, 1), 2);
+/// assert_eq!(array, [b'a', 0xC3, 0xA9, b'd']);
+/// ```
 #[inline(always)]
 #[tactic(auto, unfolding(crate::specs::Text::width, crate::specs::Text::utf8))]
 pub fn encode<const N: usize>(ch: char, array: &mut [u8; N], at: usize) -> usize

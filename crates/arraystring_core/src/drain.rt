@@ -73,6 +73,13 @@ impl<const N: usize> Drain<N> {
     }
 
     /// Returns the characters that are left as a `&str`, borrowed without a copy.
+    ///
+    /// # Examples
+    ///
+    /// ```
+    /// let mut drain = ArrayString::<8>::from("abc").drain(..).unwrap();
+    /// assert_eq!((drain.next(), drain.as_str()), (Some('a'), "bc"));
+    /// ```
     #[inline]
     pub fn as_str(&self) -> &str
         ensures bytes { result.now ≡ bytes self.now.left }
