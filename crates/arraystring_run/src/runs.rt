@@ -173,7 +173,7 @@ pub fn run_both<const N: usize, const M: usize>(
     ))
 }
 
-/// The first tight position up to `position`, where `first` is that of the positions before it.
+/// The first tight position, given whether the one at `position` is tight.
 fn earlier_position(first: Option<usize>, is_tight: bool, position: usize) -> Option<usize>
     ensures { result ≡ earlier_of first (if is_tight then Some position else None) }
 {
