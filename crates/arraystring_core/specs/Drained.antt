@@ -25,7 +25,7 @@ abbrev pub with_left : Result Drained Error → Result (List ℕ) Error
 with_left (Ok d) = Ok d.left
 with_left (Err e) = Err e
 
--- the end from which a character is taken
+-- the end of a drain from which a call takes a character: `Front` for `next`, `Back` for `next_back`
 pub data End : Type 0 where
   Front : End
   Back : End

@@ -96,7 +96,7 @@ part! {
     OutOfBounds, "larger than the capacity"
 }
 
-/// Implements what `?` makes of an error.
+/// Implements `From` of an error, by which `?` converts it.
 macro_rules! converted {
     ($($error:ty => $made:ident $(:: $case:ident)?;)*) => {$(
         impl From<$error> for $made {

@@ -212,7 +212,7 @@ impl<const N: usize> Write for Prefix<'_, N> {
 impl<const N: usize> Drop for Row<'_, N> {
     #[inline]
     fn drop(&mut self) {
-        // The text ended there, so it is no index inside a character, and nothing is refused.
+        // The text ended at this length before, so it is a boundary, and nothing is refused.
         let _ = self.string.truncate(self.len);
     }
 }
