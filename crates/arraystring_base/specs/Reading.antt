@@ -19,7 +19,8 @@ pair_character high low = 0x1_0000 + ((high - 0xD800) * 0x400 + (low - 0xDC00))
 unfoldable pub single_item : ℕ → Unit16
 single_item unit = if nat_le 0xD800 unit && nat_lt unit 0xE000 then Lone unit else Char unit
 
--- a unit before items that are read already
+-- what a unit and the items behind it are read as: the character of a pair, if the unit is a high surrogate and the first item a lone
+-- low one, and else the item of the unit before these items
 unfoldable pub read_before : ℕ → List Unit16 → List Unit16
 read_before unit [] = single_item unit ∷ []
 read_before unit (Char c ∷ items) = single_item unit ∷ Char c ∷ items

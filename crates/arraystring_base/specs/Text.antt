@@ -72,8 +72,8 @@ pub record IsLongestFitting (p t : List ℕ) (n : ℕ) : Type 0 where
   pub fits : size p ≤ n
   pub longest : (q : List ℕ) → IsPrefix q t → size q ≤ n → IsPrefix q p
 
--- a comes before b: b goes on where a ends, or has the greater character where they first differ, which is the order of `str`
--- (`order_of_bytes`, `order_of_texts`)
+-- a comes before b in the order of `str` (`order_of_bytes`, `order_of_texts`): a is a prefix of b and shorter, or b has the greater
+-- character where they first differ
 abbrev pub IsBefore : List ℕ → List ℕ → Type 0
 IsBefore a b =
     ((c : ℕ) × (rest : List ℕ) × (b ≡ a ++ c ∷ rest))

@@ -52,7 +52,8 @@ pub record IsReading (units : List ℕ) (items : List Unit16) : Type 0 where
   pub joined : units ≡ joined_units items
   pub apart : NoPairApart items
 
--- the prefix of characters that fits, and what comes after it: nothing, a lone surrogate, or a character
+-- where the taking of items ends: the prefix of characters that fits, and what comes after it, which is nothing (`End`), a lone
+-- surrogate (`Fault`), or a character (`Full`)
 pub data Stop : Type 0 where
   End : List ℕ → Stop
   Fault : List ℕ → Stop
@@ -66,7 +67,7 @@ StopsAt items n (Fault prefix) =
 StopsAt items n (Full prefix) =
     (c : ℕ) × (rest : List Unit16) × (items ≡ map Char prefix ++ Char c ∷ rest) × (size prefix ≤ n) × (n < size prefix + width c)
 
--- the same stop, with a character before the prefix
+-- the same kind of stop, with a character put before its prefix
 abbrev pub stop_behind : ℕ → Stop → Stop
 stop_behind c (End prefix) = End (c ∷ prefix)
 stop_behind c (Fault prefix) = Fault (c ∷ prefix)

@@ -16,7 +16,7 @@ pub record Drained : Type 0 where
 abbrev pub drained : Stored → ℕ → Drained
 drained removed i = record { left = back removed.text i; yielded = front removed.text i; spare = removed.spare }
 
--- the removed text, given back
+-- the removed text, put together again from what was given of it and what is left
 abbrev pub removed_of : Drained → Stored
 removed_of d = record { text = d.yielded ++ d.left; spare = d.spare }
 
@@ -25,7 +25,7 @@ abbrev pub with_left : Result Drained Error → Result (List ℕ) Error
 with_left (Ok d) = Ok d.left
 with_left (Err e) = Err e
 
--- the end from which a character is taken
+-- the end of a drain from which a call takes a character: `Front` for `next`, `Back` for `next_back`
 pub data End : Type 0 where
   Front : End
   Back : End

@@ -21,7 +21,7 @@ GivesPrefix (End prefix) result = IsOkAnd result (λ string. string.text ≡ pre
 GivesPrefix (Fault prefix) result = IsErr result
 GivesPrefix (Full prefix) result = IsOkAnd result (λ string. string.text ≡ prefix)
 
--- the stop of a prefix, by the item after it
+-- the stop of a prefix, of which the item after it decides the kind: none, a lone surrogate, or a character, which did not fit
 abbrev pub stop_at : Option Unit16 → List ℕ → Stop
 stop_at None prefix = End prefix
 stop_at (Some (Lone unit)) prefix = Fault prefix

@@ -136,6 +136,12 @@ impl<const N: usize> ArrayString<N> {
 
     /// Returns the capacity in bytes: the lesser of `N` and 255. So a string whose `N` is over 255
     /// takes more memory and holds no more.
+    ///
+    /// # Examples
+    ///
+    /// ```
+    /// assert_eq!((ArrayString::<23>::capacity(), ArrayString::<300>::capacity()), (23, 255));
+    /// ```
     #[inline]
     pub const fn capacity() -> u8
         ensures { result ≡ cap N }
@@ -147,6 +153,12 @@ impl<const N: usize> ArrayString<N> {
     ///
     /// It is a `u8`, and so is a sum of such lengths. Add `usize::from(string.len())`, which does not
     /// overflow.
+    ///
+    /// # Examples
+    ///
+    /// ```
+    /// assert_eq!(ArrayString::<4>::from("aé").len(), 3); // `é` takes two bytes
+    /// ```
     #[tactic(auto, using(crate::proofs::StoredLaws::opened_size))]
     #[inline]
     pub const fn len(&self) -> u8

@@ -58,7 +58,7 @@ impl<const N: usize> Model for Drain<N> {
 }
 
 impl<const N: usize> Drain<N> {
-    /// The `size` bytes from `start` on are left.
+    /// Returns a drain of which the `size` bytes of the array from `start` on are left.
     #[inline(always)]
     pub(crate) fn new(array: [u8; N], start: u8, size: u8) -> Self
         requires { IsStored N array start size }
@@ -73,6 +73,13 @@ impl<const N: usize> Drain<N> {
     }
 
     /// Returns the characters that are left as a `&str`, borrowed without a copy.
+    ///
+    /// # Examples
+    ///
+    /// ```
+    /// let mut drain = ArrayString::<8>::from("abc").drain(..).unwrap();
+    /// assert_eq!((drain.next(), drain.as_str()), (Some('a'), "bc"));
+    /// ```
     #[inline]
     pub fn as_str(&self) -> &str
         ensures bytes { result.now ≡ bytes self.now.left }

@@ -6,7 +6,8 @@ ghost use Rattle.arraystring_core.specs.RangeEnds.{OfReturnedBounds, saturated_s
 
 use std::ops::{Bound, RangeBounds};
 
-/// The ends in a text of `len` bytes. An excluded start and an included end add 1, and stop at 255.
+/// The ends of a range in a text of `len` bytes. An excluded start and an included end count as the next index, but
+/// as 255 at most, so that both ends are a `u8` again.
 #[inline]
 pub(crate) fn saturating_ends<R: RangeBounds<u8> + Drop>(range: R, len: u8) -> (u8, u8)
     ensures { OfReturnedBounds R.has_bounds R.start_bound R.end_bound range (λ start end.
@@ -25,7 +26,8 @@ pub(crate) fn saturating_ends<R: RangeBounds<u8> + Drop>(range: R, len: u8) -> (
     (start, end)
 }
 
-/// The ends in a text of `len` bytes. An excluded start and an included end add 1, also to 255.
+/// The ends of a range in a text of `len` bytes. An excluded start and an included end count as the next index, also
+/// as 256, which is past every text.
 #[inline]
 pub(crate) fn plain_ends<R: RangeBounds<u8> + Drop>(range: R, len: u8) -> (usize, usize)
     ensures { OfReturnedBounds R.has_bounds R.start_bound R.end_bound range (λ start end.

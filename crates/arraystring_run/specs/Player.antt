@@ -21,7 +21,8 @@ IsPlayed input n old new = (cs : List Command) × AreLinesOf (lines input) cs ×
 abbrev pub IsPartPlayed : List ℕ → ℕ → Option (List ℕ) → Option (List ℕ) → Type 0
 IsPartPlayed input n old new = (cs : List Command) × AreLinesOf (lines input) cs × AppendsPrefix old new (run_printed cs n)
 
--- what came of a script that was to be played at the capacity n, as `play` says it
+-- what the result `played` of `play` says of a script and of the output, at the capacity n: that the script was played; which line is
+-- bad; that a fault other than `Write` wrote nothing; and that `Write` wrote a prefix
 pub record IsOutcome (n : ℕ) (given old new : Option (List ℕ)) (SameOutput : Type 0) (played : Result (Unit {0}) PlayFault)
     : Type 0 where
   pub whole : OnOk played (IfSome given (λ input. IsPlayed input n old new))

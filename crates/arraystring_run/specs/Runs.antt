@@ -47,7 +47,7 @@ reply_of view (Err e) = Refused e
 abbrev pub apply : {A : Type 0} → (A → ReplyView) → Edit A → List ℕ → Effect
 apply view row t = reply_and_text (reply_of view (result_of row)) (text_of row t)
 
--- the effect on t of a row that returns nothing: its reply is `Done`
+-- the effect on t of a row whose result is the unit `()`: its reply is `Done`
 abbrev pub apply_unit : Edit (Unit {0}) → List ℕ → Effect
 apply_unit row t = apply (λ _. Done) row t
 

@@ -30,8 +30,8 @@ pub enum PlayFault {
 /// How many bytes are read at a time.
 const CHUNK: usize = 8192;
 
-/// An array of more bytes fits into no memory. The compiler decides this test for each `N` that a
-/// program names.
+/// The greatest `N` of which a text is made, because no memory can hold an array of more bytes. `N` is a constant, so
+/// the compiler decides the test for each `N` that a program names.
 const LARGEST: usize = usize::MAX / 4;
 
 /// Plays a script on the empty text. It does this in order:
@@ -108,7 +108,7 @@ fn play_commands<const N: usize, O: Write>(
     }
 }
 
-/// Reads to the end; a refused growth and a failed read are different faults.
+/// Reads to the end. It is no `read_to_end` of std, because that does not tell a refused growth from a failed read.
 fn read_all<I: Read>(alloc: Global, input: &mut I) -> Result<Vec<u8>, PlayFault>
     ensures end { OnOk result (IsAtEnd (I.remaining input.new)) }
     ensures whole { IfOk result (λ v. IfSome (I.remaining input.old) (λ given. v.items ≡ given)) }

@@ -48,7 +48,8 @@ pub fn run<const N: usize>(
 {
     text_fits(text);
     let mut replies = Vec::with_capacity(alloc, commands.len())?;
-    // the proof knows the size of a reply only from a list with room for one, and `fill` needs it
+    // For no commands `fill` is not called: it needs the size of a reply, which the prover knows only from a list that has
+    // room for one.
     let mut first_tight = None;
     if !commands.is_empty() {
         first_tight = fill(text, commands, &mut replies);
@@ -85,7 +86,7 @@ fn fill<const N: usize>(
 }
 
 /// Executes a command, and adds the reply to a list that has room for it and is not moved. Returns
-/// whether the command is tight.
+/// whether the command is tight, as `Outcome` explains it.
 fn add_reply<const N: usize>(
     text: &mut ArrayString<N>,
     command: &Command<'_>,
@@ -156,7 +157,8 @@ pub fn run_both<const N: usize, const M: usize>(
     text_fits(second);
     let mut second_replies = Vec::with_capacity(alloc, commands.len())?;
     let first_outcome = run(alloc, first, commands)?;
-    // the proof knows the size of a reply only from a list with room for one, and `fill` needs it
+    // For no commands `fill` is not called: it needs the size of a reply, which the prover knows only from a list that has
+    // room for one.
     let mut first_tight = None;
     if !commands.is_empty() {
         first_tight = fill(second, commands, &mut second_replies);

@@ -37,8 +37,8 @@ pub(crate) fn parse_script(alloc: Global, script: &[u8]) -> Result<Vec<Command<'
     Ok(commands)
 }
 
-/// The command of the line from `start` to `end`. `text` is the whole script as a text, if it is UTF-8. Then
-/// no line is tested for UTF-8. Otherwise each line is.
+/// The command of the line from `start` to `end`. `text` is the whole script as a text, if it is UTF-8, so that no
+/// line has to be tested. If the script is not UTF-8, each line is tested by itself.
 #[inline(always)]
 fn command_between<'a>(
     script: &'a [u8],

@@ -38,14 +38,15 @@ fn size_of(given: &str) -> usize
     given.len()
 }
 
-/// Whether there is no room for so many bytes more.
+/// Whether `added` bytes more would not fit.
 fn lacks_room<const N: usize>(text: &ArrayString<N>, added: usize) -> bool
     ensures { result ≡ nat_lt (cap N) (size text.now.text + added) }
 {
     added > (ArrayString::<N>::capacity() - text.len()) as usize
 }
 
-/// Whether a range is in the text, and there is no room for so many bytes in its place.
+/// Whether the text would not fit with `given` bytes in place of the range from `start` to `end`. Returns false if the
+/// range is reversed or not in the text, because another cause comes first then.
 fn lacks_room_for_range<const N: usize>(
     text: &ArrayString<N>,
     start: u8,

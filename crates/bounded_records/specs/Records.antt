@@ -29,7 +29,7 @@ username_field bs = take 21 bs
 abbrev pub role_field : List ℕ → List ℕ
 role_field bs = drop 21 bs
 
--- the count of a field: its first byte
+-- how many bytes a field counts, which its first byte says
 abbrev pub count : List ℕ → ℕ
 count field = slice_index field 0
 

@@ -171,7 +171,7 @@ fn text_of<const N: usize>(field: &[u8]) -> Result<ArrayString<N>, RecordFault>
     match ArrayString::try_from_utf8(&field[1..end]) {
         Ok(text) => Ok(text),
         Err(arraystring::Error::Utf8) => Err(RecordFault::Utf8),
-        // All counted bytes fit, and none is read as UTF-16.
+        // The caller has tested that the counted bytes fit, and a constructor from UTF-8 returns no `Utf16`.
         Err(arraystring::Error::OutOfBounds | arraystring::Error::Utf16) => unreachable!(),
     }
 }

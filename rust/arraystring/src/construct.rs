@@ -25,7 +25,7 @@ impl<const N: usize> ArrayString<N> {
         ArrayString(core_of::ArrayString::new())
     }
 
-    /// The string of `text`. So do `parse` and `try_from`.
+    /// The string of `text`. `parse` and `try_from` make the same.
     ///
     /// # Errors
     ///
@@ -79,7 +79,8 @@ impl<const N: usize> ArrayString<N> {
         let (mut array, mut bytes): (&mut [Place], _) = (&mut made.0.array, text.as_bytes());
         while let ([place, places @ ..], [byte, others @ ..]) = (array, bytes) {
             *place = Place::new(*byte);
-            // So many bytes of the text are there, which fits by the test above. Behind the loop it is all of it.
+            // The size grows with the bytes that are written, and stays within the capacity by the test above. Behind the loop all bytes
+            // of the text are written, so the string ends with a whole character.
             made.0.size += 1;
             (array, bytes) = (places, others);
         }

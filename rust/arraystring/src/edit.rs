@@ -4,7 +4,7 @@ use core::ops::{Bound, RangeBounds};
 
 use crate::{ArrayString, Drain, Error, OutOfBounds, Utf8};
 
-/// An index of the core. One that is none is past each text.
+/// An index as the core takes it, which is a `u8`. No text has more than 255 bytes, so an index that is no `u8` is past each of them.
 #[inline(always)]
 fn index(at: usize) -> Result<u8, Error> {
     u8::try_from(at).map_err(|_| Error::OutOfBounds)
@@ -26,7 +26,8 @@ fn ends(range: impl RangeBounds<usize>, len: usize) -> (usize, usize) {
     (start, end)
 }
 
-/// The rest of a text behind whole characters. (An index would leave a panic in the program, though it never comes to it.)
+/// The text behind its first `taken` bytes, which are whole characters. (`&text[taken..]` is the same, but would leave in the program a
+/// panic to which it never comes.)
 #[inline(always)]
 fn rest(text: &str, taken: usize) -> &str {
     text.get(taken..).unwrap_or_default()

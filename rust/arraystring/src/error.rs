@@ -31,7 +31,7 @@ pub enum Error {
 }
 
 impl Error {
-    /// The refusal of the core.
+    /// The error of this crate for one of the core.
     #[inline(always)]
     pub(crate) const fn of(refusal: by_core::Error) -> Self {
         match refusal {
@@ -63,7 +63,7 @@ macro_rules! part {
         pub struct $part;
 
         impl $part {
-            /// The refusal of the core.
+            /// The error of this crate for one of the core.
             #[inline(always)]
             pub(crate) const fn of(_refusal: by_core::$part) -> Self {
                 $part
@@ -96,7 +96,7 @@ part! {
     OutOfBounds, "larger than the capacity"
 }
 
-/// Implements what `?` makes of an error.
+/// Implements `From` of an error, by which `?` converts it.
 macro_rules! converted {
     ($($error:ty => $made:ident $(:: $case:ident)?;)*) => {$(
         impl From<$error> for $made {

@@ -6,7 +6,7 @@
 use core::mem::MaybeUninit;
 use core::{ptr, slice};
 
-/// Whether each access is tested all the same.
+/// Whether each access is tested, although the proof says of each that it is right.
 pub(crate) const IS_TESTED: bool = cfg!(any(debug_assertions, feature = "checked", not(target_pointer_width = "64")));
 
 /// Asserts what the source of a function requires, where accesses are tested.
@@ -21,8 +21,8 @@ macro_rules! required {
 /// A byte of the array of a string. It has no value before one is written.
 pub(crate) type Place = MaybeUninit<u8>;
 
-/// A place of a new array. Where accesses are tested it has a value all the same: there a wrong index panics, perhaps when the size has
-/// risen and nothing is written yet.
+/// What a place of a new array holds: no value. It is 0 where accesses are tested, because a wrong index panics there, perhaps after the
+/// size has risen and before the byte is written. The string that this leaves has a value in each place of its text.
 pub(crate) const UNWRITTEN: Place = if IS_TESTED { Place::new(0) } else { Place::uninit() };
 
 /// A byte, or a place that was written. It is laid out as a `u8`.
@@ -67,8 +67,8 @@ pub(crate) fn byte(bytes: &[impl Held], at: usize) -> u8 {
 #[inline(always)]
 pub(crate) fn put_array<const K: usize>(all: &mut [Place], at: usize, bytes: [u8; K]) {
     required!(at <= all.len(), K <= all.len() - at);
-    // SAFETY: the run is within, as is required. A byte is laid out as a place. (By `put_bytes` and `map` rustc would not inline
-    // `encode_wide` in another crate, since it has a call then.)
+    // SAFETY: the run is within, as is required. A byte is laid out as a place. (It is no `put_bytes` of mapped bytes,
+    // because `encode_wide` would have a call then, and rustc would not inline it in another crate.)
     unsafe { all.as_mut_ptr().add(at).cast::<[u8; K]>().write(bytes) };
 }
 
@@ -85,7 +85,7 @@ pub(crate) const fn part(bytes: &[Place], start: usize, len: usize) -> &[u8] {
     unsafe { slice::from_raw_parts(bytes.as_ptr().add(start).cast(), len) }
 }
 
-/// The same, to write.
+/// The bytes from `start` to `end`, borrowed to be written.
 #[inline(always)]
 pub(crate) fn part_mut(bytes: &mut [Place], start: usize, end: usize) -> &mut [u8] {
     required!(start <= end, end <= bytes.len());

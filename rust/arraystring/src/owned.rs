@@ -29,7 +29,7 @@ macro_rules! made_of {
 
 made_of!(String, &String, Box<str>, Cow<'_, str>);
 
-/// Implements a copy of the text.
+/// Implements that one of std's texts is made of a string, as a copy of its text.
 macro_rules! copied {
     ($($string:ty => $copy:ty: $borrowed:ident;)*) => {$(
         impl<const N: usize> From<$string> for $copy {

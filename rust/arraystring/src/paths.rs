@@ -6,7 +6,7 @@ use std::path::{Path, PathBuf};
 
 use crate::ArrayString;
 
-/// Implements that the text is borrowed as a name, and copied as one.
+/// Implements that a string is borrowed as a name of the operating system, and copied into an owned one.
 macro_rules! names {
     ($($name:ty => $owned:ty;)*) => {$(
         impl<const N: usize> AsRef<$name> for ArrayString<N> {

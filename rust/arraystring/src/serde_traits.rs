@@ -42,7 +42,7 @@ impl<const N: usize> Visitor<'_> for Whole<N> {
     }
 }
 
-/// The text that bytes are, for a format without texts.
+/// The text whose UTF-8 the bytes are. A format that has no texts gives bytes in their place.
 pub(crate) fn text_of<'a, 'de, E: Error>(bytes: &'a [u8], visitor: &impl Visitor<'de>) -> Result<&'a str, E> {
     from_utf8(bytes).map_err(|_| E::invalid_value(Unexpected::Bytes(bytes), visitor))
 }

@@ -80,8 +80,8 @@ impl<const N: usize> ArrayString<N> {
     /// assert_eq!([0u8; Name::CAPACITY].len(), 8);
     /// ```
     pub const CAPACITY: usize = {
-        // Each call that makes a string asks for this first, so that rustc shows the line of the caller. So do `len`, `as_str` and `as_bytes`:
-        // a library that only reads such a string would compile otherwise, and no program that makes one.
+        // Each call that makes a string names this constant first, so that the error of rustc shows the line of the caller. `len`, `as_str`
+        // and `as_bytes` name it, too, because a library that only reads strings would else compile for a capacity that no string has.
         assert!(
             N <= 255,
             "an `ArrayString` has at most 255 bytes: for more take that of arrayvec, or the `String` of heapless or std"

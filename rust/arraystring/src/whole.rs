@@ -162,12 +162,13 @@ impl<const N: usize> ArrayString<N> {
     }
 }
 
-/// What is added to a string. It is taken back on drop, so also where a `Display` or an iterator panics.
+/// What is added to a string for now. Its `drop` takes it back, so that nothing of it is left where something is refused, or where a
+/// `Display` or an iterator panics. Only `keep` makes it stay.
 struct Row<'a, const N: usize> {
     string: &'a mut ArrayString<N>,
     /// The length of the text before it.
     len: usize,
-    /// Whether no piece was refused or cut: a `Display` may pass over that, and be `Ok`.
+    /// Whether no piece was refused or cut so far. It is noted here, because a `Display` may pass over an error, and return `Ok`.
     is_whole: bool,
 }
 
@@ -175,13 +176,13 @@ struct Row<'a, const N: usize> {
 struct Prefix<'a, const N: usize>(Row<'a, N>);
 
 impl<'a, const N: usize> Row<'a, N> {
-    /// A row without text behind a string.
+    /// Begins a row behind the text of a string. It has no text yet.
     #[inline]
     fn behind(string: &'a mut ArrayString<N>) -> Self {
         Row { len: string.len(), string, is_whole: true }
     }
 
-    /// Leaves the row in the string.
+    /// Makes the row stay in the string. It is forgotten, so its `drop` does not run.
     #[inline]
     fn keep(self) {
         mem::forget(self);
@@ -211,7 +212,7 @@ impl<const N: usize> Write for Prefix<'_, N> {
 impl<const N: usize> Drop for Row<'_, N> {
     #[inline]
     fn drop(&mut self) {
-        // The text ended there, so it is no index inside a character, and nothing is refused.
+        // The text ended at this length before, so it is a boundary, and nothing is refused.
         let _ = self.string.truncate(self.len);
     }
 }

@@ -20,6 +20,14 @@ enum Case {
 
 impl<const N: usize> ArrayString<N> {
     /// Changes a..z to A..Z. All other characters stay as they are.
+    ///
+    /// # Examples
+    ///
+    /// ```
+    /// let mut string = ArrayString::<8>::from("a1é");
+    /// string.make_ascii_uppercase();
+    /// assert_eq!(string.as_str(), "A1é"); // `é` is no ASCII
+    /// ```
     #[tactic(auto, using(crate::proofs::AsciiLemmas::whole))]
     #[inline]
     pub fn make_ascii_uppercase(&mut self)
@@ -29,6 +37,14 @@ impl<const N: usize> ArrayString<N> {
     }
 
     /// Changes A..Z to a..z. All other characters stay as they are.
+    ///
+    /// # Examples
+    ///
+    /// ```
+    /// let mut string = ArrayString::<8>::from("A1É");
+    /// string.make_ascii_lowercase();
+    /// assert_eq!(string.as_str(), "a1É"); // `É` is no ASCII
+    /// ```
     #[tactic(auto, using(crate::proofs::AsciiLemmas::whole))]
     #[inline]
     pub fn make_ascii_lowercase(&mut self)
@@ -45,6 +61,14 @@ impl<const N: usize> ArrayString<N> {
     ///   `RangeInclusive` that was iterated to its end.
     /// - The range must not end before it starts.
     /// - Both ends, read as in `slice`, must be boundaries.
+    ///
+    /// # Examples
+    ///
+    /// ```
+    /// let mut string = ArrayString::<8>::from("abc");
+    /// string.make_ascii_uppercase_in(..1);
+    /// assert_eq!(string.as_str(), "Abc");
+    /// ```
     #[inline]
     pub fn make_ascii_uppercase_in<R: RangeBounds<u8> + Drop>(&mut self, range: R)
         requires known { R.has_bounds range }
@@ -71,6 +95,14 @@ impl<const N: usize> ArrayString<N> {
     ///   `RangeInclusive` that was iterated to its end.
     /// - The range must not end before it starts.
     /// - Both ends, read as in `slice`, must be boundaries.
+    ///
+    /// # Examples
+    ///
+    /// ```
+    /// let mut string = ArrayString::<8>::from("ABC");
+    /// string.make_ascii_lowercase_in(1..);
+    /// assert_eq!(string.as_str(), "Abc");
+    /// ```
     #[inline]
     pub fn make_ascii_lowercase_in<R: RangeBounds<u8> + Drop>(&mut self, range: R)
         requires known { R.has_bounds range }

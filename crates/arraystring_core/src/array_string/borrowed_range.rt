@@ -23,6 +23,13 @@ impl<const N: usize> ArrayString<N> {
     /// - Both ends must be boundaries.
     ///
     /// If `has_bounds` holds, a `get` of the range that returned `Some` proves the rest.
+    ///
+    /// # Examples
+    ///
+    /// ```
+    /// let string = ArrayString::<4>::from("aéb");
+    /// assert_eq!((string.slice(..1), string.slice(1..=2), string.slice(3..)), ("a", "é", "b"));
+    /// ```
     #[inline]
     pub fn slice<R: RangeBounds<u8> + Drop>(&self, range: R) -> &str
         requires known { R.has_bounds range }
@@ -45,6 +52,14 @@ impl<const N: usize> ArrayString<N> {
     /// Returns the part of the text in the range, borrowed without a copy. Returns `None` if the
     /// range ends before it starts, or if its start or its end is not a boundary. The ends are
     /// read as in `slice`.
+    ///
+    /// # Examples
+    ///
+    /// ```
+    /// let string = ArrayString::<4>::from("aéb");
+    /// assert_eq!(string.get(1..3), Some("é"));
+    /// assert_eq!((string.get(..2), string.get(3..9)), (None, None)); // inside `é`, and past the text
+    /// ```
     #[inline]
     pub fn get<R: RangeBounds<u8> + Drop>(&self, range: R) -> Option<&str>
         ensures { OfReturnedBounds R.has_bounds R.start_bound R.end_bound range (λ start end.

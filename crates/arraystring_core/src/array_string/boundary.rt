@@ -21,6 +21,15 @@ impl<const N: usize> ArrayString<N> {
 /// # Errors
 ///
 /// Returns `Err(Utf8)` if `idx` is not a boundary. An index past the length is not a boundary.
+///
+/// # Examples
+///
+/// ```
+/// let string = ArrayString::<4>::from("aé");
+/// assert_eq!(utils::is_char_boundary(&string, 1), Ok(()));
+/// assert_eq!(utils::is_char_boundary(&string, 2), Err(Utf8)); // inside `é`
+/// assert_eq!(utils::is_char_boundary(&string, 4), Err(Utf8)); // past the text
+/// ```
 #[inline]
 pub fn is_char_boundary<const N: usize>(s: &ArrayString<N>, idx: u8) -> Result<(), Utf8>
     ensures { IsOk result ↔ IsTrue (boundary s.now.text idx) }

@@ -19,6 +19,13 @@ impl<const N: usize> ArrayString<N> {
     /// # Errors
     ///
     /// Returns `Err(OutOfBounds)` if `string` is larger than the capacity.
+    ///
+    /// # Examples
+    ///
+    /// ```
+    /// assert_eq!(ArrayString::<4>::try_from_str("cafe").unwrap().as_str(), "cafe");
+    /// assert_eq!(ArrayString::<4>::try_from_str("café"), Err(OutOfBounds)); // five bytes
+    /// ```
     #[inline]
     pub fn try_from_str(string: &str) -> Result<Self, OutOfBounds>
         ensures { IsWholeOrRefused (chars string.now) (cap N) (from_out_of_bounds result) }
@@ -31,6 +38,13 @@ impl<const N: usize> ArrayString<N> {
 
     /// Creates a string from the longest prefix of whole characters of `string` that fits.
     /// `try_from_str` refuses what does not fit.
+    ///
+    /// # Examples
+    ///
+    /// ```
+    /// assert_eq!(ArrayString::<4>::from_str_truncate("cafe").as_str(), "cafe");
+    /// assert_eq!(ArrayString::<4>::from_str_truncate("café").as_str(), "caf"); // not half of `é`
+    /// ```
     #[inline]
     pub fn from_str_truncate(string: &str) -> Self
         ensures { result.text ≡ cut (chars string.now) (cap N) }
@@ -47,6 +61,14 @@ impl<const N: usize> ArrayString<N> {
     /// # Precondition
     ///
     /// The iterator must end, and until then the precondition of its `next` must hold.
+    ///
+    /// # Examples
+    ///
+    /// ```
+    /// let string = ArrayString::<8>::try_from_iterator(["one", " ", "two"]);
+    /// assert_eq!(string.unwrap().as_str(), "one two");
+    /// assert_eq!(ArrayString::<8>::try_from_iterator(["one", " three"]), Err(OutOfBounds));
+    /// ```
     #[inline]
     pub fn try_from_iterator<'a, I: IntoIterator<Item = &'a str> + Drop>(
         pieces: I,
@@ -71,6 +93,13 @@ impl<const N: usize> ArrayString<N> {
     /// # Precondition
     ///
     /// The iterator must end, and until then the precondition of its `next` must hold.
+    ///
+    /// # Examples
+    ///
+    /// ```
+    /// assert_eq!(ArrayString::<8>::from_iterator(["one", " ", "two"]).as_str(), "one two");
+    /// assert_eq!(ArrayString::<8>::from_iterator(["one", " three", "!"]).as_str(), "one thre");
+    /// ```
     #[inline]
     pub fn from_iterator<'a, I: IntoIterator<Item = &'a str> + Drop>(pieces: I) -> Self
         requires { IsFiniteIterable I.into_iter_gives I.IntoIter.can_next
@@ -96,6 +125,13 @@ impl<const N: usize> ArrayString<N> {
     /// # Precondition
     ///
     /// The iterator must end, and until then the precondition of its `next` must hold.
+    ///
+    /// # Examples
+    ///
+    /// ```
+    /// assert_eq!(ArrayString::<4>::try_from_chars("abc".chars()).unwrap().as_str(), "abc");
+    /// assert_eq!(ArrayString::<4>::try_from_chars("abcde".chars()), Err(OutOfBounds));
+    /// ```
     #[inline]
     pub fn try_from_chars<I: IntoIterator<Item = char> + Drop>(
         characters: I,
@@ -120,6 +156,13 @@ impl<const N: usize> ArrayString<N> {
     /// # Precondition
     ///
     /// The iterator must end, and until then the precondition of its `next` must hold.
+    ///
+    /// # Examples
+    ///
+    /// ```
+    /// assert_eq!(ArrayString::<4>::from_chars("abc".chars()).as_str(), "abc");
+    /// assert_eq!(ArrayString::<4>::from_chars("abcéd".chars()).as_str(), "abc"); // `d` would fit
+    /// ```
     #[inline]
     pub fn from_chars<I: IntoIterator<Item = char> + Drop>(characters: I) -> Self
         requires { IsFiniteIterable I.into_iter_gives I.IntoIter.can_next
@@ -145,6 +188,14 @@ impl<const N: usize> ArrayString<N> {
     /// - `Err(Error::Utf8)` if `given` is not well-formed UTF-8 (the Unicode Standard, section
     ///   3.9);
     /// - `Err(Error::OutOfBounds)` if the text is larger than the capacity.
+    ///
+    /// # Examples
+    ///
+    /// ```
+    /// assert_eq!(ArrayString::<4>::try_from_utf8(&[0xC3, 0xA9]).unwrap().as_str(), "é");
+    /// assert_eq!(ArrayString::<4>::try_from_utf8(&[0xC3]), Err(Error::Utf8)); // half of `é`
+    /// assert_eq!(ArrayString::<4>::try_from_utf8(b"abcde"), Err(Error::OutOfBounds));
+    /// ```
     #[inline]
     pub fn try_from_utf8(given: &[u8]) -> Result<Self, Error>
         ensures malformed { ¬ (IsWellFormed given.now) → result ≡ Err Error.Utf8 }
@@ -171,6 +222,13 @@ impl<const N: usize> ArrayString<N> {
     ///
     /// Returns `Err(Utf8)` if `given` is not well-formed UTF-8 (the Unicode Standard, section
     /// 3.9), even if only bytes that would be cut off are malformed.
+    ///
+    /// # Examples
+    ///
+    /// ```
+    /// assert_eq!(ArrayString::<4>::from_utf8(b"abcde").unwrap().as_str(), "abcd");
+    /// assert_eq!(ArrayString::<4>::from_utf8(b"abcd\xFF"), Err(Utf8)); // no UTF-8, though behind the cut
+    /// ```
     #[inline]
     pub fn from_utf8(given: &[u8]) -> Result<Self, Utf8>
         ensures well_formed { IsOk result ↔ IsWellFormed given.now }

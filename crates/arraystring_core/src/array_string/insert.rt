@@ -17,6 +17,17 @@ impl<const N: usize> ArrayString<N> {
     /// - `Err(Error::OutOfBounds)` if the index is past the text;
     /// - `Err(Error::OutOfBounds)` if `ch` does not fit;
     /// - `Err(Error::Utf8)` if the index is inside a character.
+    ///
+    /// # Examples
+    ///
+    /// ```
+    /// let mut string = ArrayString::<4>::from("é");
+    /// assert_eq!(string.try_insert(2, 'b'), Ok(()));
+    /// assert_eq!(string.as_str(), "éb");
+    /// assert_eq!(string.try_insert(9, 'c'), Err(Error::OutOfBounds)); // past the text
+    /// assert_eq!(string.try_insert(0, 'é'), Err(Error::OutOfBounds)); // one byte is left
+    /// assert_eq!(string.try_insert(1, 'c'), Err(Error::Utf8)); // inside `é`
+    /// ```
     #[inline]
     pub fn try_insert(&mut self, index: u8, ch: char) -> Result<(), Error>
         ensures { Makes (insertion self.old.text index (ch ∷ []) (cap N))
@@ -36,6 +47,16 @@ impl<const N: usize> ArrayString<N> {
     /// - `Err(Error::OutOfBounds)` if the index is past the text;
     /// - `Err(Error::OutOfBounds)` if not all of `string` fits;
     /// - `Err(Error::Utf8)` if the index is inside a character.
+    ///
+    /// # Examples
+    ///
+    /// ```
+    /// let mut string = ArrayString::<8>::from("é-");
+    /// assert_eq!(string.try_insert_str(2, "abc"), Ok(()));
+    /// assert_eq!(string.as_str(), "éabc-");
+    /// assert_eq!(string.try_insert_str(0, "def"), Err(Error::OutOfBounds)); // two bytes are left
+    /// assert_eq!(string.try_insert_str(1, "d"), Err(Error::Utf8)); // inside `é`
+    /// ```
     #[inline]
     pub fn try_insert_str(&mut self, index: u8, string: &str) -> Result<(), Error>
         ensures { Makes (insertion self.old.text index (chars string.now) (cap N))
@@ -100,6 +121,15 @@ impl<const N: usize> ArrayString<N> {
     ///
     /// - `Err(Error::OutOfBounds)` if the index is past the text;
     /// - `Err(Error::Utf8)` if the index is inside a character.
+    ///
+    /// # Examples
+    ///
+    /// ```
+    /// let mut string = ArrayString::<4>::from("abc");
+    /// assert_eq!(string.insert_str(1, "xyz"), Ok(())); // there is room for one byte
+    /// assert_eq!(string.as_str(), "axbc");
+    /// assert_eq!(string.insert_str(9, "z"), Err(Error::OutOfBounds)); // past the text
+    /// ```
     #[inline]
     pub fn insert_str(&mut self, index: u8, string: &str) -> Result<(), Error>
         ensures { Makes (insertion_of_cut self.old.text index (chars string.now) (cap N))

@@ -16,6 +16,17 @@ impl<const N: usize> ArrayString<N> {
     /// # Errors
     ///
     /// Returns `Err(Utf8)` if the index `size` is inside a character. The text is then unchanged.
+    ///
+    /// # Examples
+    ///
+    /// ```
+    /// let mut string = ArrayString::<4>::from("aé");
+    /// assert_eq!(string.truncate(9), Ok(())); // it has no more
+    /// assert_eq!(string.truncate(2), Err(Utf8)); // inside `é`
+    /// assert_eq!(string.as_str(), "aé");
+    /// assert_eq!(string.truncate(1), Ok(()));
+    /// assert_eq!(string.as_str(), "a");
+    /// ```
     #[inline]
     pub fn truncate(&mut self, size: u8) -> Result<(), Utf8>
         ensures { Makes (truncation self.old.text size)
@@ -32,6 +43,13 @@ impl<const N: usize> ArrayString<N> {
     }
 
     /// Removes the last character and returns it. Returns `None` if the text is empty.
+    ///
+    /// # Examples
+    ///
+    /// ```
+    /// let mut string = ArrayString::<4>::from("aé");
+    /// assert_eq!((string.pop(), string.pop(), string.pop()), (Some('é'), Some('a'), None));
+    /// ```
     #[inline]
     pub fn pop(&mut self) -> Option<char>
         ensures { Makes (popping self.old.text) self.old.text (Ok result) self.new.text }
@@ -78,6 +96,16 @@ impl<const N: usize> ArrayString<N> {
     ///
     /// - `Err(Error::OutOfBounds)` if the index is not below the length;
     /// - `Err(Error::Utf8)` if the index is inside a character.
+    ///
+    /// # Examples
+    ///
+    /// ```
+    /// let mut string = ArrayString::<8>::from("aéb");
+    /// assert_eq!(string.remove(0), Ok('a'));
+    /// assert_eq!(string.remove(1), Err(Error::Utf8)); // inside `é`
+    /// assert_eq!(string.remove(3), Err(Error::OutOfBounds)); // at the end
+    /// assert_eq!(string.as_str(), "éb");
+    /// ```
     #[inline(always)]
     pub fn remove(&mut self, index: u8) -> Result<char, Error>
         ensures { Makes (removal self.old.text index) self.old.text result self.new.text }
@@ -139,6 +167,15 @@ impl<const N: usize> ArrayString<N> {
     ///
     /// - `Err(Error::OutOfBounds)` if `at` is past the text;
     /// - `Err(Error::Utf8)` if `at` is inside a character.
+    ///
+    /// # Examples
+    ///
+    /// ```
+    /// let mut string = ArrayString::<8>::from("aéb");
+    /// assert_eq!(string.split_off(2), Err(Error::Utf8)); // inside `é`
+    /// assert_eq!(string.split_off(3).unwrap().as_str(), "b");
+    /// assert_eq!(string.as_str(), "aé");
+    /// ```
     #[inline]
     pub fn split_off(&mut self, at: u8) -> Result<Self, Error>
         ensures { Makes (split self.old.text at) self.old.text (with_text result) self.new.text }

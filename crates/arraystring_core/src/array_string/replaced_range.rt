@@ -22,6 +22,16 @@ impl<const N: usize> ArrayString<N> {
     /// - `Err(Error::OutOfBounds)` if the text with `with` in it does not fit;
     /// - `Err(Error::Utf8)` if the start of the range is inside a character;
     /// - `Err(Error::Utf8)` if the end of the range is inside a character.
+    ///
+    /// # Examples
+    ///
+    /// ```
+    /// let mut string = ArrayString::<4>::from("abcd");
+    /// assert_eq!(string.replace_range(1..3, "é"), Ok(()));
+    /// assert_eq!(string.as_str(), "aéd");
+    /// assert_eq!(string.replace_range(.., "abcde"), Err(Error::OutOfBounds)); // five bytes
+    /// assert_eq!(string.replace_range(2.., ""), Err(Error::Utf8)); // inside `é`
+    /// ```
     #[inline]
     pub fn replace_range<R: RangeBounds<u8> + Drop>(
         &mut self,
@@ -88,7 +98,8 @@ impl<const N: usize> ArrayString<N> {
         self.replace_between(start, end, with, steps)
     }
 
-    /// Replaces the bytes from `start` to `end`.
+    /// Replaces the part from `start` to `end`, or refuses it. The ends are numbers here, so that the tests are proved apart
+    /// from the reading of a range.
     #[inline]
     fn replace_between(
         &mut self,

@@ -15,6 +15,14 @@ impl<const N: usize> ArrayString<N> {
     /// # Precondition
     ///
     /// `f` must be callable with each character, in each state that its earlier calls leave.
+    ///
+    /// # Examples
+    ///
+    /// ```
+    /// let mut string = ArrayString::<8>::from("a-b-c");
+    /// string.retain(|ch| ch != '-');
+    /// assert_eq!(string.as_str(), "abc");
+    /// ```
     #[inline]
     pub fn retain<F: FnMut(char) -> bool + Drop>(&mut self, f: F)
         requires { IsCallableInTurn F.pre F.step f self.old.text }

@@ -11,6 +11,14 @@ impl<const N: usize> ArrayString<N> {
     /// Removes all white space at both ends, and nothing else. As in `str::trim`, white space is
     /// what has the property White_Space of the Unicode Standard: the characters for which
     /// `char::is_whitespace` returns true.
+    ///
+    /// # Examples
+    ///
+    /// ```
+    /// let mut string = ArrayString::<8>::from("\t a b\u{3000}");
+    /// string.trim();
+    /// assert_eq!(string.as_str(), "a b");
+    /// ```
     #[inline]
     pub fn trim(&mut self)
         ensures { Makes (trimming is_white_space self.old.text)
@@ -57,6 +65,14 @@ impl<const N: usize> ArrayString<N> {
     }
 
     /// Removes all spaces (U+0020) at both ends, and nothing else.
+    ///
+    /// # Examples
+    ///
+    /// ```
+    /// let mut string = ArrayString::<8>::from(" \ta b ");
+    /// string.trim_spaces();
+    /// assert_eq!(string.as_str(), "\ta b"); // a tab is no space
+    /// ```
     #[inline]
     pub fn trim_spaces(&mut self)
         ensures { Makes (trimming is_space self.old.text) self.old.text (Ok result) self.new.text }

@@ -21,6 +21,15 @@ impl<const N: usize> ArrayString<N> {
     ///
     /// - `Err(Error::Utf16)` if it is a lone surrogate;
     /// - `Err(Error::OutOfBounds)` if it is a character that does not fit.
+    ///
+    /// # Examples
+    ///
+    /// ```
+    /// let units = [0x61, 0xD83E, 0xDD14]; // `a`, and the pair of `🤔`
+    /// assert_eq!(ArrayString::<8>::try_from_utf16(&units).unwrap().as_str(), "a🤔");
+    /// assert_eq!(ArrayString::<8>::try_from_utf16(&units[..2]), Err(Error::Utf16)); // half a pair
+    /// assert_eq!(ArrayString::<4>::try_from_utf16(&units), Err(Error::OutOfBounds)); // five bytes
+    /// ```
     #[inline]
     pub fn try_from_utf16(units: &[u16]) -> Result<Self, Error>
         ensures whole { (items : List Unit16) → IsReading units.now items
@@ -43,6 +52,14 @@ impl<const N: usize> ArrayString<N> {
     ///
     /// Returns `Err(Utf16)` if a lone surrogate comes right after that prefix, even if the string
     /// is full.
+    ///
+    /// # Examples
+    ///
+    /// ```
+    /// let units = [0x61, 0xD83E, 0xDD14]; // `a`, and the pair of `🤔`
+    /// assert_eq!(ArrayString::<4>::from_utf16(&units).unwrap().as_str(), "a"); // no room for `🤔`
+    /// assert_eq!(ArrayString::<4>::from_utf16(&units[..2]), Err(Utf16)); // half a pair
+    /// ```
     #[inline]
     pub fn from_utf16(units: &[u16]) -> Result<Self, Utf16>
         ensures { (items : List Unit16) → IsReading units.now items
@@ -57,6 +74,14 @@ impl<const N: usize> ArrayString<N> {
 
     /// Creates a string from the longest prefix of the characters of `units` that fits. Each lone
     /// surrogate is read as U+FFFD, which takes three bytes.
+    ///
+    /// # Examples
+    ///
+    /// ```
+    /// let units = [0x61, 0xD83E, 0x62]; // half a pair between `a` and `b`
+    /// assert_eq!(ArrayString::<8>::from_utf16_lossy(&units).as_str(), "a\u{FFFD}b");
+    /// assert_eq!(ArrayString::<4>::from_utf16_lossy(&units).as_str(), "a\u{FFFD}");
+    /// ```
     #[inline]
     pub fn from_utf16_lossy(units: &[u16]) -> Self
         ensures { (items : List Unit16) → IsReading units.now items

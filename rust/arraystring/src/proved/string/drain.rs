@@ -28,7 +28,7 @@ pub struct Drain<const N: usize> {
 }
 
 impl<const N: usize> Drain<N> {
-    /// The `size` bytes from `start` on are left.
+    /// Returns a drain of which the `size` bytes of the array from `start` on are left.
     #[inline(always)]
     pub(crate) fn new(array: [crate::leaf::Place; N], start: u8, size: u8) -> Self {
         Drain {

@@ -4,7 +4,8 @@
 
 use core::ops::{Bound, RangeBounds};
 
-/// The ends in a text of `len` bytes. An excluded start and an included end add 1, and stop at 255.
+/// The ends of a range in a text of `len` bytes. An excluded start and an included end count as the next index, but
+/// as 255 at most, so that both ends are a `u8` again.
 #[inline]
 pub(crate) fn saturating_ends<R: RangeBounds<u8>>(range: R, len: u8) -> (u8, u8) {
     let start = match range.start_bound() {
@@ -20,7 +21,8 @@ pub(crate) fn saturating_ends<R: RangeBounds<u8>>(range: R, len: u8) -> (u8, u8)
     (start, end)
 }
 
-/// The ends in a text of `len` bytes. An excluded start and an included end add 1, also to 255.
+/// The ends of a range in a text of `len` bytes. An excluded start and an included end count as the next index, also
+/// as 256, which is past every text.
 #[inline]
 pub(crate) fn plain_ends<R: RangeBounds<u8>>(range: R, len: u8) -> (usize, usize) {
     let start = match range.start_bound() {

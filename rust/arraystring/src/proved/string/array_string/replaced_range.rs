@@ -28,7 +28,8 @@ impl<const N: usize> ArrayString<N> {
         self.replace_between(start, end, with)
     }
 
-    /// Replaces the bytes from `start` to `end`.
+    /// Replaces the part from `start` to `end`, or refuses it. The ends are numbers here, so that the tests are proved apart
+    /// from the reading of a range.
     #[inline]
     fn replace_between(
         &mut self,
