@@ -16,9 +16,9 @@ as it is, with its comments, and rustc compiles it or refuses it. A comment befo
  9. examples   `# Examples` is left out of a comment: it would be a test of rustdoc, which sees no private module.
 10. formatter  `fn fmt<W: fmt::Write>(.. fmt::Formatter<W>)` is `fn fmt(.. fmt::Formatter<'_>)`.
 
-An error with its file and line is what looks like one of these and is left over: a word of LEFT (so a comment from `/*` on), a name that
-ends with `_counted`, an example, an `unsafe` without its `SAFETY`. One thing no rule sees: a proof that reads a zero of `[0; N]`, which
-nothing writes in Rust. memcheck sees that, in `rust/shipped`.
+An error with its file and line is what looks like one of these and is left over: a word of LEFT, a name that ends with
+`_counted`, an example, an `unsafe` without its `SAFETY`, a comment from `/*` on. One thing no rule sees: a proof that reads a zero of
+`[0; N]`, which nothing writes in Rust. memcheck sees that, in `rust/shipped`.
 """
 import difflib
 import re
@@ -29,7 +29,7 @@ from pathlib import Path
 CRATES = {'arraystring_base': 'base', 'arraystring_core': 'string'}
 GONE, BY_HAND = {'laws', 'integration', 'steps'}, 'leaf'
 GHOST_TYPES, CONSTANT = {'Steps', 'Model'}, {'as_str', 'as_bytes'}
-LEFT = {*GONE, *CRATES, *GHOST_TYPES, 'ghost', 'requires', 'ensures', 'tactic', 'Drop', 'std', 'prove', 'prove_eq', 'prove_ne', '/*'}
+LEFT = {*GONE, *CRATES, *GHOST_TYPES, 'ghost', 'requires', 'ensures', 'tactic', 'Drop', 'std', 'prove', 'prove_eq', 'prove_ne'}
 TOKEN = re.compile(r'''
     (?P<gap> (?: \s | //[^\n]* )* )
     (?P<token> [bc]?r(?P<hashes>\#*)".*?"(?P=hashes) | [bc]?"(?:\\.|[^"\\])*" | b?'(?:\\(?:x..|u\{[^}]*\}|.)|[^'\\\n])' | '\w+
@@ -48,6 +48,8 @@ class Tokens(list):
         for match in TOKEN.finditer(text):
             line += match['gap'].count('\n')
             self.append([match['gap'], match['token'], line])
+            if match['token'] == '/*':
+                self.refuse(-1, 'a comment that does not begin with `//`')
             line += match['token'].count('\n')
         self.append([text[match.end():], '', line])
 
@@ -109,8 +111,7 @@ class Tokens(list):
 
     def is_in_list(self, start, end, brackets):
         """Whether these tokens are a whole item of a list in such brackets."""
-        is_item = self.at(start - 1, {brackets[0], ','}) and self.at(end, {brackets[1], ','})
-        return is_item and self.at(self.opening(start), brackets[0])
+        return self.at(start - 1, {brackets[0], ','}) and self.at(end, {brackets[1], ','}) and self.at(self.opening(start), brackets[0])
 
     def leave_out(self, start, end, keep=False):
         """Leaves tokens out. Of the comments before them `//!` stays, or all with `keep`. One behind them on the same line goes."""
@@ -204,9 +205,8 @@ def without_counter(t):
 def function(t, at):
     """Where the function of a `fn` begins, its body and its end, and its parameters."""
     first = t.behind_angles(at + 2)
-    last = t.closing(first)
-    body = t.next(last + 1, '{', ';')
-    return t.item(at), body, t.closing(body) + 1, [t[i][1] for i in range(first, last) if t.at(i, WORD, ':')]
+    body = t.next(first, '{', ';')
+    return t.item(at), body, t.closing(body) + 1, [t[i][1] for i in range(first, t.closing(first)) if t.at(i, WORD, ':')]
 
 
 def uncounted(t, counted):
