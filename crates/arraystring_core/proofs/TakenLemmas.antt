@@ -1,11 +1,11 @@
 -- One turn of a loop that adds what an iterator gives.
-use Rattle.std.proofs.Common.{◌≡◌, ℕ, ◌+◌, ◌-◌, ◌<◌, ◌≤◌, List, [], ◌∷◌, ◌++◌, Option, refl, ap, ◌∙◌, arith, map, append_assoc, inl, inr}
+use Rattle.std.proofs.Common.{◌≡◌, ℕ, ◌+◌, ◌-◌, ◌<◌, ◌≤◌, List, [], ◌∷◌, ◌++◌, refl, ap, ◌∙◌, arith, map, append_assoc}
 use Rattle.std.proofs.lemmas.Bool.{lt-leb}
 use Rattle.std.proofs.lemmas.List.{append-nil, map-append}
 use Rattle.arraystring_base.specs.Text.{width, size, cut}
 use Rattle.arraystring_base.proofs.TextLaws.{size-append}
 use Rattle.arraystring_base.proofs.CutLaws.{cut-all, cut-past_part}
-use Rattle.arraystring_core.specs.Taken.{IsFirstPast, Takes, TakesAll, Fits, joined_pieces, piece_text}
+use Rattle.arraystring_core.specs.Taken.{IsFirstPast, joined_pieces, piece_text}
 use Rattle.arraystring_core.proofs.TakenLaws.{joined-append}
 
 -- one more character, and one more piece
@@ -80,23 +80,3 @@ module _ {A : Type 0} {spelled : List A → List ℕ} {one : A → List ℕ} (sp
 
   pub added-none : {new : List ℕ} → new ≡ now → cut (one x) (n - size now) ≡ [] → new ≡ old ++ cut (spelled (items ++ x ∷ [])) (n - size old)
   added-none e none = e ∙ rw (none, append-nil now) at added-cut
-
--- the text `now` is the items, and with the item x they fit
-module _ {A : Type 0} {spelled : List A → List ℕ} {one : A → List ℕ} (spelling : IsSpelling spelled one)
-    {now : List ℕ} (items : List A) (is : now ≡ spelled items) (x : A) where
-  pub next-fits : {n : ℕ} → size (spelled (items ++ x ∷ [])) ≤ n → size now + size (one x) ≤ n
-  next-fits fits = omega (arith, ap size is, ap size (spelling.more items x), size-append (spelled items) (one x))
-
-  pub next-text : {new : List ℕ} → new ≡ now ++ one x → new ≡ spelled (items ++ x ∷ [])
-  next-text e = rw (spelling.more items x, ← is) e
-
--- characters that were taken and all fit are all that come
-pub fitting-all : {U T : Type 0} (becomes : U → T → Type 0) (steps : T → Option ℕ → T → Type 0) (iter : U) (n : ℕ)
-    → Fits becomes steps (λ cs. cs) iter n → (taken : List ℕ) → Takes becomes steps (λ cs. cs) iter n taken
-    → TakesAll becomes steps iter taken × (cut taken n ≡ taken)
-fitting-all becomes steps iter n fits taken takes = elim takes.2 [
-  | inl ends ↦ ((takes.0, takes.1, ends.0), cut-all ends.1)
-  | inr stops ↦
-      let within : size taken ≤ n = fits takes.0 takes.1 taken stops.0 stops.1 in
-      absurd (omega arith)
-]

@@ -58,19 +58,6 @@ pub(crate) fn byte(bytes: &[impl Held], at: usize) -> u8 {
     unsafe { bytes.get_unchecked(at) }.value()
 }
 
-/// Writes one byte.
-///
-/// ```text
-/// requires { at < length all.old }
-/// ensures { all.new ≡ take at all.old ++ (byte ∷ drop (at + 1) all.old) }
-/// ```
-#[inline(always)]
-pub(crate) fn put_byte(all: &mut [Place], at: usize, byte: u8) {
-    required!(at < all.len());
-    // SAFETY: the index is within, as is required.
-    *unsafe { all.get_unchecked_mut(at) } = Place::new(byte);
-}
-
 /// Writes `K` bytes, which are no vector, from `at` on.
 ///
 /// ```text
@@ -80,8 +67,8 @@ pub(crate) fn put_byte(all: &mut [Place], at: usize, byte: u8) {
 #[inline(always)]
 pub(crate) fn put_array<const K: usize>(all: &mut [Place], at: usize, bytes: [u8; K]) {
     required!(at <= all.len(), K <= all.len() - at);
-    // SAFETY: the run is within, as is required. A byte is laid out as a place. (By `put_bytes` and `map` rustc would not inline
-    // `encode_wide` in another crate, since it has a call then.)
+    // SAFETY: the run is within, as is required. A byte is laid out as a place. (`put_bytes` would take places, and to make these
+    // by `map` was seen to be a call.)
     unsafe { all.as_mut_ptr().add(at).cast::<[u8; K]>().write(bytes) };
 }
 

@@ -109,7 +109,7 @@ fn contracts(file: &str, between: (&str, &str)) -> BTreeMap<String, String> {
 fn each_function_has_the_contract_of_its_source() {
     let source = "../../crates/arraystring_base/src/leaf.rt";
     let here = contracts("src/leaf.rs", ("```text\nrequires", "```"));
-    assert_eq!(here.len(), 13, "{here:?}");
+    assert_eq!(here.len(), 12, "{here:?}");
     if fs::exists(source).expect("whether it is there") {
         let there = contracts(source, ("\n    requires", "\n{"));
         for (name, contract) in here {
@@ -119,19 +119,16 @@ fn each_function_has_the_contract_of_its_source() {
 }
 
 #[test]
-fn one_byte_is_read_and_written() {
+fn one_byte_is_read() {
     for len in lengths() {
-        let (given, mut all) = (bytes(len), written(&bytes(len)));
+        let (given, all) = (bytes(len), written(&bytes(len)));
         for at in (0..len).filter(|at| len <= MOST || places(len).contains(at)) {
             assert_eq!((byte(&given, at), byte(&all, at)), (given[at], given[at]));
-            changes(len, |all| put_byte(all, at, 1), |all| all[at] = 1);
         }
         for at in past(len).chain([len]) {
             refused(|| byte(&given, at));
             refused(|| byte(&all, at));
-            refused(|| put_byte(&mut all, at, 1));
         }
-        assert_eq!(values(&all), given, "what is refused changes nothing");
     }
 }
 

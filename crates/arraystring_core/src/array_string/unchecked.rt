@@ -7,7 +7,7 @@ ghost use Rattle.arraystring_base.specs.Text.{size, width, bytes, cap, front, ba
 ghost use Rattle.arraystring_core.specs.Taken.{TakesAll, Fits, Gives, joined, joined_pieces, piece_text};
 
 use crate::ArrayString;
-use arraystring_base::utils::{Steps, write_by_call, write_over};
+use arraystring_base::utils::{Steps, write_by_call};
 use std::str;
 
 impl<const N: usize> ArrayString<N> {
@@ -48,17 +48,10 @@ impl<const N: usize> ArrayString<N> {
             → Gives I.into_iter_gives I.IntoIter.next_gives piece_text pieces all
             → result.text ≡ joined all }
     {
-        let mut array = [0; N];
-        let mut end = 0;
-        for piece in pieces {
-            write_over(&mut array, end, piece.as_bytes());
-            end += piece.len();
-        }
-        ArrayString {
-            array,
-            start: 0,
-            size: end as u8,
-        }
+        let Ok(made) = Self::try_from_iterator(pieces) else {
+            unreachable!();
+        };
+        made
     }
 
     /// Creates a string from all characters that the iterator returns.
@@ -79,7 +72,10 @@ impl<const N: usize> ArrayString<N> {
             → Gives I.into_iter_gives I.IntoIter.next_gives (λ c. c) characters all
             → result.text ≡ all }
     {
-        Self::from_chars(characters)
+        let Ok(made) = Self::try_from_chars(characters) else {
+            unreachable!();
+        };
+        made
     }
 
     /// Creates a string from the UTF-8 in `given`.

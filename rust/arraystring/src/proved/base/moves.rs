@@ -25,7 +25,12 @@ pub fn shift<const N: usize>(
     len: usize,
 ) {
     if from != to {
-        move_run(array, from, to, len);
+        let all = &mut array[..];
+        if N < 16 || len < 16 {
+            move_short_run::<N>(all, from, to, len);
+        } else {
+            move_long_run::<N>(all, from, to, len);
+        }
     }
 }
 
@@ -43,17 +48,6 @@ pub fn shift_by_call<const N: usize>(
     len: usize,
 ) {
     move_bytes(array, from, to, len);
-}
-
-/// Moves as `shift` does, and counts nothing. No test is made for more bytes than an array of `N` bytes can have.
-#[inline(always)]
-fn move_run<const N: usize>(array: &mut [crate::leaf::Place; N], from: usize, to: usize, len: usize) {
-    let all = &mut array[..];
-    if N < 16 || len < 16 {
-        move_short_run::<N>(all, from, to, len);
-    } else {
-        move_long_run::<N>(all, from, to, len);
-    }
 }
 
 /// Moves `len` bytes: fewer than 16, and at most `N`. The branches for sizes above `N` are left out.

@@ -2,7 +2,7 @@
 //! The UTF-8 of texts and characters: boundaries, cuts, the first and the last character of a text, and the
 //! bytes of a character. Sizes and indices count bytes of UTF-8.
 
-use crate::leaf::{byte, put_array, put_byte, text_to};
+use crate::leaf::{byte, put_array, text_to};
 use core::char;
 
 /// Returns whether `at` is a boundary of `text`: the size of one of its prefixes of whole characters.
@@ -148,16 +148,9 @@ pub fn encode<const N: usize>(ch: char, array: &mut [crate::leaf::Place; N], at:
     let code = ch as u32;
     let all = &mut array[..];
     if code < 0x80 {
-        put_byte(all, at, code as u8);
+        put_array(all, at, [code as u8]);
         return 1;
     }
-    encode_wide(ch, all, at)
-}
-
-/// Writes the UTF-8 of a character that is not ASCII. The compiler inlines it where it serves: a cold function only
-/// calls it.
-fn encode_wide(ch: char, all: &mut [crate::leaf::Place], at: usize) -> usize {
-    let code = ch as u32;
     let last = (0x80 + code % 64) as u8;
     if code < 0x800 {
         let first = (0xC0 + code / 64) as u8;

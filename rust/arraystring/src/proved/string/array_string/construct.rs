@@ -4,7 +4,7 @@
 use crate::proved::string::ArrayString;
 use crate::proved::string::well_formed::read_utf8;
 use crate::proved::base::error::{Error, OutOfBounds, Utf8};
-use crate::proved::base::utils::{truncate_str, write_by_call};
+use crate::proved::base::utils::truncate_str;
 use core::str;
 
 impl<const N: usize> ArrayString<N> {
@@ -18,13 +18,7 @@ impl<const N: usize> ArrayString<N> {
         if string.len() > Self::capacity() as usize {
             return Err(OutOfBounds);
         }
-        let mut array = [crate::leaf::UNWRITTEN; N];
-        write_by_call(&mut array, 0, string.as_bytes());
-        Ok(ArrayString {
-            array,
-            start: 0,
-            size: string.len() as u8,
-        })
+        Ok(Self::from_str_unchecked(string))
     }
 
     /// Creates a string from the longest prefix of whole characters of `string` that fits.

@@ -3,7 +3,7 @@
 //! the precondition.
 
 use crate::proved::string::ArrayString;
-use crate::proved::base::utils::{write_by_call, write_over};
+use crate::proved::base::utils::write_by_call;
 use core::str;
 
 impl<const N: usize> ArrayString<N> {
@@ -31,17 +31,10 @@ impl<const N: usize> ArrayString<N> {
     /// the precondition of its `next` must hold.
     #[inline]
     pub fn from_iterator_unchecked<'a, I: IntoIterator<Item = &'a str>>(pieces: I) -> Self {
-        let mut array = [crate::leaf::UNWRITTEN; N];
-        let mut end = 0;
-        for piece in pieces {
-            write_over(&mut array, end, piece.as_bytes());
-            end += piece.len();
-        }
-        ArrayString {
-            array,
-            start: 0,
-            size: end as u8,
-        }
+        let Ok(made) = Self::try_from_iterator(pieces) else {
+            unreachable!();
+        };
+        made
     }
 
     /// Creates a string from all characters that the iterator returns.
@@ -52,7 +45,10 @@ impl<const N: usize> ArrayString<N> {
     /// precondition of its `next` must hold.
     #[inline]
     pub fn from_chars_unchecked<I: IntoIterator<Item = char>>(characters: I) -> Self {
-        Self::from_chars(characters)
+        let Ok(made) = Self::try_from_chars(characters) else {
+            unreachable!();
+        };
+        made
     }
 
     /// Creates a string from the UTF-8 in `given`.
