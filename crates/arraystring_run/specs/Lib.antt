@@ -16,7 +16,3 @@ pub mod Writing
 pub mod Player
 pub mod Program
 pub mod Arguments
--- paths that callers name
-pub mod Script
-pub use Rattle.arraystring_run.specs.Line as Grammar
-pub use Rattle.arraystring_run.specs.Arguments as Word

@@ -1,11 +1,12 @@
 //! The paths by which callers reach `arraystring_run`, those of its definitions among them, and the traits of the types at
 //! those paths.
-ghost use Rattle.arraystring_run.specs.Grammar.{IsLineOf};
-ghost use Rattle.arraystring_run.specs.Word.{IsOnlyWord};
-ghost use Rattle.arraystring_run.specs.Script.{line_feed, with_newline, joined_lines, IsOneLine, AreOneLine, first_byte, lines, AreLinesOf, IsBadAt};
-ghost use Rattle.arraystring_run.specs.Script.{printed, replies_printed, all_printed, run_printed, AppendsPrefix};
-ghost use Rattle.arraystring_run.specs.Script.{IfBadLine, IsPlayed, IsPartPlayed};
-ghost use Rattle.arraystring_run.specs.Script.{capacity_named, status_of, usage_line, fault_line, report_of, Service, IsServed};
+ghost use Rattle.arraystring_run.specs.Arguments.{IsOnlyWord};
+ghost use Rattle.arraystring_run.specs.Line.{IsLineOf};
+ghost use Rattle.arraystring_run.specs.ScriptLines.{line_feed, with_newline, joined_lines, IsOneLine, AreOneLine, first_byte, lines, AreLinesOf, IsBadAt};
+ghost use Rattle.arraystring_run.specs.Printing.{printed, replies_printed, all_printed, run_printed};
+ghost use Rattle.arraystring_run.specs.Writing.{AppendsPrefix};
+ghost use Rattle.arraystring_run.specs.Player.{IfBadLine, IsPlayed, IsPartPlayed};
+ghost use Rattle.arraystring_run.specs.Program.{capacity_named, status_of, usage_line, fault_line, report_of, Service, IsServed};
 
 use super::runs::text_of;
 use super::table::agree;
