@@ -241,6 +241,19 @@ pub fn encode<const N: usize>(ch: char, array: &mut [u8; N], at: usize) -> usize
         put_array(all, at, [code as u8]);
         return 1;
     }
+    encode_wide(ch, all, at)
+}
+
+/// Writes the UTF-8 of a character that is not ASCII. The compiler inlines it where it serves: a cold function only
+/// calls it.
+#[tactic(auto, unfolding(crate::specs::Text::width, crate::specs::Text::utf8))]
+fn encode_wide(ch: char, all: &mut [u8], at: usize) -> usize
+    requires room { at + width ch ≤ length all.old }
+    requires wide { 0x80 ≤ ch }
+    ensures width { result ≡ width ch }
+    ensures bytes { all.new ≡ take at all.old ++ (utf8 ch ++ drop (at + width ch) all.old) }
+{
+    let code = ch as u32;
     let last = (0x80 + code % 64) as u8;
     if code < 0x800 {
         let first = (0xC0 + code / 64) as u8;

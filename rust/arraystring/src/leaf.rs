@@ -67,8 +67,8 @@ pub(crate) fn byte(bytes: &[impl Held], at: usize) -> u8 {
 #[inline(always)]
 pub(crate) fn put_array<const K: usize>(all: &mut [Place], at: usize, bytes: [u8; K]) {
     required!(at <= all.len(), K <= all.len() - at);
-    // SAFETY: the run is within, as is required. A byte is laid out as a place. (`put_bytes` would take places, and to make these
-    // by `map` was seen to be a call.)
+    // SAFETY: the run is within, as is required. A byte is laid out as a place. (By `put_bytes` and `map` rustc would not inline
+    // `encode_wide` in another crate, since it has a call then.)
     unsafe { all.as_mut_ptr().add(at).cast::<[u8; K]>().write(bytes) };
 }
 

@@ -151,6 +151,13 @@ pub fn encode<const N: usize>(ch: char, array: &mut [crate::leaf::Place; N], at:
         put_array(all, at, [code as u8]);
         return 1;
     }
+    encode_wide(ch, all, at)
+}
+
+/// Writes the UTF-8 of a character that is not ASCII. The compiler inlines it where it serves: a cold function only
+/// calls it.
+fn encode_wide(ch: char, all: &mut [crate::leaf::Place], at: usize) -> usize {
+    let code = ch as u32;
     let last = (0x80 + code % 64) as u8;
     if code < 0x800 {
         let first = (0xC0 + code / 64) as u8;
