@@ -9,13 +9,6 @@ use std::char;
 
 /// Returns whether `at` is a boundary of `text`: the size of one of its prefixes of whole characters.
 /// Returns false if `at` is past the length of the text.
-///
-/// # Examples
-///
-/// ```
-/// assert!(utils::is_boundary("aé", 1) && utils::is_boundary("aé", 3));
-/// assert!(!utils::is_boundary("aé", 2)); // inside `é`
-/// ```
 #[inline]
 pub fn is_boundary(text: &str, at: usize) -> bool
     ensures { result ≡ boundary (chars text.now) at }
@@ -25,13 +18,6 @@ pub fn is_boundary(text: &str, at: usize) -> bool
 
 /// Returns the longest prefix of whole characters of `text` that takes at most `size` bytes,
 /// borrowed from the text.
-///
-/// # Examples
-///
-/// ```
-/// assert_eq!(utils::truncate_str("aéb", 3), "aé");
-/// assert_eq!(utils::truncate_str("aéb", 2), "a"); // not half of `é`
-/// ```
 #[inline]
 pub fn truncate_str(text: &str, size: u8) -> &str
     ensures { result.now ≡ bytes (cut (chars text.now) size) }
@@ -85,8 +71,8 @@ fn last_boundary(text: &str, limit: usize, steps: &mut Steps) -> usize
 {
     let all = text.as_bytes();
     let mut end = limit;
-    // The first byte of a text continues no character, and at most three bytes in a row do. So the second test is
-    // always true here. It tells the compiler that there are at most three turns, and the loop is unrolled.
+    // The first byte of a text continues no character, and at most three bytes in a row do. The bound is for
+    // the compiler, which unrolls the loop.
     while continues(look(all, end, steps)) && limit - end < 3 {
         end -= 1;
     }
@@ -242,14 +228,6 @@ fn char_before_end(text: &str, steps: &mut Steps) -> (usize, char)
 /// # Precondition
 ///
 /// `at` plus the number of bytes of the UTF-8 of `ch` must be at most `N`.
-///
-/// # Examples
-///
-/// ```
-/// let mut array = *b"abcd";
-/// assert_eq!(utils::encode('é', &mut array, 1), 2);
-/// assert_eq!(array, [b'a', 0xC3, 0xA9, b'd']);
-/// ```
 #[inline(always)]
 #[tactic(auto, unfolding(crate::specs::Text::width, crate::specs::Text::utf8))]
 pub fn encode<const N: usize>(ch: char, array: &mut [u8; N], at: usize) -> usize
@@ -266,8 +244,8 @@ pub fn encode<const N: usize>(ch: char, array: &mut [u8; N], at: usize) -> usize
     encode_wide(ch, all, at)
 }
 
-/// Writes the UTF-8 of a character that is not ASCII. No attribute says whether it is inlined, because the compiler
-/// does so where it serves, and lets a cold function call it.
+/// Writes the UTF-8 of a character that is not ASCII. The compiler inlines it where it serves: a cold function only
+/// calls it.
 #[tactic(auto, unfolding(crate::specs::Text::width, crate::specs::Text::utf8))]
 fn encode_wide(ch: char, all: &mut [u8], at: usize) -> usize
     requires room { at + width ch ≤ length all.old }

@@ -1,5 +1,7 @@
 //! The calls that leave a test to the caller, of which most programs need none. They are safe, since each caller proves
-//! the precondition.
+//! the precondition. Two appends and the two constructors from an iterator call the form that tests, with the proof that it
+//! refuses nothing: their callers have no error to handle, and may still pay for the test. A loop without it has a long
+//! proof, and no program has asked for one.
 ghost use Rattle.std.specs.Prelude.{◌≡◌, ◌+◌, ◌≤◌, ◌∷◌, [], ◌++◌, ℕ, List, IsTrue, chars, length};
 ghost use Rattle.std.specs.Borrow.{Bor};
 ghost use Rattle.std.specs.Iterator.{IsFiniteIterable};

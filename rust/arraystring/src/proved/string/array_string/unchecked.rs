@@ -1,6 +1,8 @@
 // Made from crates/arraystring_core/src/array_string/unchecked.rt by rust/generate.py: change that, and run this.
 //! The calls that leave a test to the caller, of which most programs need none. They are safe, since each caller proves
-//! the precondition.
+//! the precondition. Two appends and the two constructors from an iterator call the form that tests, with the proof that it
+//! refuses nothing: their callers have no error to handle, and may still pay for the test. A loop without it has a long
+//! proof, and no program has asked for one.
 
 use crate::proved::string::ArrayString;
 use crate::proved::base::utils::write_by_call;
