@@ -5,7 +5,7 @@ use Rattle.std.proofs.lemmas.Bool.Decides.{nat_tests}
 use Rattle.arraystring_base.specs.Text.{size, boundary}
 use Rattle.arraystring_base.specs.declared.error.Error.{Error}
 use Rattle.arraystring_base.specs.declared.error.Error.TheVariants.{Utf8, OutOfBounds}
-use Rattle.arraystring_core.specs.Causes.{Cause, Inside, Test, error_of, first_cause, past, inside}
+use Rattle.arraystring_core.specs.Causes.{Cause, Inside, Test, error_of, first_cause, past_text, inside_character}
 use Rattle.arraystring_core.specs.Held.{FirstHolds}
 use Rattle.arraystring_core.proofs.EditLaws.{inside-so}
 pub use Rattle.arraystring_core.proofs.EditLaws.{none-holds, inside-failed}
@@ -19,15 +19,15 @@ first-holds (test ∷ rest) found e = elim (cases_Bool test.holds) [
 ]
 
 -- a boundary, or an index past the text, is not inside a character: it lacks one of the two
-pub inside-fails : (t : List ℕ) (i : ℕ) → (i ≤ size t → boundary t i ≡ true) → (inside t i).holds ≡ false
+pub inside-fails : (t : List ℕ) (i : ℕ) → (i ≤ size t → boundary t i ≡ true) → (inside_character t i).holds ≡ false
 inside-fails t i b = grind (arith, nat_tests)
 
 -- the first test of an index that holds: the index is past the text, or else inside a character
-pub index-held : (t : List ℕ) (i : ℕ) {cause : Cause} {error : Error} → FirstHolds (past t i ∷ inside t i ∷ []) cause → error ≡ error_of cause
+pub index-held : (t : List ℕ) (i : ℕ) {cause : Cause} {error : Error} → FirstHolds (past_text t i ∷ inside_character t i ∷ []) cause → error ≡ error_of cause
     → ((size t < i) × (error ≡ OutOfBounds)) ⊎ ((i < size t) × (boundary t i ≡ false) × (error ≡ Utf8))
 index-held t i first e = grind (arith, nat_tests)
 
 -- if the range is in order and in the text, an end inside a character is found: either test has the same cause
 pub ends-held : (t : List ℕ) (start end : ℕ) → start ≤ end → end ≤ size t → (boundary t start ≡ false) ⊎ (boundary t end ≡ false)
-    → first_cause (inside t start ∷ inside t end ∷ []) ≡ Some Inside
+    → first_cause (inside_character t start ∷ inside_character t end ∷ []) ≡ Some Inside
 ends-held t start end order within at = grind (arith, nat_tests, inside-so t start (omega arith), inside-so t end within)

@@ -8,7 +8,7 @@ use Rattle.std.specs.Iterator.{Yields}
 use Rattle.arraystring_base.specs.Text.{size}
 use Rattle.arraystring_base.proofs.TextLaws.{size-append}
 use Rattle.arraystring.proofs.LoopLaws.{chars-left}
-use Rattle.arraystring.specs.Loops.{memory, traced}
+use Rattle.arraystring.specs.Loops.{memory, flat_map_with_memory}
 
 module _ {S X : Type 0} (next : S → X → S) where
   -- what is remembered after one more
@@ -19,51 +19,51 @@ module _ {S X : Type 0} (next : S → X → S) where
   module _ (piece : S → X → List ℕ) where
     -- the pieces of the first items, and then those of the others
     pub traced-append : (s : S) (xs ys : List X)
-        → traced next piece s (xs ++ ys) ≡ traced next piece s xs ++ traced next piece (memory next s xs) ys
+        → flat_map_with_memory next piece s (xs ++ ys) ≡ flat_map_with_memory next piece s xs ++ flat_map_with_memory next piece (memory next s xs) ys
     traced-append s [] ys = refl
     traced-append s (x ∷ xs) ys =
         ap (λ l. piece s x ++ l) (traced-append (next s x) xs ys)
-        ∙ sym (append_assoc (piece s x) (traced next piece (next s x) xs) (traced next piece (memory next (next s x) xs) ys))
+        ∙ sym (append_assoc (piece s x) (flat_map_with_memory next piece (next s x) xs) (flat_map_with_memory next piece (memory next (next s x) xs) ys))
 
     -- the pieces of one more
     pub traced-push : (s : S) (xs : List X) (x : X)
-        → traced next piece s (xs ++ x ∷ []) ≡ traced next piece s xs ++ piece (memory next s xs) x
+        → flat_map_with_memory next piece s (xs ++ x ∷ []) ≡ flat_map_with_memory next piece s xs ++ piece (memory next s xs) x
     traced-push s xs x =
         traced-append s xs (x ∷ [])
-        ∙ ap (λ l. traced next piece s xs ++ l) (append-nil (piece (memory next s xs) x))
+        ∙ ap (λ l. flat_map_with_memory next piece s xs ++ l) (append-nil (piece (memory next s xs) x))
 
     -- the pieces so far and the next one are no larger than all
     traced-fits : (s : S) (xs left : List X) (x : X)
-        → size (traced next piece s xs) + size (piece (memory next s xs) x) ≤ size (traced next piece s (xs ++ x ∷ left))
+        → size (flat_map_with_memory next piece s xs) + size (piece (memory next s xs) x) ≤ size (flat_map_with_memory next piece s (xs ++ x ∷ left))
     traced-fits s xs left x =
         let at = memory next s xs in
         omega (
           arith,
           ap size (traced-append s xs (x ∷ left)),
-          size-append (traced next piece s xs) (piece at x ++ traced next piece (next at x) left),
-          size-append (piece at x) (traced next piece (next at x) left),
+          size-append (flat_map_with_memory next piece s xs) (piece at x ++ flat_map_with_memory next piece (next at x) left),
+          size-append (piece at x) (flat_map_with_memory next piece (next at x) left),
         )
 
 -- when a character is left, the pieces so far and its own are no larger than all; when none is left, the pieces so far are all
 traced-turn : {S : Type 0} (next : S → ℕ → S) (piece : S → ℕ → List ℕ) (m : S) (s t : Chars) (xs : List ℕ) → IsUtf8 s.rest.now
     → Yields spells s xs t
-    → MatchOption (slice_get (chars t.rest.now) 0) (traced next piece m xs ≡ traced next piece m (chars s.rest.now))
-    (λ x. size (traced next piece m xs) + size (piece (memory next m xs) x) ≤ size (traced next piece m (chars s.rest.now)))
+    → MatchOption (slice_get (chars t.rest.now) 0) (flat_map_with_memory next piece m xs ≡ flat_map_with_memory next piece m (chars s.rest.now))
+    (λ x. size (flat_map_with_memory next piece m xs) + size (piece (memory next m xs) x) ≤ size (flat_map_with_memory next piece m (chars s.rest.now)))
 traced-turn next piece m s t xs u y = go (chars t.rest.now) (chars-left s t xs u y)
   where
     go : (left : List ℕ) → chars s.rest.now ≡ xs ++ left
-        → MatchOption (slice_get left 0) (traced next piece m xs ≡ traced next piece m (chars s.rest.now))
-        (λ x. size (traced next piece m xs) + size (piece (memory next m xs) x) ≤ size (traced next piece m (chars s.rest.now)))
-    go [] is = ap (traced next piece m) (sym (append-nil xs) ∙ sym is)
+        → MatchOption (slice_get left 0) (flat_map_with_memory next piece m xs ≡ flat_map_with_memory next piece m (chars s.rest.now))
+        (λ x. size (flat_map_with_memory next piece m xs) + size (piece (memory next m xs) x) ≤ size (flat_map_with_memory next piece m (chars s.rest.now)))
+    go [] is = ap (flat_map_with_memory next piece m) (sym (append-nil xs) ∙ sym is)
     go (x ∷ left) is = rw is (traced-fits next piece m xs left x)
 
 -- in the form that `grind` finds: it looks for the pieces so far, for what is left, and for the text
 pub traced-chars : {S : Type 0} (next : S → ℕ → S) (piece : S → ℕ → List ℕ) (m : S) (xs : List ℕ)
-    → (traced next piece m xs ≡ traced next piece m xs)
+    → (flat_map_with_memory next piece m xs ≡ flat_map_with_memory next piece m xs)
     × ((t : Chars) → (chars t.rest.now ≡ chars t.rest.now)
     × ((s : Chars) → IsUtf8 s.rest.now → Yields spells s xs t
-    → MatchOption (slice_get (chars t.rest.now) 0) (traced next piece m xs ≡ traced next piece m (chars s.rest.now))
-    (λ x. size (traced next piece m xs) + size (piece (memory next m xs) x) ≤ size (traced next piece m (chars s.rest.now)))))
+    → MatchOption (slice_get (chars t.rest.now) 0) (flat_map_with_memory next piece m xs ≡ flat_map_with_memory next piece m (chars s.rest.now))
+    (λ x. size (flat_map_with_memory next piece m xs) + size (piece (memory next m xs) x) ≤ size (flat_map_with_memory next piece m (chars s.rest.now)))))
 traced-chars next piece m xs = (refl, λ t. (refl, λ s u y. traced-turn next piece m s t xs u y))
 
 -- a slice, of which the loop has taken the items before `i`
@@ -71,33 +71,33 @@ module _ {S A : Type 0} (next : S → A → S) (piece : S → A → List ℕ) wh
   -- what is remembered, the pieces and their size, with the next item, whatever stands for an item past the end
   traced-next : (m : S) (xs : List A) (i : ℕ) → i < length xs → (past : A)
       → (memory next m (take (suc i) xs) ≡ next (memory next m (take i xs)) (get_or xs i past))
-      × (traced next piece m (take (suc i) xs)
-      ≡ traced next piece m (take i xs) ++ piece (memory next m (take i xs)) (get_or xs i past))
-      × (size (traced next piece m (take i xs)) + size (piece (memory next m (take i xs)) (get_or xs i past))
-      ≤ size (traced next piece m xs))
+      × (flat_map_with_memory next piece m (take (suc i) xs)
+      ≡ flat_map_with_memory next piece m (take i xs) ++ piece (memory next m (take i xs)) (get_or xs i past))
+      × (size (flat_map_with_memory next piece m (take i xs)) + size (piece (memory next m (take i xs)) (get_or xs i past))
+      ≤ size (flat_map_with_memory next piece m xs))
   traced-next m [] i below past = absurd (omega arith)
   traced-next m (x ∷ xs) zero below past =
-      (refl, append-nil (piece m x), omega (arith, size-append (piece m x) (traced next piece (next m x) xs)))
+      (refl, append-nil (piece m x), omega (arith, size-append (piece m x) (flat_map_with_memory next piece (next m x) xs)))
   traced-next m (x ∷ xs) (suc i) below past =
       let rest = traced-next (next m x) xs i (omega arith) past in
-      let so_far = traced next piece (next m x) (take i xs) in
+      let so_far = flat_map_with_memory next piece (next m x) (take i xs) in
       let at = memory next (next m x) (take i xs) in (
         rest.0,
         ap (λ l. piece m x ++ l) rest.1 ∙ sym (append_assoc (piece m x) so_far (piece at (get_or xs i past))),
         omega (
           arith,
           size-append (piece m x) so_far,
-          size-append (piece m x) (traced next piece (next m x) xs),
+          size-append (piece m x) (flat_map_with_memory next piece (next m x) xs),
           rest.2,
         ),
       )
 
 -- the same in a form that `grind` finds: it looks for the pieces so far, which the first part of the conclusion shows
 pub traced-item : {S A : Type 0} (next : S → A → S) (piece : S → A → List ℕ) (m : S) (xs : List A) (i : ℕ) → i < length xs
-    → (traced next piece m (take i xs) ≡ traced next piece m (take i xs))
+    → (flat_map_with_memory next piece m (take i xs) ≡ flat_map_with_memory next piece m (take i xs))
     × ((past : A) → (memory next m (take (i + 1) xs) ≡ next (memory next m (take i xs)) (get_or xs i past))
-    × (traced next piece m (take (i + 1) xs)
-    ≡ traced next piece m (take i xs) ++ piece (memory next m (take i xs)) (get_or xs i past))
-    × (size (traced next piece m (take i xs)) + size (piece (memory next m (take i xs)) (get_or xs i past))
-    ≤ size (traced next piece m xs)))
+    × (flat_map_with_memory next piece m (take (i + 1) xs)
+    ≡ flat_map_with_memory next piece m (take i xs) ++ piece (memory next m (take i xs)) (get_or xs i past))
+    × (size (flat_map_with_memory next piece m (take i xs)) + size (piece (memory next m (take i xs)) (get_or xs i past))
+    ≤ size (flat_map_with_memory next piece m xs)))
 traced-item next piece m xs i below = (refl, λ past. rw (add-one i) (traced-next next piece m xs i below past))

@@ -1,2 +1,2 @@
-mod Cached
-mod Loops
+mod InnerResult
+mod Memory

@@ -1,5 +1,5 @@
 pub use Rattle.arraystring_core.specs.Text
-pub use Rattle.arraystring_core.specs.Utf16
+pub mod Utf16
 pub use Rattle.arraystring_core.specs.Counts
 pub use Rattle.arraystring_core.specs.Names
 pub use Rattle.arraystring_core.specs.Stored
@@ -9,12 +9,14 @@ pub use Rattle.arraystring_core.specs.Causes
 pub use Rattle.arraystring_core.specs.Held
 pub use Rattle.arraystring_core.specs.Edits
 pub use Rattle.arraystring_core.specs.Construct
-pub use Rattle.arraystring_core.specs.Taken
+pub mod Taken
 pub use Rattle.arraystring_core.specs.Retain
 pub use Rattle.arraystring_core.specs.RangeEnds
-pub use Rattle.arraystring_core.specs.Drained
-pub use Rattle.arraystring_core.specs.FromUtf16
+pub mod Drained
+pub mod FromUtf16
 pub use Rattle.arraystring_core.specs.Json
+pub mod InnerResult
 pub mod Cached
 pub mod Refusals
+pub mod Memory
 pub mod Loops

@@ -1,18 +1,2 @@
--- What a loop makes that remembers something of the items so far, and what a test keeps that does.
-use Rattle.std.specs.Prelude.{List, [], ◌∷◌, ◌++◌, ℕ, Bool, if◌then◌else◌}
-
-module _ {S X : Type 0} (next : S → X → S) where
-  -- what is remembered of some items: `s` before the first of them, and `next` says how an item changes it
-  abbrev pub memory : S → List X → S
-  memory s [] = s
-  memory s (x ∷ xs) = memory (next s x) xs
-
-  -- the pieces of the items, one after the other: each is made of an item and of what is remembered of the items before it
-  abbrev pub traced : (S → X → List ℕ) → S → List X → List ℕ
-  traced piece s [] = []
-  traced piece s (x ∷ xs) = piece s x ++ traced piece (next s x) xs
-
-  -- the items that are kept: `keeps` looks at an item and at what is remembered of the items before it
-  abbrev pub kept : (S → X → Bool) → S → List X → List X
-  kept keeps s [] = []
-  kept keeps s (x ∷ xs) = if keeps s x then x ∷ kept keeps (next s x) xs else kept keeps (next s x) xs
+-- The names of arraystring.specs.Memory, and behind `as` those that they had, which stay until the next release.
+pub use Rattle.arraystring.specs.Memory.{memory, flat_map_with_memory, flat_map_with_memory as traced, filter_with_memory, filter_with_memory as kept}

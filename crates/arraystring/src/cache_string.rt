@@ -10,8 +10,8 @@ ghost use Rattle.arraystring_base.specs.Utf16.{IsReading, first_stop, lossy_text
 ghost use Rattle.arraystring_core.specs.Edits.{Makes, from_out_of_bounds, with_text, split};
 ghost use Rattle.arraystring_core.specs.FromUtf16.{GivesWhole, GivesPrefix};
 ghost use Rattle.arraystring_core.specs.Construct.{IsWholeOrRefused};
-ghost use Rattle.arraystring_core.specs.Taken.{Takes, TakesAll, Fits, Gives, joined, joined_pieces, piece_text};
-ghost use Rattle.arraystring.specs.Cached.{held};
+ghost use Rattle.arraystring_core.specs.Taken.{Takes, TakesAll, Fits, Gives, joined_texts, joined_pieces, piece_text};
+ghost use Rattle.arraystring.specs.Cached.{inner_result};
 
 use crate::error::{Error, OutOfBounds, Utf8, Utf16};
 use arraystring_core::ArrayString;
@@ -44,7 +44,7 @@ impl CacheString {
     ///
     /// Returns `Err(OutOfBounds)` if `string` is larger than the capacity.
     pub fn try_from_str(string: &str) -> Result<Self, OutOfBounds>
-        ensures { IsWholeOrRefused (chars string.now) 63 (from_out_of_bounds (held result)) }
+        ensures { IsWholeOrRefused (chars string.now) 63 (from_out_of_bounds (inner_result result)) }
     {
         Ok(CacheString(ArrayString::try_from_str(string)?))
     }
@@ -85,10 +85,10 @@ impl CacheString {
             I.IntoIter.remaining pieces }
         ensures taken { (taken : List (Bor (List ℕ)))
             × Takes I.into_iter_gives I.IntoIter.next_gives joined_pieces pieces 63 taken
-            × IsWholeOrRefused (joined_pieces taken) 63 (from_out_of_bounds (held result)) }
+            × IsWholeOrRefused (joined_pieces taken) 63 (from_out_of_bounds (inner_result result)) }
         ensures whole { (all : List (List ℕ))
             → Gives I.into_iter_gives I.IntoIter.next_gives piece_text pieces all
-            → IsWholeOrRefused (joined all) 63 (from_out_of_bounds (held result)) }
+            → IsWholeOrRefused (joined_texts all) 63 (from_out_of_bounds (inner_result result)) }
     {
         Ok(CacheString(ArrayString::try_from_iterator(pieces)?))
     }
@@ -107,7 +107,7 @@ impl CacheString {
             × (result.0.text ≡ cut (joined_pieces taken) 63) }
         ensures whole { (all : List (List ℕ))
             → Gives I.into_iter_gives I.IntoIter.next_gives piece_text pieces all
-            → result.0.text ≡ cut (joined all) 63 }
+            → result.0.text ≡ cut (joined_texts all) 63 }
     {
         CacheString(ArrayString::from_iterator(pieces))
     }
@@ -127,7 +127,7 @@ impl CacheString {
             × (result.0.text ≡ joined_pieces taken) }
         ensures whole { (all : List (List ℕ))
             → Gives I.into_iter_gives I.IntoIter.next_gives piece_text pieces all
-            → result.0.text ≡ joined all }
+            → result.0.text ≡ joined_texts all }
     {
         CacheString(ArrayString::from_iterator_unchecked(pieces))
     }
@@ -148,10 +148,10 @@ impl CacheString {
             I.IntoIter.remaining characters }
         ensures taken { (taken : List ℕ)
             × Takes I.into_iter_gives I.IntoIter.next_gives (λ cs. cs) characters 63 taken
-            × IsWholeOrRefused taken 63 (from_out_of_bounds (held result)) }
+            × IsWholeOrRefused taken 63 (from_out_of_bounds (inner_result result)) }
         ensures whole { (all : List ℕ)
             → Gives I.into_iter_gives I.IntoIter.next_gives (λ c. c) characters all
-            → IsWholeOrRefused all 63 (from_out_of_bounds (held result)) }
+            → IsWholeOrRefused all 63 (from_out_of_bounds (inner_result result)) }
     {
         Ok(CacheString(ArrayString::try_from_chars(characters)?))
     }
@@ -205,10 +205,10 @@ impl CacheString {
     ///   3.9);
     /// - `Err(Error::OutOfBounds)` if the text is larger than the capacity.
     pub fn try_from_utf8(given: &[u8]) -> Result<Self, Error>
-        ensures malformed { ¬ (IsWellFormed given.now) → held result ≡ Err error.Utf8 }
-        ensures too_large { held result ≡ Err error.OutOfBounds → IsWellFormed given.now }
+        ensures malformed { ¬ (IsWellFormed given.now) → inner_result result ≡ Err error.Utf8 }
+        ensures too_large { inner_result result ≡ Err error.OutOfBounds → IsWellFormed given.now }
         ensures whole { (t : List ℕ)
-            → IsText t → bytes t ≡ given.now → IsWholeOrRefused t 63 (held result) }
+            → IsText t → bytes t ≡ given.now → IsWholeOrRefused t 63 (inner_result result) }
         ensures made { IsOk result ↔ (IsWellFormed given.now × (length given.now ≤ 63)) }
         ensures bytes { IfOk result (λ made. bytes made.0.text ≡ given.now) }
         ensures text { IfOk result (λ made. IsText made.0.text) }
@@ -258,7 +258,7 @@ impl CacheString {
     /// - `Err(Error::OutOfBounds)` if it is a character that does not fit.
     pub fn try_from_utf16(units: &[u16]) -> Result<Self, Error>
         ensures whole { (items : List Unit16)
-            → IsReading units.now items → GivesWhole (first_stop items 63) (held result) }
+            → IsReading units.now items → GivesWhole (first_stop items 63) (inner_result result) }
         ensures units { IfOk result (λ made. text_units made.0.text ≡ units.now) }
     {
         Ok(CacheString(ArrayString::try_from_utf16(units)?))
@@ -274,7 +274,7 @@ impl CacheString {
     /// is full.
     pub fn from_utf16(units: &[u16]) -> Result<Self, Utf16>
         ensures { (items : List Unit16)
-            → IsReading units.now items → GivesPrefix (first_stop items 63) (held result) }
+            → IsReading units.now items → GivesPrefix (first_stop items 63) (inner_result result) }
     {
         Ok(CacheString(ArrayString::from_utf16(units)?))
     }
@@ -299,7 +299,7 @@ impl CacheString {
     /// - `Err(Error::Utf8)` if `at` is inside a character.
     pub fn split_off(&mut self, at: u8) -> Result<Self, Error>
         ensures { Makes (split self.old.0.text at) self.old.0.text
-            (with_text (held result)) self.new.0.text }
+            (with_text (inner_result result)) self.new.0.text }
     {
         Ok(CacheString(self.0.split_off(at)?))
     }

@@ -5,7 +5,7 @@ use Rattle.std.proofs.lemmas.Bool.Decides.{nat_tests}
 use Rattle.arraystring_base.specs.declared.utf16.Unit16.{Unit16}
 use Rattle.arraystring_base.specs.declared.utf16.Unit16.TheVariants.{Char, Lone}
 use Rattle.arraystring_base.specs.Text.{width, size}
-use Rattle.arraystring_base.specs.Utf16.{Stop, End, Fault, Full, StopsAt, stop_behind, first_stop, lossy_text}
+use Rattle.arraystring_base.specs.Utf16.{Stop, End, Fault, Full, StopsAt, prepend_to_stop, first_stop, lossy_text}
 
 -- the first stop of a run of characters that fits, by what comes after it: each character of the run fits, so `grind` has
 -- the stop behind it
@@ -30,7 +30,7 @@ stop-is items n (Fault run) at = rw at.2 (stop-fault run at.0 at.1 n at.3)
 stop-is items n (Full run) at = rw at.2 (stop-full run at.0 at.1 n at.3 at.4)
 
 stops_behind : (c : ℕ) (items : List Unit16) (n : ℕ) (stop : Stop) → width c ≤ n → StopsAt items (n - width c) stop
-    → StopsAt (Char c ∷ items) n (stop_behind c stop)
+    → StopsAt (Char c ∷ items) n (prepend_to_stop c stop)
 stops_behind c items n (End run) fits at = (cc, omega arith)
 stops_behind c items n (Fault run) fits at = (at.0, at.1, cc, omega arith)
 stops_behind c items n (Full run) fits at = (at.0, at.1, cc, omega arith, omega arith)

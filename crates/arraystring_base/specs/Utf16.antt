@@ -68,22 +68,22 @@ StopsAt items n (Full prefix) =
     (c : ℕ) × (rest : List Unit16) × (items ≡ map Char prefix ++ Char c ∷ rest) × (size prefix ≤ n) × (n < size prefix + width c)
 
 -- the same kind of stop, with a character put before its prefix
-abbrev pub stop_behind : ℕ → Stop → Stop
-stop_behind c (End prefix) = End (c ∷ prefix)
-stop_behind c (Fault prefix) = Fault (c ∷ prefix)
-stop_behind c (Full prefix) = Full (c ∷ prefix)
+abbrev pub prepend_to_stop : ℕ → Stop → Stop
+prepend_to_stop c (End prefix) = End (c ∷ prefix)
+prepend_to_stop c (Fault prefix) = Fault (c ∷ prefix)
+prepend_to_stop c (Full prefix) = Full (c ∷ prefix)
 
 -- the stop of the items after the longest prefix of characters that fits into n bytes (`one_stop`, `units_read_back`)
 abbrev pub first_stop : List Unit16 → ℕ → Stop
 first_stop [] n = End []
 first_stop (Lone unit ∷ items) n = Fault []
-first_stop (Char c ∷ items) n = if nat_le (width c) n then stop_behind c (first_stop items (n - width c)) else Full []
+first_stop (Char c ∷ items) n = if nat_le (width c) n then prepend_to_stop c (first_stop items (n - width c)) else Full []
 
 -- an item as a character, with U+FFFD for a lone surrogate
-abbrev pub shown : Unit16 → ℕ
-shown (Char c) = c
-shown (Lone unit) = 0xFFFD
+abbrev pub char_or_replacement : Unit16 → ℕ
+char_or_replacement (Char c) = c
+char_or_replacement (Lone unit) = 0xFFFD
 
 -- the items as a text, each lone surrogate as U+FFFD (3.9)
 abbrev pub lossy_text : List Unit16 → List ℕ
-lossy_text items = map shown items
+lossy_text items = map char_or_replacement items

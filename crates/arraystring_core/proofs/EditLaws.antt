@@ -8,7 +8,7 @@ use Rattle.std.specs.Prelude.{◌&&◌, ◌||◌, ◌==◌, nat_le, nat_lt}
 use Rattle.arraystring_base.specs.Text.{size, boundary}
 use Rattle.arraystring_base.proofs.BoundaryLaws.{boundary-end}
 use Rattle.arraystring_core.specs.Held.{NoneHolds}
-use Rattle.arraystring_core.specs.Edits.{Cause, Room, Test, Edit, Makes, first_cause, error_of, inside, addition, last_of, all_but_last, is_white_space}
+use Rattle.arraystring_core.specs.Edits.{Cause, Room, Test, Edit, Makes, first_cause, error_of, inside_character, addition, last_of, all_but_last, is_white_space}
 use Rattle.arraystring_base.specs.declared.error.Error.{Error}
 use Rattle.arraystring_base.specs.declared.error.Error.TheVariants.{OutOfBounds}
 
@@ -38,18 +38,18 @@ all_but_last-push (a ∷ []) c = refl
 all_but_last-push (a ∷ b ∷ t) c = ap (λ l. a ∷ l) (all_but_last-push (b ∷ t) c)
 
 -- a boundary is not inside, and an index in the text that is no boundary is: it is not the end, which is a boundary
-pub inside-not : (t : List ℕ) (i : ℕ) → boundary t i ≡ true → (inside t i).holds ≡ false
+pub inside-not : (t : List ℕ) (i : ℕ) → boundary t i ≡ true → (inside_character t i).holds ≡ false
 inside-not t i b = rw b (and_right _ false refl)
 
-pub inside-so : (t : List ℕ) (i : ℕ) → i ≤ size t → boundary t i ≡ false → (inside t i).holds ≡ true
+pub inside-so : (t : List ℕ) (i : ℕ) → i ≤ size t → boundary t i ≡ false → (inside_character t i).holds ≡ true
 inside-so t i le b = grind (arith, nat_tests, boundary-end t)
 
 -- nor is an index past the text
-pub inside-past : (t : List ℕ) (i : ℕ) → size t ≤ i → (inside t i).holds ≡ false
+pub inside-past : (t : List ℕ) (i : ℕ) → size t ≤ i → (inside_character t i).holds ≡ false
 inside-past t i ge = rw (le-ltb i (size t) ge)
 
 -- an index in the text that is not inside a character is a boundary: if it were none, it would be inside
-pub inside-failed : (t : List ℕ) (i : ℕ) → i ≤ size t → (inside t i).holds ≡ false → boundary t i ≡ true
+pub inside-failed : (t : List ℕ) (i : ℕ) → i ≤ size t → (inside_character t i).holds ≡ false → boundary t i ≡ true
 inside-failed t i within out = grind (arith, inside-so t i within)
 
 -- an addition has a cause exactly if it does not fit

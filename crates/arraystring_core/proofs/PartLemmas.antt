@@ -4,7 +4,7 @@ use Rattle.std.proofs.lemmas.Bool.{ltb-false}
 use Rattle.arraystring_base.specs.Text.{size, front, back, boundary}
 use Rattle.arraystring_base.proofs.BoundaryLaws.{boundary-in_front}
 use Rattle.arraystring_core.specs.Stored.{Stored}
-use Rattle.arraystring_core.specs.Layout.{stored, IsStored}
+use Rattle.arraystring_core.specs.Layout.{string_in, IsStored}
 use Rattle.arraystring_core.specs.Edits.{part, draining, first_cause, ok_unless, Makes}
 use Rattle.arraystring_core.proofs.StoredLaws.{opened-size}
 use Rattle.arraystring_core.proofs.EditLaws.{makes, none-holds, inside-failed}
@@ -12,12 +12,12 @@ use Rattle.arraystring_core.proofs.CauseLemmas.{no_cause}
 use Rattle.arraystring_core.proofs.SpanLemmas.{StoredAt, dropped, kept}
 
 -- the part between two boundaries of a stored text, where it is in the array
-module _ {array_size : ℕ} {array : List ℕ} {p n : ℕ} (is : IsStored array_size array p n) {v : Stored} (e : stored array p n ≡ v)
+module _ {array_size : ℕ} {array : List ℕ} {p n : ℕ} (is : IsStored array_size array p n) {v : Stored} (e : string_in array p n ≡ v)
     {start end : ℕ} (order : start ≤ end) (b : boundary v.text start ≡ true) (d : boundary v.text end ≡ true) where
   pub part_stored : StoredAt array_size array (p + start) (end - start) (part v.text start end)
   part_stored =
       let front_is = kept is e end d in
-      let starts : boundary (stored array p end).text start ≡ true =
+      let starts : boundary (string_in array p end).text start ≡ true =
       rw front_is.shown (boundary-in_front v.text start end order b) in
       let there = dropped front_is.in_array refl start starts in
       record { in_array = there.in_array; shown = there.shown ∙ ap (λ t. back t start) front_is.shown }
@@ -29,10 +29,10 @@ pub record IsTakable (array_size : ℕ) (array : List ℕ) (p n : ℕ) (v : Stor
   pub starts : boundary v.text start ≡ true
   pub ends : boundary v.text end ≡ true
   pub in_array : IsStored array_size array (p + start) (end - start)
-  pub made : (left new : List ℕ) → left ≡ (stored array (p + start) (end - start)).text → new ≡ front v.text start ++ back v.text end
+  pub made : (left new : List ℕ) → left ≡ (string_in array (p + start) (end - start)).text → new ≡ front v.text start ++ back v.text end
       → Makes (draining v.text start end) v.text (Ok left) new
 
-pub takable : {array_size : ℕ} {array : List ℕ} {p n : ℕ} → IsStored array_size array p n → {v : Stored} → stored array p n ≡ v → (start end : ℕ)
+pub takable : {array_size : ℕ} {array : List ℕ} {p n : ℕ} → IsStored array_size array p n → {v : Stored} → string_in array p n ≡ v → (start end : ℕ)
     → Ok (tt {0}) ≡ ok_unless (first_cause (draining v.text start end).tests) (tt {0}) → IsTakable array_size array p n v start end
 takable is {v = v} e start end checked =
     let edit = draining v.text start end in

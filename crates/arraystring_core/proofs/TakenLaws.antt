@@ -17,21 +17,21 @@ use Rattle.arraystring_core.specs.Stored.{Stored}
 use Rattle.arraystring_core.specs.Drained.{Drained}
 use Rattle.arraystring_core.specs.Construct.{IsWholeOrRefused}
 use Rattle.arraystring_core.proofs.ConstructLaws.{IsAllOrPast, settled-cut, made-more}
-use Rattle.arraystring_core.specs.Taken.{joined, joined_pieces, piece_text, TakesAll, Takes, Fits, Gives}
+use Rattle.arraystring_core.specs.Taken.{joined_texts, joined_pieces, piece_text, TakesAll, Takes, Fits, Gives}
 
 -- texts joined
-pub joined-append : (a b : List (List ℕ)) → joined (a ++ b) ≡ joined a ++ joined b
+pub joined-append : (a b : List (List ℕ)) → joined_texts (a ++ b) ≡ joined_texts a ++ joined_texts b
 joined-append [] b = refl
-joined-append (t ∷ a) b = ap (λ l. t ++ l) (joined-append a b) ∙ sym (append_assoc t (joined a) (joined b))
+joined-append (t ∷ a) b = ap (λ l. t ++ l) (joined-append a b) ∙ sym (append_assoc t (joined_texts a) (joined_texts b))
 
 -- the bytes of the texts, one after the other, are those of the joined text
-pub bytes-joined : (ts : List (List ℕ)) → bytes (joined ts) ≡ joined (map bytes ts)
+pub bytes-joined : (ts : List (List ℕ)) → bytes (joined_texts ts) ≡ joined_texts (map bytes ts)
 bytes-joined [] = refl
-bytes-joined (t ∷ ts) = bytes-append t (joined ts) ∙ ap (λ l. bytes t ++ l) (bytes-joined ts)
+bytes-joined (t ∷ ts) = bytes-append t (joined_texts ts) ∙ ap (λ l. bytes t ++ l) (bytes-joined ts)
 
 -- texts after the first that no longer fits change no cut
-pub cut-joined_past : (taken more : List (List ℕ)) (n : ℕ) → n < size (joined taken) → cut (joined (taken ++ more)) n ≡ cut (joined taken) n
-cut-joined_past taken more n past = ap (λ l. cut l n) (joined-append taken more) ∙ cut-past (joined taken) (joined more) n past
+pub cut-joined_past : (taken more : List (List ℕ)) (n : ℕ) → n < size (joined_texts taken) → cut (joined_texts (taken ++ more)) n ≡ cut (joined_texts taken) n
+cut-joined_past taken more n past = ap (λ l. cut l n) (joined-append taken more) ∙ cut-past (joined_texts taken) (joined_texts more) n past
 
 -- the items that an iterator gives are spelled `text`: what a call takes of them is all, or larger than the room
 record IsGiven {U T A : Type 0} (becomes : U → T → Type 0) (steps : T → Option A → T → Type 0) (spelled : List A → List ℕ) (iter : U)
@@ -87,21 +87,21 @@ module _ {U T : Type 0} (becomes : U → T → Type 0) (steps : T → Option ℕ
 -- and of pieces
 module _ {U T : Type 0} (becomes : U → T → Type 0) (steps : T → Option (Bor (List ℕ)) → T → Type 0) (iter : U) (all : List (List ℕ))
     (gives : Gives becomes steps piece_text iter all) where
-  pieces-given : IsGiven becomes steps joined_pieces iter (joined all)
-  pieces-given = given becomes steps joined_pieces piece_text joined (λ pieces. refl) joined-append iter all gives
+  pieces-given : IsGiven becomes steps joined_pieces iter (joined_texts all)
+  pieces-given = given becomes steps joined_pieces piece_text joined_texts (λ pieces. refl) joined-append iter all gives
 
-  pub pieces-fit : (room : ℕ) → size (joined all) ≤ room → Fits becomes steps joined_pieces iter room
+  pub pieces-fit : (room : ℕ) → size (joined_texts all) ≤ room → Fits becomes steps joined_pieces iter room
   pieces-fit = pieces-given.fit
 
-  pub pieces-all : (taken : List (Bor (List ℕ))) → TakesAll becomes steps iter taken → joined_pieces taken ≡ joined all
+  pub pieces-all : (taken : List (Bor (List ℕ))) → TakesAll becomes steps iter taken → joined_pieces taken ≡ joined_texts all
   pieces-all = pieces-given.every
 
   module _ (taken : List (Bor (List ℕ))) (room : ℕ) (takes : Takes becomes steps joined_pieces iter room taken) where
-    pub pieces-cut : cut (joined_pieces taken) room ≡ cut (joined all) room
-    pieces-cut = settled-cut (joined_pieces taken) (joined all) room (pieces-given.settled taken room takes)
+    pub pieces-cut : cut (joined_pieces taken) room ≡ cut (joined_texts all) room
+    pieces-cut = settled-cut (joined_pieces taken) (joined_texts all) room (pieces-given.settled taken room takes)
 
-    pub pieces-made : (result : Result Stored Error) → IsWholeOrRefused (joined_pieces taken) room result → IsWholeOrRefused (joined all) room result
-    pieces-made result = made-more result (joined_pieces taken) (joined all) room (pieces-given.settled taken room takes)
+    pub pieces-made : (result : Result Stored Error) → IsWholeOrRefused (joined_pieces taken) room result → IsWholeOrRefused (joined_texts all) room result
+    pieces-made result = made-more result (joined_pieces taken) (joined_texts all) room (pieces-given.settled taken room takes)
 
 -- the same, if the values are seen by a function more
 always-map : {S A B C : Type 0} (steps : S → Option A → S → Type 0) (value : A → B) (f : B → C) (s : S) (all : List B)

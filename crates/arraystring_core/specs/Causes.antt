@@ -22,20 +22,20 @@ pub record Test : Type 0 where
   pub cause : Cause
 
 -- i is greater than the size of t
-abbrev pub past : List ℕ → ℕ → Test
-past t i = record { holds = nat_lt (size t) i; cause = Past }
+abbrev pub past_text : List ℕ → ℕ → Test
+past_text t i = record { holds = nat_lt (size t) i; cause = Past }
 
 -- a range that ends before it starts
-abbrev pub crossed : ℕ → ℕ → Test
-crossed start end = record { holds = nat_lt end start; cause = Past }
+abbrev pub reversed_range : ℕ → ℕ → Test
+reversed_range start end = record { holds = nat_lt end start; cause = Past }
 
 -- no character of t begins at i or after it
 abbrev pub at_end : List ℕ → ℕ → Test
 at_end t i = record { holds = nat_le (size t) i; cause = Past }
 
 -- i is not past the text and no boundary of it
-abbrev pub inside : List ℕ → ℕ → Test
-inside t i = record { holds = nat_lt i (size t) && not (boundary t i); cause = Inside }
+abbrev pub inside_character : List ℕ → ℕ → Test
+inside_character t i = record { holds = nat_lt i (size t) && not (boundary t i); cause = Inside }
 
 -- a result of this size does not fit into n bytes
 abbrev pub no_room : ℕ → ℕ → Test

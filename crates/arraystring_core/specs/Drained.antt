@@ -13,8 +13,8 @@ pub record Drained : Type 0 where
   pub spare : List ℕ
 
 -- the part of `removed` from the boundary i on is left
-abbrev pub drained : Stored → ℕ → Drained
-drained removed i = record { left = back removed.text i; yielded = front removed.text i; spare = removed.spare }
+abbrev pub drain_from : Stored → ℕ → Drained
+drain_from removed i = record { left = back removed.text i; yielded = front removed.text i; spare = removed.spare }
 
 -- the removed text, put together again from what was given of it and what is left
 abbrev pub removed_of : Drained → Stored
@@ -47,7 +47,7 @@ from_back None w = w
 from_back (Some c) w = record { fronts = w.fronts; left = w.left; backs = c ∷ w.backs }
 
 -- t walked by one end after the other: each gives its character, if there is one, and leaves the others (`walks`)
-abbrev pub walked : List End → List ℕ → Walked
-walked [] t = record { fronts = []; left = t; backs = [] }
-walked (Front ∷ ends) t = from_front (first_of t) (walked ends (drop 1 t))
-walked (Back ∷ ends) t = from_back (last_of t) (walked ends (all_but_last t))
+abbrev pub walk_of : List End → List ℕ → Walked
+walk_of [] t = record { fronts = []; left = t; backs = [] }
+walk_of (Front ∷ ends) t = from_front (first_of t) (walk_of ends (drop 1 t))
+walk_of (Back ∷ ends) t = from_back (last_of t) (walk_of ends (all_but_last t))

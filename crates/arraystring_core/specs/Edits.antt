@@ -9,7 +9,7 @@ use Rattle.arraystring_base.specs.declared.error.Error.TheVariants as error
 use Rattle.arraystring_base.specs.declared.error.OutOfBounds.{OutOfBounds}
 use Rattle.arraystring_base.specs.declared.error.Utf8.{Utf8}
 -- paths that callers name
-pub use Rattle.arraystring_core.specs.Causes.{Cause, Past, Room, Inside, error_of, Test, past, crossed, at_end, inside, no_room, first_cause}
+pub use Rattle.arraystring_core.specs.Causes.{Cause, Past, Room, Inside, error_of, Test, past_text, past_text as past, reversed_range, reversed_range as crossed, at_end, inside_character, inside_character as inside, no_room, first_cause}
 pub use Rattle.arraystring_core.specs.Held.{NoneHolds, FirstHolds}
 pub use Rattle.arraystring_core.specs.Parts.{first_of, last_of, all_but_last, without_leading, without_trailing, part, part_in}
 unfoldable pub use Rattle.arraystring_core.specs.WhiteSpace.{is_space, in_ranges, is_white_space}
@@ -76,7 +76,7 @@ popping t = record { tests = []; result = last_of t; after = all_but_last t }
 -- all of `given` is put at i
 abbrev pub insertion : List ℕ → ℕ → List ℕ → ℕ → Edit (Unit {0})
 insertion t i given n = record {
-  tests = past t i ∷ no_room (size t + size given) n ∷ inside t i ∷ [];
+  tests = past_text t i ∷ no_room (size t + size given) n ∷ inside_character t i ∷ [];
   result = tt;
   after = front t i ++ (given ++ back t i);
 }
@@ -84,14 +84,14 @@ insertion t i given n = record {
 -- what fits of `given` is put at i
 abbrev pub insertion_of_cut : List ℕ → ℕ → List ℕ → ℕ → Edit (Unit {0})
 insertion_of_cut t i given n = record {
-  tests = past t i ∷ inside t i ∷ [];
+  tests = past_text t i ∷ inside_character t i ∷ [];
   result = tt;
   after = front t i ++ (cut given (n - size t) ++ back t i);
 }
 
 -- the part from i on is dropped; nothing is if i is past the text
 abbrev pub truncation : List ℕ → ℕ → Edit (Unit {0})
-truncation t i = record { tests = inside t i ∷ []; result = tt; after = front t i }
+truncation t i = record { tests = inside_character t i ∷ []; result = tt; after = front t i }
 
 -- the characters at both ends that pass are dropped
 abbrev pub trimming : (ℕ → Bool) → List ℕ → Edit (Unit {0})
@@ -101,7 +101,7 @@ trimming passes t = record { tests = []; result = tt; after = without_leading pa
 -- `at_end` holds there
 abbrev pub removal : List ℕ → ℕ → Edit ℕ
 removal t i = record {
-  tests = at_end t i ∷ inside t i ∷ [];
+  tests = at_end t i ∷ inside_character t i ∷ [];
   result = slice_index_or (back t i) 0 0;
   after = front t i ++ drop 1 (back t i);
 }
@@ -112,7 +112,7 @@ clearing = record { tests = []; result = tt; after = [] }
 
 -- the part from i on is taken out and returned
 abbrev pub split : List ℕ → ℕ → Edit (List ℕ)
-split t i = record { tests = past t i ∷ inside t i ∷ []; result = back t i; after = front t i }
+split t i = record { tests = past_text t i ∷ inside_character t i ∷ []; result = back t i; after = front t i }
 
 -- a to z become A to Z
 abbrev pub uppercase : List ℕ → Edit (Unit {0})
@@ -125,7 +125,7 @@ lowercase t = record { tests = []; result = tt; after = map to_ascii_lowercase t
 -- the part between two boundaries is taken out and returned
 abbrev pub draining : List ℕ → ℕ → ℕ → Edit (List ℕ)
 draining t start end = record {
-  tests = crossed start end ∷ past t end ∷ inside t start ∷ inside t end ∷ [];
+  tests = reversed_range start end ∷ past_text t end ∷ inside_character t start ∷ inside_character t end ∷ [];
   result = part t start end;
   after = front t start ++ back t end;
 }
@@ -133,7 +133,7 @@ draining t start end = record {
 -- the part between two boundaries is replaced by `given`; the size of the text after is to fit
 abbrev pub replacement : List ℕ → ℕ → ℕ → List ℕ → ℕ → Edit (Unit {0})
 replacement t start end given n = record {
-  tests = crossed start end ∷ past t end ∷ no_room (size t - (end - start) + size given) n ∷ inside t start ∷ inside t end ∷ [];
+  tests = reversed_range start end ∷ past_text t end ∷ no_room (size t - (end - start) + size given) n ∷ inside_character t start ∷ inside_character t end ∷ [];
   result = tt;
   after = front t start ++ (given ++ back t end);
 }

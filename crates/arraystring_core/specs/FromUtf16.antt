@@ -22,7 +22,7 @@ GivesPrefix (Fault prefix) result = IsErr result
 GivesPrefix (Full prefix) result = IsOkAnd result (λ string. string.text ≡ prefix)
 
 -- the stop of a prefix, of which the item after it decides the kind: none, a lone surrogate, or a character, which did not fit
-abbrev pub stop_at : Option Unit16 → List ℕ → Stop
-stop_at None prefix = End prefix
-stop_at (Some (Lone unit)) prefix = Fault prefix
-stop_at (Some (Char c)) prefix = Full prefix
+abbrev pub stop_by_next : Option Unit16 → List ℕ → Stop
+stop_by_next None prefix = End prefix
+stop_by_next (Some (Lone unit)) prefix = Fault prefix
+stop_by_next (Some (Char c)) prefix = Full prefix

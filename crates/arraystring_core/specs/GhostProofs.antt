@@ -6,45 +6,45 @@ use Rattle.arraystring_base.specs.Text.{size, bytes}
 use Rattle.arraystring_base.proofs.TextLaws.{size-is, bytes-chars}
 use Rattle.arraystring_base.proofs.BoundaryLaws.{front-back, front-size}
 use Rattle.arraystring_core.specs.Stored.{Stored}
-use Rattle.arraystring_core.specs.Layout.{stored, IsStored, IsDrained, array_of}
-use Rattle.arraystring_core.specs.Drained.{drained, removed_of}
+use Rattle.arraystring_core.specs.Layout.{string_in, IsStored, IsDrained, array_of}
+use Rattle.arraystring_core.specs.Drained.{drain_from, removed_of}
 
 -- the text, and the array, of a string
 module _ {array_size : ℕ} {array : List ℕ} {start n : ℕ} (is : IsStored array_size array start n) where
   pub stored-utf8 : IsUtf8 (take n (drop start array))
   stored-utf8 = IsUtf8-had _ is.utf8
 
-  pub stored-bytes : bytes (stored array start n).text ≡ take n (drop start array)
+  pub stored-bytes : bytes (string_in array start n).text ≡ take n (drop start array)
   stored-bytes = bytes-chars stored-utf8
 
-  pub stored-size : size (stored array start n).text ≡ n
+  pub stored-size : size (string_in array start n).text ≡ n
   stored-size =
-      size-is (stored array start n).text ∙ ap length stored-bytes
+      size-is (string_in array start n).text ∙ ap length stored-bytes
       ∙ length-take-le n (drop start array) (omega (arith, length-drop start array))
 
-  pub stored-all : array_of (stored array start n) ≡ array
+  pub stored-all : array_of (string_in array start n) ≡ array
   stored-all =
       let front = take start array in
       let back = drop n (drop start array) in
       let long : length front ≡ start = length-take-le start array (omega arith) in
-      ap (λ f. f ++ (bytes (stored array start n).text ++ drop start (front ++ back))) (take_at front back start long)
-      ∙ ap (λ d. front ++ (bytes (stored array start n).text ++ d)) (drop_at front back start long)
+      ap (λ f. f ++ (bytes (string_in array start n).text ++ drop start (front ++ back))) (take_at front back start long)
+      ∙ ap (λ d. front ++ (bytes (string_in array start n).text ++ d)) (drop_at front back start long)
       ∙ ap (λ b. front ++ (b ++ back)) stored-bytes
       ∙ ap (λ d. front ++ d) (take-append-drop n (drop start array)) ∙ take-append-drop start array
 
 -- the removed text, where it lies, and what was given of it
 module _ {array_size : ℕ} {array : List ℕ} {start n i : ℕ} (is : IsDrained array_size array start n i) where
-  drained-removed : removed_of (drained (stored array start n) i) ≡ stored array start n
-  drained-removed = ap with_spare (front-back (stored array start n).text i)
+  drained-removed : removed_of (drain_from (string_in array start n) i) ≡ string_in array start n
+  drained-removed = ap with_spare (front-back (string_in array start n).text i)
     where
       with_spare : List ℕ → Stored
-      with_spare t = record { text = t; spare = (stored array start n).spare }
+      with_spare t = record { text = t; spare = (string_in array start n).spare }
 
-  pub drained-front : size (drained (stored array start n) i).yielded ≡ i
-  drained-front = front-size (stored array start n).text i is.at
+  pub drained-front : size (drain_from (string_in array start n) i).yielded ≡ i
+  drained-front = front-size (string_in array start n).text i is.at
 
-  pub drained-array : array_of (removed_of (drained (stored array start n) i)) ≡ array
+  pub drained-array : array_of (removed_of (drain_from (string_in array start n) i)) ≡ array
   drained-array = ap array_of drained-removed ∙ stored-all is.in_array
 
-  pub drained-size : size (removed_of (drained (stored array start n) i)).text ≡ n
+  pub drained-size : size (removed_of (drain_from (string_in array start n) i)).text ≡ n
   drained-size = ap (λ r. size r.text) drained-removed ∙ stored-size is.in_array

@@ -4,8 +4,8 @@ use Rattle.arraystring_base.specs.Text.{bytes, cap, boundary}
 use Rattle.arraystring_core.specs.Stored.{Stored}
 
 -- the n bytes of the array from `start` on are the text; the spare numbers are the start and the bytes around them
-abbrev pub stored : List ℕ → ℕ → ℕ → Stored
-stored array start n = record {
+abbrev pub string_in : List ℕ → ℕ → ℕ → Stored
+string_in array start n = record {
   text = chars (take n (drop start array));
   spare = start ∷ (take start array ++ drop n (drop start array));
 }
@@ -20,7 +20,7 @@ pub record IsStored (array_size : ℕ) (array : List ℕ) (start n : ℕ) : Type
 -- back, and i is a boundary of it
 pub record IsDrained (array_size : ℕ) (array : List ℕ) (start n i : ℕ) : Type 0 where
   pub in_array : IsStored array_size array start n
-  pub at : IsTrue (boundary (stored array start n).text i)
+  pub at : IsTrue (boundary (string_in array start n).text i)
 
 -- the start offset of a string, read back from what a contract sees of it
 abbrev pub start_of : Stored → ℕ

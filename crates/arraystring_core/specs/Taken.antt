@@ -5,9 +5,9 @@ use Rattle.std.specs.Borrow.{Bor}
 use Rattle.arraystring_base.specs.Text.{size}
 
 -- texts, or the bytes of texts, one after the other
-abbrev pub joined : List (List ℕ) → List ℕ
-joined [] = []
-joined (t ∷ ts) = t ++ joined ts
+abbrev pub joined_texts : List (List ℕ) → List ℕ
+joined_texts [] = []
+joined_texts (t ∷ ts) = t ++ joined_texts ts
 
 -- the text of a borrowed piece
 abbrev pub piece_text : Bor (List ℕ) → List ℕ
@@ -15,7 +15,7 @@ piece_text piece = chars piece.now
 
 -- the texts of borrowed pieces, one after the other (`pieces_make_one_text`)
 abbrev pub joined_pieces : List (Bor (List ℕ)) → List ℕ
-joined_pieces pieces = joined (map piece_text pieces)
+joined_pieces pieces = joined_texts (map piece_text pieces)
 
 -- the last item is the first that no longer fits into the room; `spelled` is the text of items
 abbrev pub IsFirstPast : {A : Type 0} → (List A → List ℕ) → ℕ → List A → Type 0

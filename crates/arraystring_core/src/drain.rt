@@ -1,7 +1,7 @@
 //! `Drain`: the characters that were removed from a string, from both ends. `traits` has its impls of traits.
 ghost use Rattle.std.specs.Prelude.{◌≡◌, ◌≤◌, chars};
 ghost use Rattle.arraystring_base.specs.Text.{bytes, cap, size, IsText};
-ghost use Rattle.arraystring_core.specs.Layout.{stored, IsStored};
+ghost use Rattle.arraystring_core.specs.Layout.{string_in, IsStored};
 
 use arraystring_base::leaf::part;
 use std::marker::Model;
@@ -31,13 +31,13 @@ pub struct Drain<const N: usize> {
 
 impl<const N: usize> Model for Drain<N> {
     ghost use Rattle.arraystring_base.specs.Text.{size as text_size};
-    ghost use Rattle.arraystring_core.specs.Layout.{stored, IsDrained, start_of, array_of};
-    ghost use Rattle.arraystring_core.specs.Drained.{Drained, drained, removed_of};
+    ghost use Rattle.arraystring_core.specs.Layout.{string_in, IsDrained, start_of, array_of};
+    ghost use Rattle.arraystring_core.specs.Drained.{Drained, drain_from, removed_of};
     ghost use Rattle.arraystring_core.specs.GhostProofs.{drained-front, drained-array, drained-size};
 
     ghost Value = { Drained };
 
-    ghost view = { λ d. drained (stored d.array d.start d.size) d.front };
+    ghost view = { λ d. drain_from (string_in d.array d.start d.size) d.front };
 
     ghost invariant = { λ d. IsDrained N d.array d.start d.size d.front };
 
@@ -62,7 +62,7 @@ impl<const N: usize> Drain<N> {
     #[inline(always)]
     pub(crate) fn new(array: [u8; N], start: u8, size: u8) -> Self
         requires { IsStored N array start size }
-        ensures { result.left ≡ (stored array.entry start size).text }
+        ensures { result.left ≡ (string_in array.entry start size).text }
     {
         Drain {
             front: 0,

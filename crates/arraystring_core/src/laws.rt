@@ -12,12 +12,12 @@ ghost use Rattle.arraystring_base.specs.declared.error.Error.{Error};
 ghost use Rattle.arraystring_base.specs.declared.error.Utf16.{Utf16};
 ghost use Rattle.arraystring_base.specs.declared.utf16.Unit16.{Unit16};
 ghost use Rattle.arraystring_base.specs.Utf16.{IsReading, first_stop, lossy_text, text_units};
-ghost use Rattle.arraystring_core.specs.Drained.{Drained, End, walked};
+ghost use Rattle.arraystring_core.specs.Drained.{Drained, End, walk_of};
 ghost use Rattle.arraystring_core.specs.Edits.{first_cause, first_of, last_of, part, popping, replacement, split, trimming, is_white_space};
 ghost use Rattle.arraystring_core.specs.FromUtf16.{GivesWhole, GivesPrefix};
 ghost use Rattle.arraystring_core.specs.Json.{json_text, text_within, whole_text};
 ghost use Rattle.arraystring_core.specs.Stored.{Stored};
-ghost use Rattle.arraystring_core.specs.Taken.{joined};
+ghost use Rattle.arraystring_core.specs.Taken.{joined_texts};
 
 use crate::{ArrayString, Drain};
 
@@ -63,7 +63,7 @@ pub fn what_comes_past_the_room()
     ensures characters { (taken more : List ℕ) (n : ℕ) → n < size taken
         → cut (taken ++ more) n ≡ cut taken n }
     ensures pieces { (taken more : List (List ℕ)) (n : ℕ)
-        → n < size (joined taken) → cut (joined (taken ++ more)) n ≡ cut (joined taken) n }
+        → n < size (joined_texts taken) → cut (joined_texts (taken ++ more)) n ≡ cut (joined_texts taken) n }
 {}
 
 /// If the bytes of `whole` are the bytes of the pieces, one after the other, then `whole` is the
@@ -71,10 +71,10 @@ pub fn what_comes_past_the_room()
 /// of the joined pieces does.
 #[tactic(auto, using(crate::proofs::TakenLaws::bytes_joined))]
 pub fn pieces_make_one_text(whole: &str)
-    ensures text { (pieces : List (List ℕ)) → whole.now ≡ joined (map bytes pieces)
-        → chars whole.now ≡ joined pieces }
+    ensures text { (pieces : List (List ℕ)) → whole.now ≡ joined_texts (map bytes pieces)
+        → chars whole.now ≡ joined_texts pieces }
     ensures cut { (pieces : List (List ℕ)) (n : ℕ)
-        → whole.now ≡ joined (map bytes pieces) → cut (joined pieces) n ≡ cut (chars whole.now) n }
+        → whole.now ≡ joined_texts (map bytes pieces) → cut (joined_texts pieces) n ≡ cut (chars whole.now) n }
 {}
 
 /// The UTF-16 of a text that fits is read back as that text by `try_from_utf16`, `from_utf16` and
@@ -149,12 +149,12 @@ pub fn replaced_back()
 /// nothing is left, and a call then gives nothing.
 pub fn walks()
     ensures whole { (ends : List End) (t : List ℕ)
-        → (walked ends t).fronts ++ ((walked ends t).left ++ reverse (walked ends t).backs) ≡ t }
+        → (walk_of ends t).fronts ++ ((walk_of ends t).left ++ reverse (walk_of ends t).backs) ≡ t }
     ensures each { (ends : List End) (t : List ℕ)
-        → length (walked ends t).left ≡ length t - length ends }
+        → length (walk_of ends t).left ≡ length t - length ends }
     ensures all { (ends : List End) (t : List ℕ) → length t ≤ length ends
-        → (walked ends t).left ≡ [] }
-    ensures ended { (ends : List End) → walked ends [] ≡ walked [] [] }
+        → (walk_of ends t).left ≡ [] }
+    ensures ended { (ends : List End) → walk_of ends [] ≡ walk_of [] [] }
 {}
 
 /// Two strings are equal by `==` if and only if their texts are the same. So `==` is reflexive,

@@ -2,7 +2,7 @@ mod Runs
 mod Agreement
 mod Line
 mod ScriptLines
-mod Printing
+mod ReplyLines
 mod Writing
 mod Player
 mod Program

@@ -11,6 +11,7 @@ pub mod Runs
 pub mod Agreement
 pub mod Line
 pub mod ScriptLines
+pub mod ReplyLines
 pub mod Printing
 pub mod Writing
 pub mod Player

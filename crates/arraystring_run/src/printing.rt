@@ -5,7 +5,7 @@ ghost use Rattle.std.specs.Io.KnownBytes.{Appends};
 ghost use Rattle.arraystring.specs.Text.{bytes};
 ghost use Rattle.arraystring_run.specs.Runs.{view_of};
 ghost use Rattle.arraystring_run.specs.ScriptLines.{with_newline};
-ghost use Rattle.arraystring_run.specs.Printing.{printed, all_printed};
+ghost use Rattle.arraystring_run.specs.Printing.{reply_line, all_printed};
 ghost use Rattle.arraystring_run.specs.Writing.{AppendsPrefix, IsPassed};
 
 use crate::Reply;
@@ -46,9 +46,9 @@ fn put_reply<const N: usize, O: Write>(
 ) -> io::Result<()>
     ensures whole { OnOk result
         (IsPassed (O.contents output.old) (O.contents output.new) waiting.old waiting.new
-        (with_newline (printed (view_of reply.now)))) }
+        (with_newline (reply_line (view_of reply.now)))) }
     ensures part { AppendsPrefix (O.contents output.old) (O.contents output.new)
-        (waiting.old ++ with_newline (printed (view_of reply.now))) }
+        (waiting.old ++ with_newline (reply_line (view_of reply.now))) }
 {
     match reply {
         Reply::Done => waiting.put(output, "done\n"),

@@ -48,11 +48,11 @@ pub fn run<const N: usize>(
 {
     text_fits(text);
     let mut replies = Vec::with_capacity(alloc, commands.len())?;
-    // For no commands `fill` is not called: it needs the size of a reply, which the prover knows only from a list that has
+    // For no commands `add_replies` is not called: it needs the size of a reply, which the prover knows only from a list that has
     // room for one.
     let mut first_tight = None;
     if !commands.is_empty() {
-        first_tight = fill(text, commands, &mut replies);
+        first_tight = add_replies(text, commands, &mut replies);
     }
     text_fits(text);
     Ok(Outcome {
@@ -63,7 +63,7 @@ pub fn run<const N: usize>(
 
 /// Executes the commands in order, and adds each reply to a list that has room for all of them and
 /// is not moved.
-fn fill<const N: usize>(
+fn add_replies<const N: usize>(
     text: &mut ArrayString<N>,
     commands: &[Command<'_>],
     replies: &mut Vec<Reply<N>>,
@@ -157,11 +157,11 @@ pub fn run_both<const N: usize, const M: usize>(
     text_fits(second);
     let mut second_replies = Vec::with_capacity(alloc, commands.len())?;
     let first_outcome = run(alloc, first, commands)?;
-    // For no commands `fill` is not called: it needs the size of a reply, which the prover knows only from a list that has
+    // For no commands `add_replies` is not called: it needs the size of a reply, which the prover knows only from a list that has
     // room for one.
     let mut first_tight = None;
     if !commands.is_empty() {
-        first_tight = fill(second, commands, &mut second_replies);
+        first_tight = add_replies(second, commands, &mut second_replies);
     }
     text_fits(second);
     Ok((

@@ -1,19 +1,19 @@
 -- Texts that a loop makes which remembers something of the characters so far.
 use Rattle.std.specs.Prelude.{ℕ, List, [], ◌∷◌, Bool, true, not, Option, Some, None, if◌then◌else◌, ◌==◌}
 use Rattle.std.specs.Char.{to_ascii_uppercase}
-use Rattle.arraystring.specs.Loops.{traced, kept}
+use Rattle.arraystring.specs.Loops.{flat_map_with_memory, filter_with_memory}
 
 -- whether a word begins after this character
 abbrev pub ends_word : Bool → ℕ → Bool
 ends_word at_start c = c == 0x20
 
 -- a character of a title: in upper case, if a word begins with it
-abbrev pub in_title : Bool → ℕ → List ℕ
-in_title at_start c = (if at_start then to_ascii_uppercase c else c) ∷ []
+abbrev pub title_piece : Bool → ℕ → List ℕ
+title_piece at_start c = (if at_start then to_ascii_uppercase c else c) ∷ []
 
 -- the text with the first letter of each word in upper case
 abbrev pub title : List ℕ → List ℕ
-title t = traced ends_word in_title true t
+title t = flat_map_with_memory ends_word title_piece true t
 
 -- the last character is remembered
 abbrev pub last_seen : Option ℕ → ℕ → Option ℕ
@@ -26,4 +26,4 @@ is_new (Some last) c = not (last == c)
 
 -- the text with one character in place of each run of the same
 abbrev pub squeezed : List ℕ → List ℕ
-squeezed t = kept last_seen is_new None t
+squeezed t = filter_with_memory last_seen is_new None t

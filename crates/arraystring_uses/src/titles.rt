@@ -3,7 +3,7 @@ ghost use Rattle.std.specs.Prelude.{◌≡◌, Option, chars};
 ghost use Rattle.arraystring.specs.Construct.{IsWholeOrRefused};
 ghost use Rattle.arraystring.specs.Edits.{Makes, addition};
 ghost use Rattle.arraystring.specs.Text.{cap};
-ghost use Rattle.arraystring_uses.specs.Titles.{in_title, squeezed, title};
+ghost use Rattle.arraystring_uses.specs.Titles.{title_piece, squeezed, title};
 
 use arraystring::laws::text_fits;
 use arraystring::{ArrayString, Error};
@@ -33,7 +33,7 @@ fn push_in_title<const N: usize>(
     at_start: bool,
     ch: char,
 ) -> Result<(), Error>
-    ensures { Makes (addition line.old.text (in_title at_start ch) (cap N))
+    ensures { Makes (addition line.old.text (title_piece at_start ch) (cap N))
         line.old.text result line.new.text }
 {
     let shown = if at_start {

@@ -8,7 +8,7 @@ use core::cmp::Ordering;
 use crate::ArrayString;
 
 /// Implements a comparison with a text, on both sides.
-macro_rules! compared {
+macro_rules! impl_partial_eq {
     ($($text:ty),*) => {$(
         impl<const N: usize> PartialEq<$text> for ArrayString<N> {
             #[inline]
@@ -27,12 +27,12 @@ macro_rules! compared {
     )*};
 }
 
-compared!(str, &str);
+impl_partial_eq!(str, &str);
 #[cfg(feature = "alloc")]
-compared!(alloc::string::String, alloc::borrow::Cow<'_, str>);
+impl_partial_eq!(alloc::string::String, alloc::borrow::Cow<'_, str>);
 
 /// Implements an order with a text on the right.
-macro_rules! ordered {
+macro_rules! impl_partial_ord {
     ($($text:ty),*) => {$(
         impl<const N: usize> PartialOrd<$text> for ArrayString<N> {
             #[inline]
@@ -43,4 +43,4 @@ macro_rules! ordered {
     )*};
 }
 
-ordered!(str, &str);
+impl_partial_ord!(str, &str);

@@ -97,7 +97,7 @@ part! {
 }
 
 /// Implements `From` of an error, by which `?` converts it.
-macro_rules! converted {
+macro_rules! impl_from_error {
     ($($error:ty => $made:ident $(:: $case:ident)?;)*) => {$(
         impl From<$error> for $made {
             #[inline]
@@ -108,7 +108,7 @@ macro_rules! converted {
     )*};
 }
 
-converted! {
+impl_from_error! {
     Utf8 => Error::Utf8;
     Utf16 => Error::Utf16;
     OutOfBounds => Error::OutOfBounds;

@@ -26,18 +26,18 @@ pub(crate) type Place = MaybeUninit<u8>;
 pub(crate) const UNWRITTEN: Place = if IS_TESTED { Place::new(0) } else { Place::uninit() };
 
 /// A byte, or a place that was written. It is laid out as a `u8`.
-pub(crate) trait Held: Copy {
+pub(crate) trait ByteOrPlace: Copy {
     fn value(self) -> u8;
 }
 
-impl Held for u8 {
+impl ByteOrPlace for u8 {
     #[inline(always)]
     fn value(self) -> u8 {
         self
     }
 }
 
-impl Held for Place {
+impl ByteOrPlace for Place {
     #[inline(always)]
     fn value(self) -> u8 {
         // SAFETY: the proved code reads the bytes of texts, which were written.
@@ -52,7 +52,7 @@ impl Held for Place {
 /// ensures { result ≡ slice_index bytes.now at }
 /// ```
 #[inline(always)]
-pub(crate) fn byte(bytes: &[impl Held], at: usize) -> u8 {
+pub(crate) fn byte(bytes: &[impl ByteOrPlace], at: usize) -> u8 {
     required!(at < bytes.len());
     // SAFETY: the index is within, as is required.
     unsafe { bytes.get_unchecked(at) }.value()
@@ -199,7 +199,7 @@ pub(crate) fn write_bytes(all: &mut [Place], given: &[u8], at: usize) {
 /// ensures { result ≡ take K (drop at given.now) }
 /// ```
 #[inline(always)]
-pub(crate) fn bytes_of<const K: usize>(given: &[impl Held], at: usize) -> [Place; K] {
+pub(crate) fn bytes_of<const K: usize>(given: &[impl ByteOrPlace], at: usize) -> [Place; K] {
     required!(at <= given.len(), K <= given.len() - at);
     // SAFETY: the run is within, as is required. A byte is laid out as a place, and a place may have any value, or none.
     unsafe { given.as_ptr().add(at).cast::<[Place; K]>().read() }

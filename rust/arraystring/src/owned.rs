@@ -13,7 +13,7 @@ use alloc::vec::Vec;
 use crate::{ArrayString, OutOfBounds};
 
 /// Implements that a string is made of a text, if it fits.
-macro_rules! made_of {
+macro_rules! impl_try_from {
     ($($text:ty),*) => {$(
         impl<const N: usize> TryFrom<$text> for ArrayString<N> {
             type Error = OutOfBounds;
@@ -27,10 +27,10 @@ macro_rules! made_of {
     )*};
 }
 
-made_of!(String, &String, Box<str>, Cow<'_, str>);
+impl_try_from!(String, &String, Box<str>, Cow<'_, str>);
 
 /// Implements that one of std's texts is made of a string, as a copy of its text.
-macro_rules! copied {
+macro_rules! impl_from_string {
     ($($string:ty => $copy:ty: $borrowed:ident;)*) => {$(
         impl<const N: usize> From<$string> for $copy {
             #[inline]
@@ -41,7 +41,7 @@ macro_rules! copied {
     )*};
 }
 
-copied! {
+impl_from_string! {
     ArrayString<N> => String: as_str;
     &ArrayString<N> => String: as_str;
     ArrayString<N> => Box<str>: as_str;
@@ -72,7 +72,7 @@ impl<const N: usize> Extend<ArrayString<N>> for String {
 }
 
 /// Implements that strings are collected into one text.
-macro_rules! collected {
+macro_rules! impl_from_iterator {
     ($($text:ty),*) => {$(
         impl<const N: usize> FromIterator<ArrayString<N>> for $text {
             fn from_iter<I: IntoIterator<Item = ArrayString<N>>>(strings: I) -> Self {
@@ -84,4 +84,4 @@ macro_rules! collected {
     )*};
 }
 
-collected!(String, Box<str>, Cow<'_, str>);
+impl_from_iterator!(String, Box<str>, Cow<'_, str>);

@@ -36,12 +36,12 @@ impl<const N: usize> ArrayString<N> {
     #[doc(alias = "write_fmt")]
     #[inline]
     pub fn try_write(&mut self, arguments: fmt::Arguments<'_>) -> fmt::Result {
-        let mut row = Row::behind(self);
-        row.write_fmt(arguments)?;
-        if !row.is_whole {
+        let mut draft = Draft::behind(self);
+        draft.write_fmt(arguments)?;
+        if !draft.is_whole {
             return Err(fmt::Error);
         }
-        row.keep();
+        draft.keep();
         Ok(())
     }
 
@@ -66,14 +66,14 @@ impl<const N: usize> ArrayString<N> {
     #[doc(alias = "write_fmt")]
     #[inline]
     pub fn write_truncate(&mut self, arguments: fmt::Arguments<'_>) -> Result<bool, fmt::Error> {
-        let mut prefix = Prefix(Row::behind(self));
+        let mut prefix = Prefix(Draft::behind(self));
         let written = prefix.write_fmt(arguments);
-        let Prefix(row) = prefix;
-        let is_cut = !row.is_whole;
+        let Prefix(draft) = prefix;
+        let is_cut = !draft.is_whole;
         if !is_cut {
             written?;
         }
-        row.keep();
+        draft.keep();
         Ok(is_cut)
     }
 
@@ -99,9 +99,9 @@ impl<const N: usize> ArrayString<N> {
     #[doc(alias = "extend")]
     #[inline]
     pub fn try_extend_chars(&mut self, characters: impl IntoIterator<Item = char>) -> Result<(), OutOfBounds> {
-        let row = Row::behind(self);
-        characters.into_iter().try_for_each(|ch| row.string.try_push(ch))?;
-        row.keep();
+        let draft = Draft::behind(self);
+        characters.into_iter().try_for_each(|ch| draft.string.try_push(ch))?;
+        draft.keep();
         Ok(())
     }
 
@@ -127,9 +127,9 @@ impl<const N: usize> ArrayString<N> {
     #[doc(alias = "extend")]
     #[inline]
     pub fn try_extend_strs(&mut self, pieces: impl IntoIterator<Item = impl AsRef<str>>) -> Result<(), OutOfBounds> {
-        let row = Row::behind(self);
-        pieces.into_iter().try_for_each(|piece| row.string.try_push_str(piece.as_ref()))?;
-        row.keep();
+        let draft = Draft::behind(self);
+        pieces.into_iter().try_for_each(|piece| draft.string.try_push_str(piece.as_ref()))?;
+        draft.keep();
         Ok(())
     }
 
@@ -164,7 +164,7 @@ impl<const N: usize> ArrayString<N> {
 
 /// What is added to a string for now. Its `drop` takes it back, so that nothing of it is left where something is refused, or where a
 /// `Display` or an iterator panics. Only `keep` makes it stay.
-struct Row<'a, const N: usize> {
+struct Draft<'a, const N: usize> {
     string: &'a mut ArrayString<N>,
     /// The length of the text before it.
     len: usize,
@@ -172,24 +172,24 @@ struct Row<'a, const N: usize> {
     is_whole: bool,
 }
 
-/// A row that is cut at the first piece that does not fit.
-struct Prefix<'a, const N: usize>(Row<'a, N>);
+/// A draft that is cut at the first piece that does not fit.
+struct Prefix<'a, const N: usize>(Draft<'a, N>);
 
-impl<'a, const N: usize> Row<'a, N> {
-    /// Begins a row behind the text of a string. It has no text yet.
+impl<'a, const N: usize> Draft<'a, N> {
+    /// Begins a draft behind the text of a string. It has no text yet.
     #[inline]
     fn behind(string: &'a mut ArrayString<N>) -> Self {
-        Row { len: string.len(), string, is_whole: true }
+        Draft { len: string.len(), string, is_whole: true }
     }
 
-    /// Makes the row stay in the string. It is forgotten, so its `drop` does not run.
+    /// Makes the draft stay in the string. It is forgotten, so its `drop` does not run.
     #[inline]
     fn keep(self) {
         mem::forget(self);
     }
 }
 
-impl<const N: usize> Write for Row<'_, N> {
+impl<const N: usize> Write for Draft<'_, N> {
     #[inline]
     fn write_str(&mut self, piece: &str) -> fmt::Result {
         let written = self.string.write_str(piece);
@@ -201,15 +201,15 @@ impl<const N: usize> Write for Row<'_, N> {
 impl<const N: usize> Write for Prefix<'_, N> {
     #[inline]
     fn write_str(&mut self, piece: &str) -> fmt::Result {
-        let Prefix(row) = self;
-        if row.is_whole {
-            row.is_whole = row.string.push_str_truncate(piece).is_empty();
+        let Prefix(draft) = self;
+        if draft.is_whole {
+            draft.is_whole = draft.string.push_str_truncate(piece).is_empty();
         }
-        if row.is_whole { Ok(()) } else { Err(fmt::Error) }
+        if draft.is_whole { Ok(()) } else { Err(fmt::Error) }
     }
 }
 
-impl<const N: usize> Drop for Row<'_, N> {
+impl<const N: usize> Drop for Draft<'_, N> {
     #[inline]
     fn drop(&mut self) {
         // The text ended at this length before, so it is a boundary, and nothing is refused.

@@ -4,7 +4,7 @@ ghost use Rattle.std.specs.Prelude.{◌≡◌, ◌++◌, [], Ok, Some, IsOk, cha
 ghost use Rattle.arraystring_base.specs.Text.{bytes, IsBefore};
 ghost use Rattle.arraystring_core.specs.Edits.{Makes, from_out_of_bounds, from_fmt_error, addition, addition_of_cut};
 ghost use Rattle.arraystring_core.specs.Construct.{IsWholeOrRefused};
-ghost use Rattle.arraystring.specs.Cached.{held};
+ghost use Rattle.arraystring.specs.Cached.{inner_result};
 ghost use Rattle.std.specs.Cmp.{on_equiv, on_per, on_total, on_po, partial_equiv_from_equiv};
 ghost use Rattle.std.specs.Cmp.Lexicographic.{pointwise, slice_cmp, nat_list_eq_equiv, nat_list_cmp_total, texts_po, texts_ties, bytes_decides};
 ghost use Rattle.std.specs.Hash as fed;
@@ -71,7 +71,7 @@ impl FromStr for CacheString {
     type Err = OutOfBounds;
 
     ghost from_str_gives = { λ string result.
-        IsWholeOrRefused (chars string) 63 (from_out_of_bounds (held result)) };
+        IsWholeOrRefused (chars string) 63 (from_out_of_bounds (inner_result result)) };
 
     /// Creates a string from `string`.
     ///

@@ -2,7 +2,7 @@
 use Rattle.std.proofs.Common.{◌≡◌, [], ◌∷◌, ◌++◌, refl, arith, codes, inl, inr, map}
 use Rattle.std.proofs.lemmas.List.Elements.{All-nil, All-cons, All-head}
 use Rattle.std.proofs.lemmas.Bool.Decides.{nat_tests}
-use Rattle.arraystring_base.specs.Utf16.{IsHigh, IsLow, utf16, text_units, IsItem, item_units, joined_units, NoPairApart, IsReading, End, Fault, Full, StopsAt, stop_behind, first_stop, shown, lossy_text}
+use Rattle.arraystring_base.specs.Utf16.{IsHigh, IsLow, utf16, text_units, IsItem, item_units, joined_units, NoPairApart, IsReading, End, Fault, Full, StopsAt, prepend_to_stop, first_stop, char_or_replacement, lossy_text}
 use Rattle.arraystring_base.specs.Text.{width}
 use Rattle.arraystring_base.specs.declared.utf16.Unit16.TheVariants.{Char, Lone}
 
@@ -167,10 +167,10 @@ StopsAt-full_behind_what_fills_the_room : StopsAt (Char 0x61 ∷ Char 0x62 ∷ [
 unfolding width
 StopsAt-full_behind_what_fills_the_room = (0x62, [], refl, omega arith, omega arith)
 
-stop_behind-keeps_the_kind : (stop_behind 0x61 (End (codes "b")) ≡ End (codes "ab"))
-    × (stop_behind 0x61 (Fault (codes "b")) ≡ Fault (codes "ab"))
-    × (stop_behind 0x61 (Full (codes "b")) ≡ Full (codes "ab"))
-stop_behind-keeps_the_kind = (refl, refl, refl)
+prepend_to_stop-keeps_the_kind : (prepend_to_stop 0x61 (End (codes "b")) ≡ End (codes "ab"))
+    × (prepend_to_stop 0x61 (Fault (codes "b")) ≡ Fault (codes "ab"))
+    × (prepend_to_stop 0x61 (Full (codes "b")) ≡ Full (codes "ab"))
+prepend_to_stop-keeps_the_kind = (refl, refl, refl)
 
 -- '𝄞' and 'é' take six bytes: at five 'é' no longer fits, at six the surrogate is met
 first_stop-end : (first_stop [] 0 ≡ End []) × (first_stop (map Char (codes "𝄞é")) 6 ≡ End (codes "𝄞é"))
@@ -189,8 +189,8 @@ first_stop-no_later_character : first_stop (Char 0x1_D11E ∷ Char 0x61 ∷ []) 
 unfolding width
 first_stop-no_later_character = refl
 
-shown-each_kind : (shown (Char 0x61) ≡ 0x61) × (shown (Lone 0xD800) ≡ 0xFFFD)
-shown-each_kind = (refl, refl)
+char_or_replacement-each_kind : (char_or_replacement (Char 0x61) ≡ 0x61) × (char_or_replacement (Lone 0xD800) ≡ 0xFFFD)
+char_or_replacement-each_kind = (refl, refl)
 
 lossy_text-of_a_lone_one_and_a_pair : (lossy_text [] ≡ []) × (lossy_text (Lone 0xD800 ∷ Char 0x1_D11E ∷ []) ≡ 0xFFFD ∷ 0x1_D11E ∷ [])
 lossy_text-of_a_lone_one_and_a_pair = (refl, refl)

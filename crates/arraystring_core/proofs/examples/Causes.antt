@@ -2,7 +2,7 @@
 use Rattle.std.proofs.Common.{◌≡◌, [], ◌∷◌, refl, codes, true, false, Some, None}
 use Rattle.arraystring_base.specs.Text.{width}
 use Rattle.arraystring_base.specs.declared.error.Error.TheVariants as error
-use Rattle.arraystring_core.specs.Causes.{Past, Room, Inside, error_of, past, crossed, at_end, inside, no_room, first_cause}
+use Rattle.arraystring_core.specs.Causes.{Past, Room, Inside, error_of, past_text, reversed_range, at_end, inside_character, no_room, first_cause}
 
 Cause-each_is_another : (Past ≡ Room → ⊥) × (Past ≡ Inside → ⊥) × (Room ≡ Inside → ⊥)
 Cause-each_is_another = (λ e. cc, λ e. cc, λ e. cc)
@@ -13,20 +13,20 @@ error_of-each_cause = (refl, refl, refl)
 Test-holds_and_cause : ((no_room 5 4).holds ≡ true) × ((no_room 5 4).cause ≡ Room)
 Test-holds_and_cause = (refl, refl)
 
-past-the_text : past (codes "ab") 3 ≡ record { holds = true; cause = Past }
+past_text-the_text : past_text (codes "ab") 3 ≡ record { holds = true; cause = Past }
 unfolding width
-past-the_text = refl
+past_text-the_text = refl
 
-past-not_at_its_end : past (codes "ab") 2 ≡ record { holds = false; cause = Past }
+past_text-not_at_its_end : past_text (codes "ab") 2 ≡ record { holds = false; cause = Past }
 unfolding width
-past-not_at_its_end = refl
+past_text-not_at_its_end = refl
 
-crossed-reversed : crossed 2 1 ≡ record { holds = true; cause = Past }
-crossed-reversed = refl
+reversed_range-reversed : reversed_range 2 1 ≡ record { holds = true; cause = Past }
+reversed_range-reversed = refl
 
-crossed-not_empty_or_in_order : (crossed 1 1 ≡ record { holds = false; cause = Past })
-    × (crossed 1 2 ≡ record { holds = false; cause = Past })
-crossed-not_empty_or_in_order = (refl, refl)
+reversed_range-not_empty_or_in_order : (reversed_range 1 1 ≡ record { holds = false; cause = Past })
+    × (reversed_range 1 2 ≡ record { holds = false; cause = Past })
+reversed_range-not_empty_or_in_order = (refl, refl)
 
 at_end-and_past_it : (at_end (codes "ab") 2 ≡ record { holds = true; cause = Past })
     × (at_end (codes "ab") 3 ≡ record { holds = true; cause = Past })
@@ -37,19 +37,19 @@ at_end-not_at_a_character : at_end (codes "ab") 1 ≡ record { holds = false; ca
 unfolding width
 at_end-not_at_a_character = refl
 
-inside-a_character : inside (codes "aé") 2 ≡ record { holds = true; cause = Inside }
+inside_character-a_character : inside_character (codes "aé") 2 ≡ record { holds = true; cause = Inside }
 unfolding width
-inside-a_character = refl
+inside_character-a_character = refl
 
-inside-not_at_a_boundary : (inside (codes "aé") 0 ≡ record { holds = false; cause = Inside })
-    × (inside (codes "aé") 1 ≡ record { holds = false; cause = Inside })
-    × (inside (codes "aé") 3 ≡ record { holds = false; cause = Inside })
+inside_character-not_at_a_boundary : (inside_character (codes "aé") 0 ≡ record { holds = false; cause = Inside })
+    × (inside_character (codes "aé") 1 ≡ record { holds = false; cause = Inside })
+    × (inside_character (codes "aé") 3 ≡ record { holds = false; cause = Inside })
 unfolding width
-inside-not_at_a_boundary = (refl, refl, refl)
+inside_character-not_at_a_boundary = (refl, refl, refl)
 
-inside-not_past_the_text : inside (codes "aé") 4 ≡ record { holds = false; cause = Inside }
+inside_character-not_past_the_text : inside_character (codes "aé") 4 ≡ record { holds = false; cause = Inside }
 unfolding width
-inside-not_past_the_text = refl
+inside_character-not_past_the_text = refl
 
 no_room-one_byte_too_large : no_room 5 4 ≡ record { holds = true; cause = Room }
 no_room-one_byte_too_large = refl
@@ -57,11 +57,11 @@ no_room-one_byte_too_large = refl
 no_room-not_of_what_fits_exactly : no_room 4 4 ≡ record { holds = false; cause = Room }
 no_room-not_of_what_fits_exactly = refl
 
-first_cause-none : (first_cause [] ≡ None) × (first_cause (no_room 4 4 ∷ crossed 1 2 ∷ []) ≡ None)
+first_cause-none : (first_cause [] ≡ None) × (first_cause (no_room 4 4 ∷ reversed_range 1 2 ∷ []) ≡ None)
 first_cause-none = (refl, refl)
 
-first_cause-of_two_that_hold : first_cause (no_room 5 4 ∷ crossed 2 1 ∷ []) ≡ Some Room
+first_cause-of_two_that_hold : first_cause (no_room 5 4 ∷ reversed_range 2 1 ∷ []) ≡ Some Room
 first_cause-of_two_that_hold = refl
 
-first_cause-the_second : first_cause (no_room 4 4 ∷ crossed 2 1 ∷ []) ≡ Some Past
+first_cause-the_second : first_cause (no_room 4 4 ∷ reversed_range 2 1 ∷ []) ≡ Some Past
 first_cause-the_second = refl

@@ -3,24 +3,24 @@ use Rattle.std.proofs.Common.{◌≡◌, [], ◌∷◌, refl, arith, codes, Some
 use Rattle.arraystring_base.specs.Text.{width}
 use Rattle.arraystring_base.specs.declared.error.Error.TheVariants as error
 use Rattle.arraystring_core.specs.Stored.{string_of}
-use Rattle.arraystring_core.specs.Drained.{Drained, drained, removed_of, with_left, Front, Back, Walked, from_front, from_back, walked}
+use Rattle.arraystring_core.specs.Drained.{Drained, drain_from, removed_of, with_left, Front, Back, Walked, from_front, from_back, walk_of}
 
 -- of `aé`, 'a' was given from the front
 abbrev rest : Drained
 rest = record { left = codes "é"; yielded = codes "a"; spare = [] }
 
 -- what was given from the front counts too: without it the same is left, and another text was removed
-Drained-the_same_left_of_two_texts : (rest.left ≡ (drained (string_of (codes "é")) 0).left) × (rest ≡ drained (string_of (codes "é")) 0 → ⊥)
+Drained-the_same_left_of_two_texts : (rest.left ≡ (drain_from (string_of (codes "é")) 0).left) × (rest ≡ drain_from (string_of (codes "é")) 0 → ⊥)
 unfolding width
 Drained-the_same_left_of_two_texts = (refl, λ e. grind arith)
 
-drained-from_an_index_on : drained (string_of (codes "aé")) 1 ≡ rest
+drain_from-from_an_index_on : drain_from (string_of (codes "aé")) 1 ≡ rest
 unfolding width
-drained-from_an_index_on = refl
+drain_from-from_an_index_on = refl
 
-drained-the_numbers_stay : drained (record { text = codes "a"; spare = codes "x" }) 0 ≡ record { left = codes "a"; yielded = []; spare = codes "x" }
+drain_from-the_numbers_stay : drain_from (record { text = codes "a"; spare = codes "x" }) 0 ≡ record { left = codes "a"; yielded = []; spare = codes "x" }
 unfolding width
-drained-the_numbers_stay = refl
+drain_from-the_numbers_stay = refl
 
 removed_of-both_parts : removed_of rest ≡ string_of (codes "aé")
 removed_of-both_parts = refl
@@ -39,7 +39,7 @@ abbrev both_ends : Walked
 both_ends = record { fronts = codes "A"; left = codes "🤔"; backs = codes "B" }
 
 -- the only character, by the end that asked
-Walked-the_end_counts : walked (Front ∷ []) (codes "A") ≡ walked (Back ∷ []) (codes "A") → ⊥
+Walked-the_end_counts : walk_of (Front ∷ []) (codes "A") ≡ walk_of (Back ∷ []) (codes "A") → ⊥
 Walked-the_end_counts e = grind arith
 
 from_front-first : from_front (Some 0x78) both_ends ≡ record { fronts = codes "xA"; left = codes "🤔"; backs = codes "B" }
@@ -54,16 +54,16 @@ from_back-first = refl
 from_back-nothing : from_back None both_ends ≡ both_ends
 from_back-nothing = refl
 
-walked-no_end : walked [] (codes "A🤔B") ≡ record { fronts = []; left = codes "A🤔B"; backs = [] }
-walked-no_end = refl
+walk_of-no_end : walk_of [] (codes "A🤔B") ≡ record { fronts = []; left = codes "A🤔B"; backs = [] }
+walk_of-no_end = refl
 
-walked-both_ends : walked (Front ∷ Back ∷ []) (codes "A🤔B") ≡ both_ends
-walked-both_ends = refl
+walk_of-both_ends : walk_of (Front ∷ Back ∷ []) (codes "A🤔B") ≡ both_ends
+walk_of-both_ends = refl
 
 -- the last character comes from the end that asks first, and then both give nothing
-walked-past_the_end : walked (Front ∷ Back ∷ Front ∷ Back ∷ Front ∷ []) (codes "A🤔B")
+walk_of-past_the_end : walk_of (Front ∷ Back ∷ Front ∷ Back ∷ Front ∷ []) (codes "A🤔B")
     ≡ record { fronts = codes "A🤔"; left = []; backs = codes "B" }
-walked-past_the_end = refl
+walk_of-past_the_end = refl
 
-walked-backs_in_the_order_given : walked (Back ∷ Back ∷ Back ∷ []) (codes "ABC") ≡ record { fronts = []; left = []; backs = codes "CBA" }
-walked-backs_in_the_order_given = refl
+walk_of-backs_in_the_order_given : walk_of (Back ∷ Back ∷ Back ∷ []) (codes "ABC") ≡ record { fronts = []; left = []; backs = codes "CBA" }
+walk_of-backs_in_the_order_given = refl

@@ -6,7 +6,7 @@ use Rattle.arraystring_base.specs.declared.error.Error.TheVariants as error
 use Rattle.arraystring_base.specs.declared.error.Utf16.{Utf16}
 use Rattle.arraystring_base.specs.declared.utf16.Unit16.TheVariants.{Char, Lone}
 use Rattle.arraystring_core.specs.Stored.{string_of}
-use Rattle.arraystring_core.specs.FromUtf16.{GivesWhole, GivesPrefix, stop_at}
+use Rattle.arraystring_core.specs.FromUtf16.{GivesWhole, GivesPrefix, stop_by_next}
 
 GivesWhole-all : GivesWhole (End (codes "ab")) (Ok (string_of (codes "ab")))
 GivesWhole-all = refl
@@ -66,6 +66,6 @@ GivesPrefix-not_cut_shorter gives = grind (arith, gives)
 GivesPrefix-no_error_of_no_room : (e : Utf16) → GivesPrefix (Full (codes "ab")) (Err e) → ⊥
 GivesPrefix-no_error_of_no_room e gives = gives
 
-stop_at-each_item : (stop_at None (codes "ab") ≡ End (codes "ab")) × (stop_at (Some (Lone 0xD800)) (codes "ab") ≡ Fault (codes "ab"))
-    × (stop_at (Some (Char 0x63)) (codes "ab") ≡ Full (codes "ab"))
-stop_at-each_item = (refl, refl, refl)
+stop_by_next-each_item : (stop_by_next None (codes "ab") ≡ End (codes "ab")) × (stop_by_next (Some (Lone 0xD800)) (codes "ab") ≡ Fault (codes "ab"))
+    × (stop_by_next (Some (Char 0x63)) (codes "ab") ≡ Full (codes "ab"))
+stop_by_next-each_item = (refl, refl, refl)

@@ -4,15 +4,15 @@ use Rattle.std.proofs.Math.Utf8.{encode}
 use Rattle.std.specs.Str.{chars, is_utf8}
 use Rattle.std.proofs.lemmas.Str.{IsUtf8-from_is_utf8, is_utf8-from_IsUtf8, IsUtf8-had}
 use Rattle.arraystring_base.specs.Text.{width, utf8}
-use Rattle.arraystring_core.specs.Layout.{stored, IsStored, IsDrained, start_of, array_of}
+use Rattle.arraystring_core.specs.Layout.{string_in, IsStored, IsDrained, start_of, array_of}
 
-stored-from_offset_1 : stored (codes "xab.") 1 2 ≡ record { text = codes "ab"; spare = 1 ∷ codes "x." }
+string_in-from_offset_1 : string_in (codes "xab.") 1 2 ≡ record { text = codes "ab"; spare = 1 ∷ codes "x." }
 unfolding chars
-stored-from_offset_1 = refl
+string_in-from_offset_1 = refl
 
-stored-of_two_bytes : stored (0xC3 ∷ 0xA9 ∷ 0x00 ∷ []) 0 2 ≡ record { text = codes "é"; spare = 0 ∷ 0x00 ∷ [] }
+string_in-of_two_bytes : string_in (0xC3 ∷ 0xA9 ∷ 0x00 ∷ []) 0 2 ≡ record { text = codes "é"; spare = 0 ∷ 0x00 ∷ [] }
 unfolding chars
-stored-of_two_bytes = refl
+string_in-of_two_bytes = refl
 
 IsStored-up_to_the_capacity : IsStored 4 (0x78 ∷ 0x61 ∷ 0xC3 ∷ 0xA9 ∷ []) 1 3
 unfolding chars is_utf8 encode

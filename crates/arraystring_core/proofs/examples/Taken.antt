@@ -5,10 +5,10 @@ use Rattle.std.specs.Str.{chars}
 use Rattle.std.specs.Iterator.{YieldsFirst}
 use Rattle.std.specs.Borrow.{Bor}
 use Rattle.arraystring_base.specs.Text.{width}
-use Rattle.arraystring_core.specs.Taken.{joined, piece_text, joined_pieces, IsFirstPast, TakesAll, Takes, Fits, Gives}
+use Rattle.arraystring_core.specs.Taken.{joined_texts, piece_text, joined_pieces, IsFirstPast, TakesAll, Takes, Fits, Gives}
 
-joined-two_texts : (joined [] ≡ []) × (joined (codes "ab" ∷ [] ∷ codes "c" ∷ []) ≡ codes "abc")
-joined-two_texts = (refl, refl)
+joined_texts-two_texts : (joined_texts [] ≡ []) × (joined_texts (codes "ab" ∷ [] ∷ codes "c" ∷ []) ≡ codes "abc")
+joined_texts-two_texts = (refl, refl)
 
 -- a `&str` with these bytes
 abbrev piece : List ℕ → Bor (List ℕ)

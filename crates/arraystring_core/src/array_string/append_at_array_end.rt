@@ -2,7 +2,7 @@
 ghost use Rattle.std.specs.Prelude.{◌≡◌, ◌+◌, ◌≤◌, ◌↔◌, [], ◌∷◌, ◌++◌, IsTrue, chars, Ok};
 ghost use Rattle.arraystring_base.specs.Text.{size, width, cap};
 ghost use Rattle.arraystring_core.specs.Edits.{Makes, addition_of_cut};
-ghost use Rattle.arraystring_core.specs.Layout.{stored, IsStored};
+ghost use Rattle.arraystring_core.specs.Layout.{string_in, IsStored};
 
 use crate::ArrayString;
 use arraystring_base::utils::{Steps, encode, shift_by_call, truncate_str, write_by_call};
@@ -37,8 +37,8 @@ impl<const N: usize> ArrayString<N> {
         requires in_array { IsStored N array.old start size }
         requires room { size + width ch ≤ cap N }
         ensures in_array { IsStored N array.new 0 result }
-        ensures text { (stored array.new 0 result).text
-            ≡ (stored array.old start size).text ++ (ch ∷ []) }
+        ensures text { (string_in array.new 0 result).text
+            ≡ (string_in array.old start size).text ++ (ch ∷ []) }
     {
         shift_by_call(array, start, 0, size, &mut Steps::new());
         size + encode(ch, array, size)

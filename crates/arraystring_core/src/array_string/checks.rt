@@ -2,7 +2,7 @@
 //! that holds decides which error is returned.
 ghost use Rattle.std.specs.Prelude.{◌≡◌, ◌+◌, ◌-◌, ◌≤◌, ◌∷◌, []};
 ghost use Rattle.arraystring_base.specs.Text.{cap, size};
-ghost use Rattle.arraystring_core.specs.Edits.{first_cause, ok_unless, past, crossed, at_end, inside, no_room};
+ghost use Rattle.arraystring_core.specs.Edits.{first_cause, ok_unless, past_text, reversed_range, at_end, inside_character, no_room};
 
 use crate::ArrayString;
 use arraystring_base::error::Error;
@@ -12,7 +12,7 @@ impl<const N: usize> ArrayString<N> {
     #[inline(always)]
     pub(super) fn check_index(&self, index: u8) -> Result<(), Error>
         ensures { result ≡ ok_unless
-            (first_cause (past self.now.text index ∷ inside self.now.text index ∷ [])) tt }
+            (first_cause (past_text self.now.text index ∷ inside_character self.now.text index ∷ [])) tt }
     {
         if index > self.len() {
             return Err(Error::OutOfBounds);
@@ -23,8 +23,8 @@ impl<const N: usize> ArrayString<N> {
     /// Refuses to insert `len` bytes at an index past the text, or without room, or inside a character.
     #[inline(always)]
     pub(super) fn check_insertion(&self, index: u8, len: usize) -> Result<(), Error>
-        ensures { result ≡ ok_unless (first_cause (past self.now.text index
-            ∷ no_room (size self.now.text + len) (cap N) ∷ inside self.now.text index ∷ [])) tt }
+        ensures { result ≡ ok_unless (first_cause (past_text self.now.text index
+            ∷ no_room (size self.now.text + len) (cap N) ∷ inside_character self.now.text index ∷ [])) tt }
     {
         if index > self.len() {
             return Err(Error::OutOfBounds);
@@ -39,7 +39,7 @@ impl<const N: usize> ArrayString<N> {
     #[inline(always)]
     pub(super) fn check_removal(&self, index: u8) -> Result<(), Error>
         ensures { result ≡ ok_unless
-            (first_cause (at_end self.now.text index ∷ inside self.now.text index ∷ [])) tt }
+            (first_cause (at_end self.now.text index ∷ inside_character self.now.text index ∷ [])) tt }
     {
         if index >= self.len() {
             return Err(Error::OutOfBounds);
@@ -50,8 +50,8 @@ impl<const N: usize> ArrayString<N> {
     /// Refuses a range that is reversed or past the text, and then one whose start, or whose end, is inside a character.
     #[inline(always)]
     pub(super) fn check_part(&self, start: u8, end: u8) -> Result<(), Error>
-        ensures { result ≡ ok_unless (first_cause (crossed start end ∷ past self.now.text end
-            ∷ inside self.now.text start ∷ inside self.now.text end ∷ [])) tt }
+        ensures { result ≡ ok_unless (first_cause (reversed_range start end ∷ past_text self.now.text end
+            ∷ inside_character self.now.text start ∷ inside_character self.now.text end ∷ [])) tt }
     {
         if start > end || end > self.len() {
             return Err(Error::OutOfBounds);
@@ -63,9 +63,9 @@ impl<const N: usize> ArrayString<N> {
     /// Refuses to put `len` bytes in place of a range: as `check_part` does, and for want of room after its first two tests.
     #[inline(always)]
     pub(super) fn check_replacement(&self, start: u8, end: u8, len: usize) -> Result<(), Error>
-        ensures { result ≡ ok_unless (first_cause (crossed start end ∷ past self.now.text end
+        ensures { result ≡ ok_unless (first_cause (reversed_range start end ∷ past_text self.now.text end
             ∷ no_room (size self.now.text - (end - start) + len) (cap N)
-            ∷ inside self.now.text start ∷ inside self.now.text end ∷ [])) tt }
+            ∷ inside_character self.now.text start ∷ inside_character self.now.text end ∷ [])) tt }
     {
         if start > end || end > self.len() {
             return Err(Error::OutOfBounds);
@@ -82,7 +82,7 @@ impl<const N: usize> ArrayString<N> {
     #[inline(always)]
     fn check_boundary(&self, index: u8) -> Result<(), Error>
         ensures { index ≤ size self.now.text
-            → result ≡ ok_unless (first_cause (inside self.now.text index ∷ [])) tt }
+            → result ≡ ok_unless (first_cause (inside_character self.now.text index ∷ [])) tt }
     {
         if !self.is_boundary(index as usize) {
             return Err(Error::Utf8);

@@ -5,7 +5,7 @@ ghost use Rattle.std.specs.Iterator.{IsFiniteIterable};
 ghost use Rattle.arraystring_base.specs.Text.{bytes, cap, cut, IsText, IsWellFormed};
 ghost use Rattle.arraystring_core.specs.Edits.{from_out_of_bounds};
 ghost use Rattle.arraystring_core.specs.Construct.{IsWholeOrRefused};
-ghost use Rattle.arraystring_core.specs.Taken.{Takes, Gives, joined, joined_pieces, piece_text};
+ghost use Rattle.arraystring_core.specs.Taken.{Takes, Gives, joined_texts, joined_pieces, piece_text};
 
 use crate::ArrayString;
 use crate::well_formed::read_utf8;
@@ -80,7 +80,7 @@ impl<const N: usize> ArrayString<N> {
             × IsWholeOrRefused (joined_pieces taken) (cap N) (from_out_of_bounds result) }
         ensures whole { (all : List (List ℕ))
             → Gives I.into_iter_gives I.IntoIter.next_gives piece_text pieces all
-            → IsWholeOrRefused (joined all) (cap N) (from_out_of_bounds result) }
+            → IsWholeOrRefused (joined_texts all) (cap N) (from_out_of_bounds result) }
     {
         let mut made = Self::new();
         made.add_strs(pieces)?;
@@ -109,7 +109,7 @@ impl<const N: usize> ArrayString<N> {
             × (result.text ≡ cut (joined_pieces taken) (cap N)) }
         ensures whole { (all : List (List ℕ))
             → Gives I.into_iter_gives I.IntoIter.next_gives piece_text pieces all
-            → result.text ≡ cut (joined all) (cap N) }
+            → result.text ≡ cut (joined_texts all) (cap N) }
     {
         let mut made = Self::new();
         let _ = made.add_strs(pieces);

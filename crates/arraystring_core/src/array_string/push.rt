@@ -4,7 +4,7 @@ ghost use Rattle.arraystring_base.specs.Text.{size, cap};
 ghost use Rattle.arraystring_core.specs.Edits.{Makes, from_out_of_bounds, addition, addition_of_cut};
 ghost use Rattle.std.specs.Borrow.{Bor};
 ghost use Rattle.std.specs.Iterator.{IsFiniteIterable};
-ghost use Rattle.arraystring_core.specs.Taken.{Takes, Gives, joined, joined_pieces, piece_text};
+ghost use Rattle.arraystring_core.specs.Taken.{Takes, Gives, joined_texts, joined_pieces, piece_text};
 
 use crate::ArrayString;
 use arraystring_base::error::OutOfBounds;
@@ -124,7 +124,7 @@ impl<const N: usize> ArrayString<N> {
             self.old.text (Ok result) self.new.text }
         ensures whole { (all : List (List ℕ))
             → Gives I.into_iter_gives I.IntoIter.next_gives piece_text pieces all
-            → Makes (addition_of_cut self.old.text (joined all) (cap N))
+            → Makes (addition_of_cut self.old.text (joined_texts all) (cap N))
             self.old.text (Ok result) self.new.text }
     {
         let _ = self.add_strs(pieces);

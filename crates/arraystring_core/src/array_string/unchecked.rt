@@ -6,7 +6,7 @@ ghost use Rattle.std.specs.Prelude.{◌≡◌, ◌+◌, ◌≤◌, ◌∷◌, []
 ghost use Rattle.std.specs.Borrow.{Bor};
 ghost use Rattle.std.specs.Iterator.{IsFiniteIterable};
 ghost use Rattle.arraystring_base.specs.Text.{size, width, bytes, cap, front, back, boundary, IsText, IsWellFormed};
-ghost use Rattle.arraystring_core.specs.Taken.{TakesAll, Fits, Gives, joined, joined_pieces, piece_text};
+ghost use Rattle.arraystring_core.specs.Taken.{TakesAll, Fits, Gives, joined_texts, joined_pieces, piece_text};
 
 use crate::ArrayString;
 use arraystring_base::utils::{Steps, write_by_call};
@@ -48,7 +48,7 @@ impl<const N: usize> ArrayString<N> {
             × (result.text ≡ joined_pieces taken) }
         ensures whole { (all : List (List ℕ))
             → Gives I.into_iter_gives I.IntoIter.next_gives piece_text pieces all
-            → result.text ≡ joined all }
+            → result.text ≡ joined_texts all }
     {
         let Ok(made) = Self::try_from_iterator(pieces) else {
             unreachable!();

@@ -2,8 +2,8 @@
 ghost use Rattle.std.specs.Prelude.{◌≡◌, [], List, IfOk};
 ghost use Rattle.arraystring_base.specs.declared.utf16.Unit16.{Unit16};
 ghost use Rattle.arraystring_base.specs.Text.{cap, cut};
-ghost use Rattle.arraystring_base.specs.Utf16.{IsReading, first_stop, shown, lossy_text, text_units};
-ghost use Rattle.arraystring_core.specs.FromUtf16.{GivesWhole, GivesPrefix, stop_at};
+ghost use Rattle.arraystring_base.specs.Utf16.{IsReading, first_stop, char_or_replacement, lossy_text, text_units};
+ghost use Rattle.arraystring_core.specs.FromUtf16.{GivesWhole, GivesPrefix, stop_by_next};
 
 use crate::ArrayString;
 use arraystring_base::error::{Error, Utf16};
@@ -90,7 +90,7 @@ impl<const N: usize> ArrayString<N> {
         only_reading(units); // gives the prover that what `Units` reads is the only reading
         let mut made = Self::new();
         for item in Units::new(units) {
-            match made.try_push(shown(item)) {
+            match made.try_push(char_or_replacement(item)) {
                 Ok(()) => {}
                 Err(_) => break,
             }
@@ -104,7 +104,7 @@ impl<const N: usize> ArrayString<N> {
     fn add_units(&mut self, units: &[u16]) -> Option<Unit16>
         requires { self.old.text ≡ [] }
         ensures { (items : List Unit16) → IsReading units.now items
-            → first_stop items (cap N) ≡ stop_at result self.new.text }
+            → first_stop items (cap N) ≡ stop_by_next result self.new.text }
     {
         only_reading(units); // gives the prover that what `Units` reads is the only reading
         for item in Units::new(units) {
@@ -122,8 +122,8 @@ impl<const N: usize> ArrayString<N> {
 
 /// An item as a character, with U+FFFD for a lone surrogate.
 #[inline]
-fn shown(item: Unit16) -> char
-    ensures { result ≡ shown item }
+fn char_or_replacement(item: Unit16) -> char
+    ensures { result ≡ char_or_replacement item }
 {
     match item {
         Unit16::Char(ch) => ch,

@@ -4,7 +4,7 @@ use Rattle.std.proofs.Common.{◌≡◌, ℕ, ◌+◌, List, [], ◌∷◌, ◌+
 use Rattle.std.specs.Fmt.{digits}
 use Rattle.arraystring_run.specs.Line.{IsLineOf}
 use Rattle.arraystring_run.specs.Player.{IfBadLine, IsPlayed, IsPartPlayed, IsOutcome}
-use Rattle.arraystring_run.specs.Printing.{printed, replies_printed}
+use Rattle.arraystring_run.specs.Printing.{reply_line, replies_printed}
 use Rattle.arraystring_run.specs.Runs.{ReplyView, after}
 use Rattle.arraystring_run.specs.ScriptLines.{IsBadAt}
 use Rattle.arraystring_run.specs.declared.commands.Command.{Command}
@@ -43,7 +43,7 @@ IsPlayed-bad_line (c ∷ cs, are, appended) = no_command c are.0
 -- what is printed is never nothing
 some_printed : (rs : List ReplyView) (ys : List ℕ) (b : ℕ) → [] ≡ replies_printed rs ++ b ∷ ys → ⊥
 some_printed [] ys b e = cc
-some_printed (r ∷ rs) ys b e = some_first (printed r) (replies_printed rs) e
+some_printed (r ∷ rs) ys b e = some_first (reply_line r) (replies_printed rs) e
   where
     some_first : (xs zs : List ℕ) → [] ≡ ((xs ++ 0x0A ∷ []) ++ zs) ++ b ∷ ys → ⊥
     some_first [] zs e = cc

@@ -3,7 +3,7 @@ use Rattle.std.proofs.lemmas.List.{append-nil, drop_more, drop_all}
 use Rattle.std.proofs.KnownBytes.{Appends-nil, Appends-kept}
 use Rattle.arraystring_run.specs.Runs.{view_of}
 use Rattle.arraystring_run.specs.ScriptLines.{with_newline}
-use Rattle.arraystring_run.specs.Printing.{printed, replies_printed}
+use Rattle.arraystring_run.specs.Printing.{reply_line, replies_printed}
 use Rattle.arraystring_run.specs.Writing.{IsPassed}
 use Rattle.arraystring_run.specs.declared.commands.Reply.{Reply}
 use Rattle.arraystring_run.proofs.PrintLemmas.{front-all, front-more, passed-then, passed-front, sent-all, sent-front}
@@ -13,9 +13,9 @@ use Rattle.arraystring_run.proofs.printing.write_all_replies.Goals as goal
 -- the lines of the replies, of which those before i are printed
 one-more : {N : ℕ} (rs : List (Reply N)) (i : ℕ) (r : Reply N) (done : List ℕ) → i < length rs → r ≡ get_or rs i r
     → replies_printed (map view_of rs) ≡ done ++ replies_printed (map view_of (drop i rs))
-    → replies_printed (map view_of rs) ≡ (done ++ with_newline (printed (view_of r))) ++ replies_printed (map view_of (drop (i + 1) rs))
+    → replies_printed (map view_of rs) ≡ (done ++ with_newline (reply_line (view_of r))) ++ replies_printed (map view_of (drop (i + 1) rs))
 one-more rs i r done lt is parts =
-    cc (parts, drop_more rs i r lt, append_assoc done (with_newline (printed (view_of r))) (replies_printed (map view_of (drop (i + 1) rs))))
+    cc (parts, drop_more rs i r lt, append_assoc done (with_newline (reply_line (view_of r))) (replies_printed (map view_of (drop (i + 1) rs))))
 
 all-written : {N : ℕ} (rs : List (Reply N)) (i : ℕ) (old new : Option (List ℕ)) (waits : List ℕ) → length rs ≤ i
     → IsPartWritten rs i old new waits → IsPassed old new [] waits (replies_printed (map view_of rs))
@@ -31,7 +31,7 @@ loop-reply-init g c = ([], refl, record { done = []; whole = sym c.new-waiting.e
 pub loop-reply-preserved : goal.loop-reply-preserved
 loop-reply-preserved g c =
     let (done, parts, passed) = c.loop-reply.invariant in (
-      done ++ with_newline (printed (view_of c.reply-item.result)),
+      done ++ with_newline (reply_line (view_of c.reply-item.result)),
       one-more _ _ _ done c.loop-reply-test.true c.reply-item.is parts,
       passed-then _ _ _ _ _ _ _ passed _ c.in_ok-put_reply.ensures.whole,
     )

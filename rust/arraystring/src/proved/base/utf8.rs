@@ -29,8 +29,8 @@ pub fn truncate_str(text: &str, size: u8) -> &str {
 fn last_boundary(text: &str, limit: usize) -> usize {
     let all = text.as_bytes();
     let mut end = limit;
-    // The first byte of a text continues no character, and at most three bytes in a row do. So the second test is
-    // always true here. It tells the compiler that there are at most three turns, and the loop is unrolled.
+    // The first byte of a text continues no character, and at most three bytes in a row do. The bound is for
+    // the compiler, which unrolls the loop.
     while continues(look(all, end)) && limit - end < 3 {
         end -= 1;
     }
@@ -154,8 +154,8 @@ pub fn encode<const N: usize>(ch: char, array: &mut [crate::leaf::Place; N], at:
     encode_wide(ch, all, at)
 }
 
-/// Writes the UTF-8 of a character that is not ASCII. No attribute says whether it is inlined, because the compiler
-/// does so where it serves, and lets a cold function call it.
+/// Writes the UTF-8 of a character that is not ASCII. The compiler inlines it where it serves: a cold function only
+/// calls it.
 fn encode_wide(ch: char, all: &mut [crate::leaf::Place], at: usize) -> usize {
     let code = ch as u32;
     let last = (0x80 + code % 64) as u8;

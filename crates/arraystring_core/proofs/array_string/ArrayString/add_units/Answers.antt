@@ -5,7 +5,7 @@ use Rattle.arraystring_base.specs.Text.{cap, size, width}
 use Rattle.arraystring_base.specs.Utf16.{End, Fault, Full}
 use Rattle.arraystring_base.proofs.TextLaws.{size-append}
 use Rattle.arraystring_base.proofs.Utf16Laws.{stop-is}
-use Rattle.arraystring_core.specs.FromUtf16.{stop_at}
+use Rattle.arraystring_core.specs.FromUtf16.{stop_by_next}
 use Rattle.arraystring_core.proofs.EditLaws.{addition-made, addition-refused}
 use Rattle.arraystring_core.proofs.array_string.ArrayString.add_units.Goals as goal
 
@@ -44,7 +44,7 @@ returns-in-Lone g c = λ items is.
     let first = c.in-Some.ensures.steps ∙ ap (λ item. item ∷ left) c.in-Lone.is in
     stop-is items (cap g.row.N) (Fault prefix)
     (c.in-Lone.field-0, left, inv.read items is ∙ ap (λ l. map Char prefix ++ l) first, inv.fits)
-    ∙ ap (λ item. stop_at (Some item) prefix) (sym c.in-Lone.is)
+    ∙ ap (λ item. stop_by_next (Some item) prefix) (sym c.in-Lone.is)
 
 pub returns : goal.returns
 returns g c = λ items is.

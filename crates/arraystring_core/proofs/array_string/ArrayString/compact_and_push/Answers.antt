@@ -1,5 +1,5 @@
 use Rattle.std.proofs.Common.{◌+◌, ◌++◌, ◌∷◌, [], refl, arith, rules}
-use Rattle.arraystring_core.specs.Layout.{stored}
+use Rattle.arraystring_core.specs.Layout.{string_in}
 use Rattle.arraystring_core.proofs.SpanLemmas.{StoredAt}
 use Rattle.arraystring_core.proofs.AppendLemmas.{char-appended_at_front}
 use Rattle.arraystring_core.proofs.array_string.ArrayString.compact_and_push.Given as given
@@ -14,7 +14,7 @@ encode-requires g c = (search rules, omega (arith, c.requires.room))
 
 -- what is then in the array
 written : (g : given.Over) (c : goal.After-encode g)
-    → StoredAt g.row.N c.encode.new.array 0 (c.args.size + c.encode.result) ((stored c.args.array.now c.args.start c.args.size).text ++ c.args.ch ∷ [])
+    → StoredAt g.row.N c.encode.new.array 0 (c.args.size + c.encode.result) ((string_in c.args.array.now c.args.start c.args.size).text ++ c.args.ch ∷ [])
 written g c =
     char-appended_at_front c.requires.in_array refl c.args.ch (search rules) c.encode.ensures.width c.requires.room
     c.shift_by_call.ensures.bytes c.encode.ensures.bytes

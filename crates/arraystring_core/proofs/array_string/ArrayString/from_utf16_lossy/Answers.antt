@@ -9,10 +9,10 @@ use Rattle.arraystring_core.proofs.array_string.ArrayString.from_utf16_lossy.Goa
 pub loop-item-preserved : goal.loop-item-preserved
 loop-item-preserved g c =
     let text = c.loop-item.made.text in
-    let ch = c.shown.result in
+    let ch = c.char_or_replacement.result in
     let left = lossy_text c.next.new.self in
     let added = addition-made (ch ∷ []) (cap g.row.N) c.in-Ok.ensures in
-    let first = ap lossy_text c.in-Some.ensures.steps ∙ ap (λ d. d ∷ left) (sym c.shown.ensures) in
+    let first = ap lossy_text c.in-Some.ensures.steps ∙ ap (λ d. d ∷ left) (sym c.char_or_replacement.ensures) in
     record {
       fits = omega (arith, added, ap size added.1, size-append text (ch ∷ []));
       read = λ items is.
@@ -40,10 +40,10 @@ returns-in-Err g c = λ items is.
     let inv = c.loop-item.invariant in
     let n = cap g.row.N in
     let text = c.loop-item.made.text in
-    let ch = c.shown.result in
+    let ch = c.char_or_replacement.result in
     let left = lossy_text c.next.new.self in
     let refused = addition-refused (ch ∷ []) n c.in-Err.ensures in
     let past : n < size text + width ch = omega (arith, refused.0) in
-    let first = ap lossy_text c.in-Some.ensures.steps ∙ ap (λ d. d ∷ left) (sym c.shown.ensures) in
+    let first = ap lossy_text c.in-Some.ensures.steps ∙ ap (λ d. d ∷ left) (sym c.char_or_replacement.ensures) in
     let ends = cut-is text (ch ∷ left) n inv.fits (λ d es e. let one : ch ≡ d = cc in rw (← one) past) in
     refused.2 ∙ sym (ap (λ l. cut l n) (inv.read items is ∙ ap (λ l. text ++ l) first) ∙ ends)

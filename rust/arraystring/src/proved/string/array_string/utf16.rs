@@ -49,7 +49,7 @@ impl<const N: usize> ArrayString<N> {
     pub fn from_utf16_lossy(units: &[u16]) -> Self {
         let mut made = Self::new();
         for item in Units::new(units) {
-            match made.try_push(shown(item)) {
+            match made.try_push(char_or_replacement(item)) {
                 Ok(()) => {}
                 Err(_) => break,
             }
@@ -76,7 +76,7 @@ impl<const N: usize> ArrayString<N> {
 
 /// An item as a character, with U+FFFD for a lone surrogate.
 #[inline]
-fn shown(item: Unit16) -> char {
+fn char_or_replacement(item: Unit16) -> char {
     match item {
         Unit16::Char(ch) => ch,
         Unit16::Lone(_) => char::REPLACEMENT_CHARACTER,

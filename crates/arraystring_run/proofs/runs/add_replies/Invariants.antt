@@ -3,7 +3,7 @@ use Rattle.std.specs.Vec.{vec_ptr}
 use Rattle.arraystring.specs.Text.{cap}
 use Rattle.arraystring_run.specs.Runs.{ReplyView, view_of, after, first_tight_from, earlier_of}
 use Rattle.arraystring_run.specs.declared.commands.Command.{Command}
-use Rattle.arraystring_run.proofs.runs.fill.Given as goal
+use Rattle.arraystring_run.proofs.runs.add_replies.Given as goal
 
 -- the first i commands are done: `done` is what they replied, t what they left, and first their first tight one
 pub record IsPartWay (cs : List Command) (t₀ : List ℕ) (n i : ℕ) (done : List ReplyView) (t : List ℕ) (first : Option ℕ) : Type 0 where

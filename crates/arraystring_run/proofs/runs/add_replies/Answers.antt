@@ -2,8 +2,8 @@ use Rattle.std.proofs.Common.{◌≡◌, ℕ, ◌+◌, ◌<◌, ◌≤◌, List,
 use Rattle.std.proofs.lemmas.List.{append-nil, drop_all, drop_more, nil_from_length}
 use Rattle.arraystring_run.specs.Runs.{ReplyView, effect, is_tight, after, first_tight_from, earlier_of}
 use Rattle.arraystring_run.specs.declared.commands.Command.{Command}
-use Rattle.arraystring_run.proofs.runs.fill.Invariants.{IsPartWay}
-use Rattle.arraystring_run.proofs.runs.fill.Goals as goal
+use Rattle.arraystring_run.proofs.runs.add_replies.Invariants.{IsPartWay}
+use Rattle.arraystring_run.proofs.runs.add_replies.Goals as goal
 
 earlier_of-none : (first : Option ℕ) → earlier_of first None ≡ first
 earlier_of-none None = refl

@@ -5,39 +5,39 @@ use Rattle.std.specs.Fmt.{digits}
 use Rattle.std.specs.Str.{chars}
 use Rattle.arraystring.specs.Refusals.{OutOfBounds, Utf8, Utf16}
 use Rattle.arraystring.specs.Text.{width, utf8}
-use Rattle.arraystring_run.specs.Printing.{printed, replies_printed, all_printed, run_printed}
+use Rattle.arraystring_run.specs.Printing.{reply_line, replies_printed, all_printed, run_printed}
 use Rattle.arraystring_run.specs.Runs.{Done, Char, NoChar, Text, NoText, Number, Refused}
 use Rattle.arraystring_run.specs.declared.commands.Command.TheVariants as command
 
-printed-done : printed Done ≡ codes "done"
-printed-done = refl
+reply_line-done : reply_line Done ≡ codes "done"
+reply_line-done = refl
 
 -- C3 A9 is the UTF-8 of `é`
-printed-char : printed (Char 0xE9) ≡ codes "char " ++ 0xC3 ∷ 0xA9 ∷ []
+reply_line-char : reply_line (Char 0xE9) ≡ codes "char " ++ 0xC3 ∷ 0xA9 ∷ []
 unfolding utf8
-printed-char = refl
+reply_line-char = refl
 
-printed-no_char : printed NoChar ≡ codes "no char"
-printed-no_char = refl
+reply_line-no_char : reply_line NoChar ≡ codes "no char"
+reply_line-no_char = refl
 
-printed-text : printed (Text (codes "aé")) ≡ codes "text a" ++ 0xC3 ∷ 0xA9 ∷ []
+reply_line-text : reply_line (Text (codes "aé")) ≡ codes "text a" ++ 0xC3 ∷ 0xA9 ∷ []
 unfolding utf8
-printed-text = refl
+reply_line-text = refl
 
-printed-empty_text : printed (Text []) ≡ codes "text "
-printed-empty_text = refl
+reply_line-empty_text : reply_line (Text []) ≡ codes "text "
+reply_line-empty_text = refl
 
-printed-no_text : printed NoText ≡ codes "no text"
-printed-no_text = refl
+reply_line-no_text : reply_line NoText ≡ codes "no text"
+reply_line-no_text = refl
 
-printed-number : map (λ n. printed (Number n)) (0 ∷ 7 ∷ 10 ∷ 255 ∷ [])
+reply_line-number : map (λ n. reply_line (Number n)) (0 ∷ 7 ∷ 10 ∷ 255 ∷ [])
     ≡ codes "number 0" ∷ codes "number 7" ∷ codes "number 10" ∷ codes "number 255" ∷ []
 unfolding digits
-printed-number = refl
+reply_line-number = refl
 
-printed-refused : map (λ e. printed (Refused e)) (OutOfBounds ∷ Utf8 ∷ Utf16 ∷ [])
+reply_line-refused : map (λ e. reply_line (Refused e)) (OutOfBounds ∷ Utf8 ∷ Utf16 ∷ [])
     ≡ codes "refused OutOfBounds" ∷ codes "refused Utf8" ∷ codes "refused Utf16" ∷ []
-printed-refused = refl
+reply_line-refused = refl
 
 replies_printed-none : replies_printed [] ≡ []
 replies_printed-none = refl
