@@ -73,6 +73,9 @@ def made(source):
         path = Path(folder, 'arraystring_base/src/a.rt')
         path.parent.mkdir(parents=True)
         path.write_text(source, encoding='utf8')
+        the_list = Path(folder, generate.LIST)
+        the_list.parent.mkdir(parents=True)
+        the_list.write_text('// pop', encoding='utf8')
         return generate.made(Path(folder))[Path('base/a.rs')].split('\n', 1)[1].strip()
 
 
