@@ -16,7 +16,8 @@ as it is, with its comments, and rustc compiles it or refuses it. A comment befo
  9. examples   `# Examples` is left out of a comment: it would be a test of rustdoc, which sees no private module.
 10. formatter  `fn fmt<W: fmt::Write>(.. fmt::Formatter<W>)` is `fn fmt(.. fmt::Formatter<'_>)`.
 
-The list of the calls that tables make stands in both languages as it is, so it is copied to where the tests of the core have it.
+The list of the calls that tables make is in both languages what it is, so it is copied as it stands: the tests of the core are in the package
+of the crate, too, where no source of Rattle is.
 
 An error with its file and line is what looks like one of these and is left over: a word of LEFT, a name that ends with `_counted`, an example, an
 `unsafe` without its `SAFETY`, a comment from `/*` on. One thing no rule sees: a proof that reads a zero of `[0; N]`, which nothing writes in Rust.

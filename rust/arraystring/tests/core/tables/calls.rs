@@ -91,7 +91,7 @@ fn make<const N: usize>(text: &mut ArrayString<N>, call: &str, row: &str) {
     let call = plain(call);
     let is_made =
         whole(text, call, row) || compared(text, call, row) || at_index(text, call, row) || in_range(text, call, row);
-    assert!(is_made, "nothing makes {call} in {row}");
+    assert!(is_made, "no list in call_list.rt has {call} of {row}");
     MADE.lock().expect("no panic").insert(call.to_string());
 }
 
@@ -220,8 +220,8 @@ fn in_range<const N: usize>(text: &mut ArrayString<N>, call: &str, row: &str) ->
         while range.next().is_some() {}
         return of_range(text, call, row, range);
     }
-    let (start, end) =
-        written.split_once("..").unwrap_or_else(|| panic!("nothing makes the call of {row}, or its range is none"));
+    let told = || panic!("no list in call_list.rt has the call of {row}, or its range is none");
+    let (start, end) = written.split_once("..").unwrap_or_else(told);
     if written.starts_with(['~', '(', '[']) {
         return of_range(text, call, row, Untold(bound(start), bound(end)));
     }
