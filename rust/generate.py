@@ -16,6 +16,9 @@ as it is, with its comments, and rustc compiles it or refuses it. A comment befo
  9. examples   `# Examples` is left out of a comment: it would be a test of rustdoc, which sees no private module.
 10. formatter  `fn fmt<W: fmt::Write>(.. fmt::Formatter<W>)` is `fn fmt(.. fmt::Formatter<'_>)`.
 
+The list of the calls that tables make is the same in both languages, so it is copied as it stands: the tests of the core are in the
+package of the crate, too, where no source of Rattle is.
+
 An error with its file and line is what looks like one of these and is left over: a word of LEFT, a name that ends with
 `_counted`, an example, an `unsafe` without its `SAFETY`, a comment from `/*` on. One thing no rule sees: a proof that reads a zero of
 `[0; N]`, which nothing writes in Rust. memcheck sees that, in `rust/shipped`.
@@ -29,6 +32,8 @@ from pathlib import Path
 CRATES = {'arraystring_base': 'base', 'arraystring_core': 'string'}
 GONE, BY_HAND = {'laws', 'integration', 'steps'}, 'leaf'
 GHOST_TYPES, CONSTANT = {'Steps', 'Model'}, {'as_str', 'as_bytes'}
+# The list of calls, below CRATES, and its copy, below OUT.
+LIST, COPY = Path('arraystring_tests/src/tests/call_list.rt'), Path('../../tests/core/tables/call_list.rs')
 LEFT = {*GONE, *CRATES, *GHOST_TYPES, 'ghost', 'requires', 'ensures', 'tactic', 'Drop', 'std', 'prove', 'prove_eq', 'prove_ne'}
 TOKEN = re.compile(r'''
     (?P<gap> (?: \s | //[^\n]* )* )
@@ -289,9 +294,14 @@ def refuse_what_is_left(t):
             t.refuse(at, 'an `unsafe` without its `SAFETY` before it')
 
 
+def with_origin(path, text):
+    return f'// Made from crates/{path} by rust/generate.py: change that, and run this.\n{text}'
+
+
 def made(crates):
     """The text of each file, by its path below arraystring/src/proved."""
-    sources, counted, texts = {}, set(), {}
+    sources, counted = {}, set()
+    texts = {COPY: with_origin(LIST, (crates / LIST).read_text(encoding='utf8'))}
     for crate, module in CRATES.items():
         folder = crates / crate / 'src'
         for path in sorted(folder.rglob('*.rt')):
@@ -309,7 +319,7 @@ def made(crates):
         with_arrays_last(t)
         without_examples(t)
         refuse_what_is_left(t)
-        texts[t.place] = f'// Made from crates/{path.relative_to(crates)} by rust/generate.py: change that, and run this.\n{t}'
+        texts[t.place] = with_origin(path.relative_to(crates), t)
     return texts
 
 
@@ -317,6 +327,7 @@ def main(arguments):
     here = Path(__file__).resolve().parent
     out = here / 'arraystring/src/proved'
     wanted, there = made(here.parent / 'crates'), {path.relative_to(out): path.read_text(encoding='utf8') for path in out.rglob('*.rs')}
+    there |= {COPY: (out / COPY).read_text(encoding='utf8')} if (out / COPY).exists() else {}
     stale = sorted(path for path in {*wanted, *there} if wanted.get(path) != there.get(path))
     if '--check' in arguments:
         for path in stale:

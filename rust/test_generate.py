@@ -73,7 +73,12 @@ def made(source):
         path = Path(folder, 'arraystring_base/src/a.rt')
         path.parent.mkdir(parents=True)
         path.write_text(source, encoding='utf8')
-        return generate.made(Path(folder))[Path('base/a.rs')].split('\n', 1)[1].strip()
+        the_list = Path(folder, generate.LIST)
+        the_list.parent.mkdir(parents=True)
+        the_list.write_text('// pop', encoding='utf8')
+        files = generate.made(Path(folder))
+        assert files[generate.COPY].endswith('\n// pop'), files[generate.COPY]
+        return files[Path('base/a.rs')].split('\n', 1)[1].strip()
 
 
 class Test(unittest.TestCase):

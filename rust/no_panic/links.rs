@@ -1,5 +1,5 @@
 //! Each safe call of the crate in a program without `std`, which links only where the machine code of no call can panic: what it
-//! does where something panics has no definition. The script beside it builds it.
+//! does where something panics has no definition. The script beside it builds it. Most calls are those of a list that tests make, too.
 //!
 //! With the setting `with_alloc` it has the calls of that feature, too, and with `index_of_all` the index `[..]`. With `one_panics` it
 //! makes a call that can panic, and must not link. With ONLY it makes the call of that name alone.
@@ -98,7 +98,39 @@ macro_rules! make {
     )*};
 }
 
-/// The calls of a string, as the function `all` of a module.
+/// What a word of the list of calls stands for.
+#[rustfmt::skip]
+macro_rules! given {
+    (ch, $v:ident) => { $v.ch };
+    (text, $v:ident) => { $v.text };
+    (characters, $v:ident) => { $v.text.chars() };
+    (pieces, $v:ident) => { [$v.text, $v.text] };
+    (printed, $v:ident) => { format_args!("{}-{}", $v.text, $v.ch) };
+    (bytes, $v:ident) => { $v.bytes };
+    (units, $v:ident) => { $v.units };
+    (at, $v:ident) => { $v.at };
+    (range, $v:ident) => { $v.at..$v.end };
+}
+
+/// Makes the edits of the list. The rules in it are for the model.
+macro_rules! edits {
+    ($($name:ident($($word:ident),*) => |$model:tt, $of:tt| $rule:expr;)*) => {
+        fn edits(values: &mut Values<S>) {
+            make! { v: Values<S>, values; $($name: v.s.$name($(given!($word, v)),*);)* }
+        }
+    };
+}
+
+/// Makes the strings of the list.
+macro_rules! constructors {
+    ($($name:ident($($word:ident),*) => |$model:tt, $of:tt| $rule:expr;)*) => {
+        fn constructors(values: &mut Values<S>) {
+            make! { v: Values<S>, values; $($name: S::$name($(given!($word, v)),*);)* }
+        }
+    };
+}
+
+/// The calls of a string, as the function `all` of a module: those of the list, and what is called in other ways, too.
 macro_rules! calls_of {
     ($module:ident: $type:ty) => {
         mod $module {
@@ -106,33 +138,19 @@ macro_rules! calls_of {
 
             type S = $type;
 
+            include!("../arraystring/tests/model/call_list.rs");
+
             pub fn all(values: &mut Values<S>) {
+                edits(values);
+                constructors(values);
                 make! {
                     v: Values<S>, values;
-                    new: S::new();
                     capacity: v.s.capacity();
-                    const_try_from_str: S::const_try_from_str(v.text);
-                    try_from_str: S::try_from_str(v.text);
-                    try_from_iterator: S::try_from_iterator([v.text, v.text]);
-                    try_from_chars: S::try_from_chars(v.text.chars());
-                    try_from_utf8: S::try_from_utf8(v.bytes);
-                    try_from_utf8_lossy: S::try_from_utf8_lossy(v.bytes);
-                    try_from_utf16: S::try_from_utf16(v.units);
-                    try_from_utf16_lossy: S::try_from_utf16_lossy(v.units);
-                    try_from_format: S::try_from_format(format_args!("{}-{}", v.text, v.ch));
-                    from_str_truncate: S::from_str_truncate(v.text);
-                    from_iterator_truncate: S::from_iterator_truncate([v.text, v.text]);
-                    from_chars_truncate: S::from_chars_truncate(v.text.chars());
-                    from_utf8_truncate: S::from_utf8_truncate(v.bytes);
-                    from_utf8_lossy_truncate: S::from_utf8_lossy_truncate(v.bytes);
-                    from_utf16_truncate: S::from_utf16_truncate(v.units);
-                    from_utf16_lossy_truncate: S::from_utf16_lossy_truncate(v.units);
                     try_from_text: S::try_from(v.text);
                     try_from_char: S::try_from(v.ch);
                     try_from_arguments: S::try_from(format_args!("{}-{}", v.text, v.ch));
                     parse: v.text.parse::<S>();
                     format: { let made: Result<S, _> = try_format!("{}-{}", v.text, v.ch); made };
-                    default: S::default();
                     widen: { let wide: ArrayString<255> = v.s.widen(); wide };
                     as_str: v.s.as_str().len();
                     as_bytes: v.s.as_bytes().len();
@@ -142,32 +160,15 @@ macro_rules! calls_of {
                     is_full: v.s.is_full();
                     remaining_capacity: v.s.remaining_capacity();
                     get: (v.s.get(v.at..v.end), v.s.get(v.at..), v.s.get(..v.end), v.s.get(v.at..=v.end), v.s.get(..));
-                    try_push: v.s.try_push(v.ch);
-                    try_push_str: v.s.try_push_str(v.text);
                     push_str_truncate: v.s.push_str_truncate(v.text).len();
-                    try_write: v.s.try_write(format_args!("{}-{}", v.text, v.ch));
-                    write_truncate: v.s.write_truncate(format_args!("{}-{}", v.text, v.ch));
-                    try_extend_chars: v.s.try_extend_chars(v.text.chars());
-                    try_extend_strs: v.s.try_extend_strs([v.text, v.text]);
-                    extend_chars_truncate: v.s.extend_chars_truncate(v.text.chars());
-                    extend_strs_truncate: v.s.extend_strs_truncate([v.text, v.text]);
-                    try_insert: v.s.try_insert(v.at, v.ch);
-                    try_insert_str: v.s.try_insert_str(v.at, v.text);
                     insert_str_truncate: v.s.insert_str_truncate(v.at, v.text).map(str::len);
-                    replace_range: v.s.replace_range(v.at..v.end, v.text);
                     replace_range_through: v.s.replace_range(v.at..=v.end, v.text);
                     replace_range_behind: v.s.replace_range((Bound::Excluded(v.at), Bound::Unbounded), v.text);
-                    pop: v.s.pop();
-                    remove: v.s.remove(v.at);
                     remove_behind_push: (v.s.push_str_truncate(v.text).len(), v.s.remove(v.at));
-                    truncate: v.s.truncate(v.at);
-                    split_off: v.s.split_off(v.at);
-                    drain: v.s.drain(v.at..v.end).map(|it| it.map(u32::from).fold(0, u32::wrapping_add));
+                    drain_to_its_end: v.s.drain(v.at..v.end).map(|it| it.map(u32::from).fold(0, u32::wrapping_add));
                     drain_through: v.s.drain(v.at..=v.end);
                     drain_behind: v.s.drain((Bound::Excluded(v.at), Bound::Included(v.end)));
                     retain: { let ch = v.ch; v.s.retain(|it| it != ch) };
-                    trim_in_place: v.s.trim_in_place();
-                    clear: v.s.clear();
                     make_ascii_uppercase: v.s.make_ascii_uppercase();
                     make_ascii_lowercase: v.s.make_ascii_lowercase();
                     as_mut_of_str: AsMut::<str>::as_mut(&mut v.s).make_ascii_uppercase();
@@ -185,7 +186,7 @@ macro_rules! calls_of {
                     partial_cmp_of_str: (v.s < *v.text, v.s < v.text);
                     eq: v.s == v.t;
                     eq_of_str: (v.s == *v.text, v.s == v.text, *v.text == v.s, v.text == v.s);
-                    write: (v.s.write_str(v.text), v.s.write_char(v.ch), write!(v.s, "{}-", v.text));
+                    write: write!(v.s, "{}-", v.text);
                 }
                 #[cfg(with_alloc)]
                 with_alloc(values);

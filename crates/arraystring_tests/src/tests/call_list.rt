@@ -1,4 +1,5 @@
-// The calls that tables make as they are, each with what it is given: one line a call.
+// The calls that tables make as they are, each with what it is given: one line a call. The tests in
+// Rust make theirs by a copy of this file, for which rust/generate.py has to be run.
 //
 // A caller hands in a macro that makes the calls. What is no plain call of a string stands in
 // `calls`.

@@ -65,8 +65,30 @@ impl From<&str> for Value {
 }
 
 /// What a call returned, of whatever type.
-pub fn answer<T: Into<Value>, E: Into<Refusal>>(returned: Result<T, E>) -> Answer {
-    returned.map(T::into).map_err(E::into)
+pub trait Returned {
+    fn answer(self) -> Answer;
+}
+
+impl<T: Into<Value>, E: Into<Refusal>> Returned for Result<T, E> {
+    fn answer(self) -> Answer {
+        self.map(T::into).map_err(E::into)
+    }
+}
+
+macro_rules! never_refused {
+    ($($returned:ty)*) => {$(
+        impl Returned for $returned {
+            fn answer(self) -> Answer {
+                Ok(self.into())
+            }
+        }
+    )*};
+}
+
+never_refused! { () bool Option<char> }
+
+pub fn answer(returned: impl Returned) -> Answer {
+    returned.answer()
 }
 
 /// What fills the room that is left.
@@ -126,6 +148,12 @@ impl Model {
         let fitting = cut(text, self.room());
         self.text.push_str(fitting);
         &text[fitting.len()..]
+    }
+
+    /// Appends the same. Nothing is refused.
+    pub fn push_fitting(&mut self, text: &str) -> Result<(), Refusal> {
+        self.push_cut(text);
+        Ok(())
     }
 
     /// Appends the same, and returns whether anything was left.

@@ -16,13 +16,10 @@ use std::ops::{Bound, RangeBounds};
 use std::sync::Mutex;
 
 use super::at_capacity;
+use super::call_list::{index_calls, range_calls, whole_calls};
 use super::rows::{Table, column, parsed, returned, rows};
 use crate::inputs::hash_of;
 use crate::{ArrayString, behind, is_char_boundary};
-
-/// The calls of the tables that the core does not have yet, since it was not made anew. Nothing makes them here: each leaves the text
-/// that its row has behind it.
-const NOT_IN_RUST: &[&str] = &[];
 
 /// The calls that rows have made.
 static MADE: Mutex<BTreeSet<String>> = Mutex::new(BTreeSet::new());
@@ -32,11 +29,17 @@ fn plain(call: &str) -> &str {
     call.strip_suffix("_counted").unwrap_or(call)
 }
 
-/// The names of the calls of the tables: those with an arm in a function below `make`.
+/// The names of a list of calls.
+macro_rules! names {
+    (() $($name:ident($($given:ident)*))*) => { [$(stringify!($name)),*] };
+}
+
+/// The names of the calls of the tables: those of the lists, and those with an arm in a function below `make`.
 fn names() -> impl Iterator<Item = &'static str> {
     let (_, below) = include_str!("calls.rs").split_once("\nfn make<").expect("the function");
     let arms = below.lines().filter(|line| line.trim_start().starts_with('"')).filter_map(|line| line.split_once("=>"));
-    arms.flat_map(|(names, _)| names.split('"').skip(1).step_by(2))
+    let by_hand = arms.flat_map(|(names, _)| names.split('"').skip(1).step_by(2));
+    whole_calls!(names()).into_iter().chain(index_calls!(names())).chain(range_calls!(names())).chain(by_hand)
 }
 
 /// The calls of the tables that no row has made.
@@ -86,14 +89,31 @@ fn hold_from<const N: usize>(table: &str, string: impl Fn(&str) -> ArrayString<N
 /// Makes a call, and asserts what it returns.
 fn make<const N: usize>(text: &mut ArrayString<N>, call: &str, row: &str) {
     let call = plain(call);
-    if NOT_IN_RUST.contains(&call) {
-        *text = ArrayString::from(column(row, 5));
-        return;
-    }
     let is_made =
         whole(text, call, row) || compared(text, call, row) || at_index(text, call, row) || in_range(text, call, row);
-    assert!(is_made, "nothing makes {call} in {row}");
+    assert!(is_made, "no list in call_list.rt has {call} of {row}");
     MADE.lock().expect("no panic").insert(call.to_string());
+}
+
+/// What a call of a list is given.
+#[rustfmt::skip]
+macro_rules! given {
+    (ch, $row:ident $range:ident) => { parsed($row, 3) };
+    (text, $row:ident $range:ident) => { column($row, 3) };
+    (chars, $row:ident $range:ident) => { column($row, 3).chars() };
+    (pieces, $row:ident $range:ident) => { column($row, 3).split(',') };
+    (index, $row:ident $range:ident) => { parsed($row, 2) };
+    (range, $row:ident $range:ident) => { $range };
+}
+
+/// Makes the call of a row that is in a list, and asserts what it returns. If there is none, the function returns `false`.
+macro_rules! listed {
+    (($row:ident $range:ident $text:ident.$call:ident) $($name:ident($($given:ident)*))*) => {
+        match $call {
+            $(stringify!($name) => returned($row, $text.$name($(given!($given, $row $range)),*)),)*
+            _ => return false,
+        }
+    };
 }
 
 /// The calls that are given no index and no range. Like each function below, it makes the call of a row, asserts what it returns, and
@@ -101,18 +121,6 @@ fn make<const N: usize>(text: &mut ArrayString<N>, call: &str, row: &str) {
 fn whole<const N: usize>(text: &mut ArrayString<N>, call: &str, row: &str) -> bool {
     let given = column(row, 3);
     match call {
-        "make_ascii_uppercase" => returned(row, text.make_ascii_uppercase()),
-        "make_ascii_lowercase" => returned(row, text.make_ascii_lowercase()),
-        "try_push" => returned(row, text.try_push(parsed(row, 3))),
-        "try_push_str" => returned(row, text.try_push_str(given)),
-        "push_str" => returned(row, text.push_str(given)),
-        "extend_chars" => returned(row, text.extend_chars(given.chars())),
-        "extend_strs" => returned(row, text.extend_strs(given.split(','))),
-        "pop" => returned(row, text.pop()),
-        "clear" => returned(row, text.clear()),
-        "trim" => returned(row, text.trim()),
-        "trim_spaces" => returned(row, text.trim_spaces()),
-        "as_bytes" => returned(row, text.as_bytes()),
         "add" => returned(row, *text = std::ops::Add::add(*text, given)),
         "len" => returned(row, assert_eq!(text.len(), parsed(row, 6), "{row}")),
         "capacity" => returned(row, assert_eq!(ArrayString::<N>::capacity(), parsed(row, 6), "{row}")),
@@ -126,7 +134,7 @@ fn whole<const N: usize>(text: &mut ArrayString<N>, call: &str, row: &str) -> bo
             let _ = retained(text, "", given);
             returned(row, ());
         }
-        _ => return false,
+        _ => whole_calls!(listed (row range text.call)),
     }
     true
 }
@@ -185,13 +193,7 @@ fn at_index<const N: usize>(text: &mut ArrayString<N>, call: &str, row: &str) ->
         "insert_str_unchecked" => {
             returned(row, where_it_fits(text, Some(index), given, |text| text.insert_str_unchecked(index, given)))
         }
-        "try_insert" => returned(row, text.try_insert(index, parsed(row, 3))),
-        "try_insert_str" => returned(row, text.try_insert_str(index, given)),
-        "insert_str" => returned(row, text.insert_str(index, given)),
-        "truncate" => returned(row, text.truncate(index)),
-        "remove" => returned(row, text.remove(index)),
-        "split_off" => returned(row, text.split_off(index)),
-        _ => return false,
+        _ => index_calls!(listed (row range text.call)),
     }
     true
 }
@@ -218,8 +220,8 @@ fn in_range<const N: usize>(text: &mut ArrayString<N>, call: &str, row: &str) ->
         while range.next().is_some() {}
         return of_range(text, call, row, range);
     }
-    let (start, end) =
-        written.split_once("..").unwrap_or_else(|| panic!("nothing makes the call of {row}, or its range is none"));
+    let told = || panic!("no list in call_list.rt has the call of {row}, or its range is none");
+    let (start, end) = written.split_once("..").unwrap_or_else(told);
     if written.starts_with(['~', '(', '[']) {
         return of_range(text, call, row, Untold(bound(start), bound(end)));
     }
@@ -247,10 +249,7 @@ fn of_range<const N: usize>(
         "slice" => returned(row, text.slice(range)),
         "make_ascii_uppercase_in" => returned(row, text.make_ascii_uppercase_in(range)),
         "make_ascii_lowercase_in" => returned(row, text.make_ascii_lowercase_in(range)),
-        "get" => returned(row, text.get(range)),
-        "drain" => returned(row, text.drain(range)),
-        "replace_range" => returned(row, text.replace_range(range, column(row, 3))),
-        _ => return false,
+        _ => range_calls!(listed (row range text.call)),
     }
     true
 }

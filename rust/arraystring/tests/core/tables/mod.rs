@@ -4,6 +4,8 @@
 //! a capacity has it behind its name, and a table may say what it shows: `# player: calls 23 | the first character is taken out`.
 //! A text may hold several tables. What is no table has no ` | ` in it.
 
+#[rustfmt::skip]
+mod call_list;
 mod calls;
 mod contract;
 mod decoding_and_order;
