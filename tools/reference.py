@@ -1,0 +1,190 @@
+"""Makes the reference for callers of the string out of the sources, so that nobody keeps a list of calls or laws by hand.
+
+tools/run reference            fails where PAGE is not what the sources make
+tools/run reference --write    writes PAGE
+
+A call is a public function that callers of `arraystring` reach, and an impl of a trait one of a type of it. Each stands there with the
+first sentence of its comment, its signature and its clauses. A law is what is `pub` in the modules that proofs/Lib.antt passes on. Each
+stands there with its comment, its statement and the rulesets that have it, and a word of specs/Lib.antt with its definition.
+"""
+import re
+import textwrap
+from itertools import zip_longest
+
+from modules import IMPORT, NAME, Modules, module_of
+from repository import read
+
+PAGE = "crates/arraystring/REFERENCE.md"
+BASE, CORE, TOP = "crates/arraystring_base", "crates/arraystring_core", "crates/arraystring"
+# The files of src/ in the order of the page. Of those of BASE callers reach what lib.rt of TOP names.
+SOURCES = ("core/src/array_string.rt", "core/src/array_string/*.rt", "core/src/integration.rt", "core/src/drain.rt", "core/src/drain/*.rt",
+           "base/src/error.rt", "base/src/utils.rt", "base/src/utf8.rt", "base/src/moves.rt", "base/src/steps.rt", "base/src/utf16.rt",
+           "/src/cache_string.rt", "/src/cache_string/*.rt", "/src/integration.rt")
+LAWS = ("base/src/laws.rt", "core/src/laws.rt", "/src/laws.rt")
+# What an impl proves of itself, and no word of a contract.
+PROVED = r"laws|inverse\w*|total|respects_eq|matches_\w+"
+HEAD = """\
+# Reference
+
+`tools/run reference --write` makes this page from the sources, and `tools/run check` says where it is not as they are. It has
+[the calls](#calls), [the laws that a body calls](#laws-that-a-body-calls), [the rulesets](#rulesets), [the laws that an answer
+cites](#laws-that-an-answer-cites), [the words of contracts](#words-of-contracts) and [those of std](#words-of-std). How to use them is said
+in [CALLING.md](CALLING.md) and [RECIPES.md](RECIPES.md).
+"""
+
+
+def listed(beginning, names):
+    """A line of a list, which ends with some names."""
+    text = f"{beginning} {', '.join(f'`{it}`' for it in names)}"
+    return textwrap.fill(text, 138, initial_indent="- ", subsequent_indent="  ", break_on_hyphens=False) + "\n"
+
+
+def files(root, forms):
+    """The files of some forms, which stand behind `crates/arraystring` and maybe a `_`."""
+    paths = [f"crates/arraystring{'' if it.startswith('/') else '_'}{it}" for it in forms]
+    return [file for it in paths for file in sorted(root.glob(it))]
+
+
+def sentence(comment):
+    """The first sentence of some lines that each begin with a sign of a comment."""
+    words = [it.strip(" /!-") for it in comment.strip().split("\n")]
+    return re.match(r".*?[.](?= |$)|.*", " ".join([*words, ""][: [*words, ""].index("")]))[0]
+
+
+def wrapped(text, sign, indent=""):
+    """A comment as lines of code."""
+    return textwrap.wrap(text, 100, initial_indent=f"{indent}{sign} ", subsequent_indent=f"{indent}{sign} ", break_on_hyphens=False)
+
+
+def header(text):
+    """The signature of a function and its clauses."""
+    return re.split(r"(?m)\s*\{\}?$", text)[0]
+
+
+def functions(text):
+    """The public functions of a part of a source, by their names: the first sentence of each, its signature and its clauses."""
+    for found in re.finditer(r"(?m)((?:^ *///.*\n)*)(?:^ *#\[.*\n)*^( *)pub (?:const )?fn (\w+)", text):
+        yield found[3], textwrap.dedent("\n".join([*wrapped(sentence(found[1]), "///", found[2]), header(text[found.start(2):])]))
+
+
+def impl(text):
+    """An impl of a trait: the first sentence of its comment, the members that contracts see, and the methods that have clauses."""
+    comment, first = re.match(r"((?:///.*\n)*)(impl.*?)(?: \{| \{\})$", text, re.M).groups()
+    members = [it for it in re.findall(r"(?ms)^ {4}ghost (?!use )\w+ = \{.*?\};$", text) if not re.match(rf" *ghost ({PROVED}) =", it)]
+    methods = [f"    {header(it)}" for it in re.findall(r"(?ms)^ {4}(fn .*?)\n^ {4}\}", text) if re.search(r"(?m)^ +ensures\b", header(it))]
+    return "\n".join([*wrapped(sentence(comment), "///"), first, *members, *methods])
+
+
+def entries(file, reached):
+    """What callers reach of a source; of those functions that are in no impl, only these, if they are told."""
+    for text in re.split(r"(?m)^\n(?=(?:///.*\n|#\[.*\n)*(?:impl|pub fn|fn|pub struct|pub enum|struct|enum)\b)", read(file)):
+        if re.search(r"(?m)^impl.* for ", text):
+            if not re.search(r"(?m)^impl.* Model for ", text):
+                yield impl(text)
+        else:
+            is_free = not re.search(r"(?m)^impl", text)
+            yield from (it for name, it in functions(text) if reached is None or not is_free or name in reached)
+
+
+def sources(root, forms):
+    """The part of the page on some sources."""
+    named = set(re.findall(r"\w+", re.sub("//.*", "", read(root / TOP / "src/lib.rt"))))
+    for file in files(root, forms):
+        is_base = file.is_relative_to(root / BASE) and file.name != "laws.rt"
+        found = list(entries(file, named if is_base else None))
+        if found:
+            top = re.match(r"(?://!.*\n)+", read(file))[0]
+            yield f"\n### {file.relative_to(root)}\n\n{sentence(top)}\n\n```rust\n" + "\n\n".join(found) + "\n```\n"
+
+
+class Reader:
+    """The modules of specs/ and proofs/, as callers of `arraystring` name them."""
+
+    def __init__(self, root):
+        self.root, self.tree = root, Modules(root)
+        self.rules = [it for it in self.tree.items if it.path.as_posix() == f"{TOP}/proofs/Rules.antt"]
+        for it in self.rules:
+            it.laws = re.findall(NAME, " ".join(it.lines).partition("=")[2])
+
+    def listed(self, part):
+        """The files of the modules that callers may name, by the names of the modules."""
+        for other, name in re.findall(r"(?m)^pub (?:mod|use Rattle\.(\w+)\.\w+\.)\s*(\w+)$", read(self.root / TOP / part / "Lib.antt")):
+            crates = [f"crates/{other}"] if other else [TOP]
+            yield name, next(file for it in (*crates, BASE) if (file := self.root / it / part / f"{name}.antt").exists())
+
+    def items(self, file):
+        """The public items of a module, those that it has from another first, by the names that they have here; None stands for
+        what no module of the repository defines."""
+        names = self.tree.modules[module_of(file.relative_to(self.root))]
+        passed = re.findall(r"(?m)^(?:unfoldable )?pub use [^{;]*\{([^}]*)\}", read(file))
+        own = {it.name: it for it in self.tree.items if self.root / it.path == file and "pub " in it.lines[0]}
+        return {word: self.tree.resolved(names, word) for it in passed for word in re.findall(NAME, it)} | own
+
+    def rulesets(self, name):
+        return [it.name for it in self.rules if name in it.laws]
+
+    def told(self, items, is_law):
+        """Items under the blocks that are around them, each with its comment; of a law its statement, and the rulesets that have it."""
+        around, lines = [], []
+        for item in items:
+            lines += ["", *(line for block in item.around if block not in around for line in block.lines)]
+            around, sets = item.around, self.rulesets(item.name) if is_law else []
+            comment = f"{item.comment} (in {', '.join(sets)})" if sets else item.comment
+            own = "\n".join(read(self.root / item.path).split("\n")[item.number - 1:]).split("\n\n")[0].rstrip().split("\n")
+            lines += [*wrapped(comment.strip(), "--", "  " * len(around)), *(statement(item.name, own) if is_law else own)]
+        return "\n".join(re.sub(r"^(\s*)(?:abbrev |unfoldable )?pub ", r"\1", it) for it in lines[1:])
+
+    def part(self, folder, is_law):
+        """The part of the page on the modules of a folder."""
+        modules = {name: file for name, file in self.listed(folder) if name != "Rules"}
+        for name, file in modules.items():
+            comment, items = sentence(re.match(r"(?:--.*\n)*", read(file))[0]), self.items(file)
+            others = [word for word, it in items.items() if not it or self.root / it.path in {*modules.values()} - {file}]
+            also = listed("It also has", others)[2:] if others else ""
+            told = self.told([it for word, it in items.items() if word not in others], is_law)
+            yield f"\n### Rattle.arraystring.{folder}.{name}\n\n{comment}\n" + f"{also}" + (f"\n```antt\n{told}\n```\n" if told else "")
+
+
+def statement(name, lines):
+    """The lines of a law up to its proof."""
+    ends = (number for number, line in enumerate(lines) if number and line.split()[0] in (name, "unfolding"))
+    return lines[: next(ends, len(lines))]
+
+
+def words_of_std(root, page, forms, best):
+    """By the modules of other libraries the words that a page names, as some files of the crates import them."""
+    found = {}
+    for file in sorted(it for form in forms for crate in (BASE, CORE, TOP) for it in root.glob(f"{crate}/{form}")):
+        for module, words, _ in IMPORT.findall(read(file)):
+            for word in re.findall(r"[^\s,{}]+", words) if not module.startswith("Rattle.arraystring") and " as " not in words else ():
+                found.setdefault(word, set()).add(module)
+    named, modules = set(re.findall(NAME, page)), {}
+    for word in sorted(found):
+        if word in named and "◌" not in word:
+            modules.setdefault(best if best in found[word] else min(found[word], key=len), []).append(word)
+    return "".join(listed(f"`{module}`:", words) for module, words in sorted(modules.items()))
+
+
+def made(root):
+    """The page, as the sources make it."""
+    reader = Reader(root)
+    calls, called = "".join(sources(root, SOURCES)), "".join(sources(root, LAWS))
+    rules = "".join(listed(f"`{it.name}`: {it.comment}. It has", it.laws) for it in reader.rules)
+    laws, words = "".join(reader.part("proofs", True)), "".join(reader.part("specs", False))
+    contracts = words_of_std(root, calls + called + words, ("src/**/*.rt", "specs/*.antt"), "Rattle.std.specs.Prelude")
+    proofs = words_of_std(root, laws, ["proofs/*.antt"], "Rattle.std.proofs.Common")
+    return (f"{HEAD}\n## Calls\n{calls}\n## Laws that a body calls\n{called}\n## Rulesets\n\n{rules}\n## Laws that an answer cites\n{laws}"
+            f"\n## Words of contracts\n{words}\n## Words of std\n\nA contract imports them so, and the operators from `Prelude`:\n\n{contracts}"
+            f"\nA proof imports them so, and the operators from `Common`:\n\n{proofs}")
+
+
+def main(arguments, root):
+    text, page = made(root), root / PAGE
+    if arguments == ["--write"]:
+        page.write_text(text, encoding="utf-8")
+    if not page.exists() or read(page) != text:
+        had = read(page).split("\n") if page.exists() else []
+        first = next((it for it, other in zip_longest(text.split("\n"), had) if it != other), None)
+        return f"{PAGE} is not what the sources make, which is {first}; tools/run reference --write makes it\n"
+    print(f"{PAGE} is as the sources are")
+    return False
