@@ -1,7 +1,7 @@
 """Fails where a page for callers names what is not there, at a lemma that no source and no proof names, and at `spare`.
 
 A page is a Markdown file of a crate, but not the reference, which is made. What it names in its inline code stands in some source,
-definition or proof of a crate: a piece of code that is one word, a call `name(`, and what has a dash, as laws do. What has a dash in
+definition or proof of a crate: a piece of code that is one word (`try_` is none), a call `name(`, and what has a dash, as laws do. What has a dash in
 an answer or an invariant, as `c.in_err-CALL.ensures`, is made by `rt` and none of them. A law is also one that callers of the crate can
 cite: it is `pub` in a module that the file proofs/Lib.antt of the crate passes on, its own or another crate's.
 
@@ -27,7 +27,7 @@ def names_of(page):
     """What a page names in its inline code: calls, what has a dash, and each piece that is one word."""
     pieces = [re.sub(r"\S*/\S*|(?<!\w)(?:-|[a-z]\.)\S*-\S*", "", it) for it in inline_code(page)]
     found = {name for it in pieces for name in re.findall(rf"\b(?:{WORD}(?=\()|\w+(?:-\w+)+)", it)}
-    return {it for it in found | {it for it in pieces if re.fullmatch(WORD, it)} if not it.isupper()}
+    return {it for it in found | {it for it in pieces if re.fullmatch(WORD, it)} if not it.isupper() and not it.endswith("_")}
 
 
 def words_of(file):

@@ -10,6 +10,7 @@ pub mod greeting;
 pub mod json;
 pub mod letters;
 pub mod log_line;
+pub mod member;
 pub mod numbers;
 pub mod packet;
 pub mod pair;

@@ -10,6 +10,7 @@ use crate::letters::{
     take_last,
 };
 use crate::log_line::{Level, log_line};
+use crate::member::member;
 use crate::numbers::{push_number, write_number};
 use crate::packet::name_in;
 use crate::pair::{line_of, pair, pair_of, split_value, there_and_back};
@@ -682,5 +683,20 @@ fn numbers_are_appended(rt: HostRuntime) {
         agree(&rt, push_number(&mut short, number).is_ok(), is_pushed);
         let after = if is_pushed { digits } else { "" };
         agree(&rt, short.as_str().strip_prefix("é "), Some(after));
+    }
+}
+
+#[test]
+fn a_member_always_fits(rt: HostRuntime) {
+    for (name, role, wanted) in [
+        ("ann", "dev", "ann|dev"),
+        ("", "", "|"),
+        ("", "0123456789ab", "|0123456789ab"),
+        ("0123456789abcdefghij", "", "0123456789abcdefghij|"),
+        ("éééééééééé", "🐢🐢🐢", "éééééééééé|🐢🐢🐢"),
+    ] {
+        let name = ArrayString::from_str_truncate(name);
+        let role = ArrayString::from_str_truncate(role);
+        agree(&rt, member(&name, &role).as_str(), wanted);
     }
 }
