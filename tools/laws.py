@@ -1,9 +1,9 @@
 """Fails where a page for callers names what is not there, at a lemma that no source and no proof names, and at `spare`.
 
 A page is a Markdown file of a crate, but not the reference, which is made. What it names in its inline code stands in some source,
-definition or proof of a crate: a piece of code that is one word (`try_` is none), a call `name(`, and what has a dash, as laws do. What has a dash in
-an answer or an invariant, as `c.in_err-CALL.ensures`, is made by `rt` and none of them. A law is also one that callers of the crate can
-cite: it is `pub` in a module that the file proofs/Lib.antt of the crate passes on, its own or another crate's.
+definition or proof of a crate: a piece of code that is one word (`try_` is none), a call `name(`, and what has a dash, as laws do. What
+has a dash in an answer or an invariant, as `c.in_err-CALL.ensures`, is made by `rt` and none of them. A law is also one that callers of
+the crate can cite: it is `pub` in a module that the file proofs/Lib.antt of the crate passes on, its own or another crate's.
 
 A lemma stands in a file of proofs/, and not in the folder of a function. `rt` proves each, also one that nothing names. A law
 that callers can cite needs no name here; a lemma does, and a page or an example that names it is no use of it.
@@ -24,9 +24,9 @@ ITEM = re.compile(rf"(?m)^ *(pub )?({NAME}) :(?=\s).*(?:\n(?!\n)(?! *(?:pub )?{N
 
 
 def names_of(page):
-    """What a page names in its inline code: calls, what has a dash, and each piece that is one word."""
+    """What a page names in its inline code: calls, each with its bracket, what has a dash, and each piece that is one word."""
     pieces = [re.sub(r"\S*/\S*|(?<!\w)(?:-|[a-z]\.)\S*-\S*", "", it) for it in inline_code(page)]
-    found = {name for it in pieces for name in re.findall(rf"\b(?:{WORD}(?=\()|\w+(?:-\w+)+)", it)}
+    found = {name for it in pieces for name in re.findall(r"\b(?:\w+\(|\w+(?:-\w+)+)", it)}
     return {it for it in found | {it for it in pieces if re.fullmatch(WORD, it)} if not it.isupper() and not it.endswith("_")}
 
 
@@ -64,6 +64,7 @@ def main(arguments, root):
     examples = [file for it in folders for file in sorted(it.glob(f"{EXAMPLES}/*.antt"))]
     words = Counter(word for it in files for word in words_of(it))
     there = {*crates(root), *(part for word in words for part in re.findall(r"\w+(?:-\w+)*", word))}
+    there |= {f"{name}(" for it in files if it.suffix == ".rt" for name in re.findall(r"\w+(?=(?:<[^()\n]*>)?\()", read(it))}
     faults = [it for crate in crates(root) for it in faults_of_pages(root, crate, there)]
     for_callers = {name for crate in crates(root) if (root / "crates" / crate / REFERENCE).is_file() for name in passed_on(root, crate)}
     lemmas = [(file, *it.group(2, 0)) for file in files if file.match("crates/*/proofs/*.antt") for it in ITEM.finditer(read(file))]

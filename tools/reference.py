@@ -15,12 +15,8 @@ from modules import IMPORT, NAME, Modules, module_of
 from repository import read
 
 PAGE = "crates/arraystring/REFERENCE.md"
+LAWS = "laws.rt"
 BASE, CORE, TOP = "crates/arraystring_base", "crates/arraystring_core", "crates/arraystring"
-# The files of src/ in the order of the page. Of those of BASE callers reach what lib.rt of TOP names.
-SOURCES = ("core/src/array_string.rt", "core/src/array_string/*.rt", "core/src/integration.rt", "core/src/drain.rt", "core/src/drain/*.rt",
-           "base/src/error.rt", "base/src/utils.rt", "base/src/utf8.rt", "base/src/moves.rt", "base/src/steps.rt", "base/src/utf16.rt",
-           "/src/cache_string.rt", "/src/cache_string/*.rt", "/src/integration.rt")
-LAWS = ("base/src/laws.rt", "core/src/laws.rt", "/src/laws.rt")
 # What an impl proves of itself, and no word of a contract.
 PROVED = r"laws|inverse\w*|total|respects_eq|matches_\w+"
 HEAD = """\
@@ -37,12 +33,6 @@ def listed(beginning, names):
     """A line of a list, which ends with some names."""
     text = f"{beginning} {', '.join(f'`{it}`' for it in names)}"
     return textwrap.fill(text, 138, initial_indent="- ", subsequent_indent="  ", break_on_hyphens=False) + "\n"
-
-
-def files(root, forms):
-    """The files of some forms, which stand behind `crates/arraystring` and maybe a `_`."""
-    paths = [f"crates/arraystring{'' if it.startswith('/') else '_'}{it}" for it in forms]
-    return [file for it in paths for file in sorted(root.glob(it))]
 
 
 def sentence(comment):
@@ -76,22 +66,21 @@ def impl(text):
 
 
 def entries(file, reached):
-    """What callers reach of a source; of those functions that are in no impl, only these, if they are told."""
+    """What callers reach of a source: impls of traits, functions of impls, and of the other functions these."""
     for text in re.split(r"(?m)^\n(?=(?:///.*\n|#\[.*\n)*(?:impl|pub fn|fn|pub struct|pub enum|struct|enum)\b)", read(file)):
         if re.search(r"(?m)^impl.* for ", text):
-            if not re.search(r"(?m)^impl.* Model for ", text):
-                yield impl(text)
+            yield from [] if re.search(r"(?m)^impl.* Model for ", text) else [impl(text)]
         else:
             is_free = not re.search(r"(?m)^impl", text)
-            yield from (it for name, it in functions(text) if reached is None or not is_free or name in reached)
+            yield from (it for name, it in functions(text) if not is_free or file.name == LAWS or name in reached)
 
 
-def sources(root, forms):
-    """The part of the page on some sources."""
-    named = set(re.findall(r"\w+", re.sub("//.*", "", read(root / TOP / "src/lib.rt"))))
-    for file in files(root, forms):
-        is_base = file.is_relative_to(root / BASE) and file.name != "laws.rt"
-        found = list(entries(file, named if is_base else None))
+def sources(root, has_laws):
+    """The part of the page on the sources, either those of laws or the others, first those of CORE."""
+    reached = set(re.findall(r"\w+", re.sub("//.*", "", read(root / TOP / "src/lib.rt"))))
+    crates = (BASE, CORE, TOP) if has_laws else (CORE, BASE, TOP)
+    for file in (file for it in crates for file in sorted((root / it).glob("src/**/*.rt"), key=lambda it: it.with_suffix(""))):
+        found = list(entries(file, reached)) if (file.name == LAWS) == has_laws else []
         if found:
             top = re.match(r"(?://!.*\n)+", read(file))[0]
             yield f"\n### {file.relative_to(root)}\n\n{sentence(top)}\n\n```rust\n" + "\n\n".join(found) + "\n```\n"
@@ -106,11 +95,11 @@ class Reader:
         for it in self.rules:
             it.laws = re.findall(NAME, " ".join(it.lines).partition("=")[2])
 
-    def listed(self, part):
-        """The files of the modules that callers may name, by the names of the modules."""
-        for other, name in re.findall(r"(?m)^pub (?:mod|use Rattle\.(\w+)\.\w+\.)\s*(\w+)$", read(self.root / TOP / part / "Lib.antt")):
-            crates = [f"crates/{other}"] if other else [TOP]
-            yield name, next(file for it in (*crates, BASE) if (file := self.root / it / part / f"{name}.antt").exists())
+    def modules(self, folder):
+        """The files of the modules that callers may name, by the names of the modules. What CORE passes on may be of BASE."""
+        found = re.findall(r"(?m)^pub (?:mod|use Rattle\.(\w+)\.\w+\.)\s*(\w+)$", read(self.root / TOP / folder / "Lib.antt"))
+        places = {name: [self.root / it / folder / f"{name}.antt" for it in (f"crates/{other or 'arraystring'}", BASE)] for other, name in found}
+        return {name: next(it for it in files if it.exists()) for name, files in places.items() if name != "Rules"}
 
     def items(self, file):
         """The public items of a module, those that it has from another first, by the names that they have here; None stands for
@@ -120,29 +109,31 @@ class Reader:
         own = {it.name: it for it in self.tree.items if self.root / it.path == file and "pub " in it.lines[0]}
         return {word: self.tree.resolved(names, word) for it in passed for word in re.findall(NAME, it)} | own
 
-    def rulesets(self, name):
-        return [it.name for it in self.rules if name in it.laws]
+    def text(self, item):
+        """The lines of an item, as they stand in its file."""
+        return "\n".join(read(self.root / item.path).split("\n")[item.number - 1 :]).split("\n\n")[0].rstrip().split("\n")
 
     def told(self, items, is_law):
         """Items under the blocks that are around them, each with its comment; of a law its statement, and the rulesets that have it."""
         around, lines = [], []
         for item in items:
             lines += ["", *(line for block in item.around if block not in around for line in block.lines)]
-            around, sets = item.around, self.rulesets(item.name) if is_law else []
+            around, sets = item.around, [it.name for it in self.rules if is_law and item.name in it.laws]
             comment = f"{item.comment} (in {', '.join(sets)})" if sets else item.comment
-            own = "\n".join(read(self.root / item.path).split("\n")[item.number - 1:]).split("\n\n")[0].rstrip().split("\n")
-            lines += [*wrapped(comment.strip(), "--", "  " * len(around)), *(statement(item.name, own) if is_law else own)]
+            text = self.text(item)
+            lines += [*wrapped(comment.strip(), "--", "  " * len(around)), *(statement(item.name, text) if is_law else text)]
         return "\n".join(re.sub(r"^(\s*)(?:abbrev |unfoldable )?pub ", r"\1", it) for it in lines[1:])
 
     def part(self, folder, is_law):
         """The part of the page on the modules of a folder."""
-        modules = {name: file for name, file in self.listed(folder) if name != "Rules"}
+        modules = self.modules(folder)
         for name, file in modules.items():
-            comment, items = sentence(re.match(r"(?:--.*\n)*", read(file))[0]), self.items(file)
-            others = [word for word, it in items.items() if not it or self.root / it.path in {*modules.values()} - {file}]
-            also = listed("It also has", others)[2:] if others else ""
-            told = self.told([it for word, it in items.items() if word not in others], is_law)
-            yield f"\n### Rattle.arraystring.{folder}.{name}\n\n{comment}\n" + f"{also}" + (f"\n```antt\n{told}\n```\n" if told else "")
+            items, others = self.items(file), {*modules.values()} - {file}
+            elsewhere = [word for word, it in items.items() if not it or self.root / it.path in others]
+            also = listed("It also has", elsewhere)[2:] if elsewhere else ""
+            told = self.told([it for word, it in items.items() if word not in elsewhere], is_law)
+            comment = sentence(re.match(r"(?:--.*\n)*", read(file))[0])
+            yield f"\n### Rattle.arraystring.{folder}.{name}\n\n{comment}\n{also}" + (f"\n```antt\n{told}\n```\n" if told else "")
 
 
 def statement(name, lines):
@@ -168,7 +159,7 @@ def words_of_std(root, page, forms, best):
 def made(root):
     """The page, as the sources make it."""
     reader = Reader(root)
-    calls, called = "".join(sources(root, SOURCES)), "".join(sources(root, LAWS))
+    calls, called = "".join(sources(root, False)), "".join(sources(root, True))
     rules = "".join(listed(f"`{it.name}`: {it.comment}. It has", it.laws) for it in reader.rules)
     laws, words = "".join(reader.part("proofs", True)), "".join(reader.part("specs", False))
     contracts = words_of_std(root, calls + called + words, ("src/**/*.rt", "specs/*.antt"), "Rattle.std.specs.Prelude")

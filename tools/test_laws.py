@@ -59,9 +59,9 @@ class Laws(TreeTest):
             (NAMED("hidden-law"), (PAGE, END, "`hidden-law n m`\n")),
             # (a law, a call, and a word alone; of other code only laws and calls are names)
             *((GONE(name), (PAGE, END, f"`{code}`\n")) for name, code in (
-                ("front-end", "front-end"), ("front-end", "f (front-end n)"), ("step-made", "step-made n m"), ("third", "n.third(1)"), ("quarter", "quarter"))),
+                ("front-end", "front-end"), ("front-end", "f (front-end n)"), ("step-made", "step-made n m"), ("third(", "n.third(1)"), ("half(", "half(n)"), ("quarter", "quarter"))),
             ("", (PAGE, END, "`quarter of n`, `n.quarter`, `c.in-Ok.ensures` and `NAME`\n")),
-            (GONE("halve"), (f"{FOLDER}/src/halves.rt", "halve", "halved")),
+            (GONE("halve("), (f"{FOLDER}/src/halves.rt", "halve", "halved")),
             (NAMED("front-made"), (ROWS, "pub front-made", "front-made")),
             (NAMED("half-even"), (ROWS, "^pub use Rattle.*\n", "")),
             (f"{UPPER} names front-made", ("crates/upper/proofs/Lib.antt", "")),

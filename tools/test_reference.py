@@ -137,6 +137,7 @@ class Reference(TreeTest):
             *((LAWS, *it) for it in (("→ n ≡ n", "→ n ≡ 1"), ("is added", "is taken"), ("inner-law :", "pub inner-law :"), (r"\(n : ℕ\)", "{n : ℕ}"))),
             *((PUSH, *it) for it in (("ensures made", "ensures done"), ("pub fn", "fn"), (r"it is\.", "it is not."), (r"s\.text }", "s }"), ("Str", "Strings"))),
             *((RULES, *it) for it in ((r"\(add-made\)", "(add-made, refl)"), ("appends", "adds"))),
+            (f"{CORE}/src/array_string/more.rt", PUSHES.replace("try_push", "more")),
             (f"{BASE}/specs/Text.antt", "= 1", "= 2"), (f"{TOP}/src/lib.rt", "is_boundary", "inner"), (f"{TOP}/proofs/Lib.antt", "^pub use.*\n", ""),
             (reference.PAGE, "it is added", "it is taken"), (reference.PAGE, END, "\n"), (reference.PAGE, None),
         ):
