@@ -152,7 +152,7 @@ def words_of_std(root, page, forms, best):
     named, modules = set(re.findall(NAME, page)), {}
     for word in sorted(found):
         if word in named and "◌" not in word:
-            modules.setdefault(best if best in found[word] else min(found[word], key=len), []).append(word)
+            modules.setdefault(best if best in found[word] else min(found[word], key=lambda it: (len(it), it)), []).append(word)
     return "".join(listed(f"`{module}`:", words) for module, words in sorted(modules.items()))
 
 
@@ -164,7 +164,8 @@ def made(root):
     laws, words = "".join(reader.part("proofs", True)), "".join(reader.part("specs", False))
     contracts = words_of_std(root, calls + called + words, ("src/**/*.rt", "specs/*.antt"), "Rattle.std.specs.Prelude")
     proofs = words_of_std(root, laws, ["proofs/*.antt"], "Rattle.std.proofs.Common")
-    return (f"{HEAD}\n## Calls\n{calls}\n## Laws that a body calls\n{called}\n## Rulesets\n\n{rules}\n## Laws that an answer cites\n{laws}"
+    return (f"{HEAD}\n## Calls\n{calls}\n## Laws that a body calls\n\nCode imports them from `arraystring::laws`.\n{called}"
+            f"\n## Rulesets\n\nAn attribute cites them from `arraystring::proofs::Rules`.\n\n{rules}\n## Laws that an answer cites\n{laws}"
             f"\n## Words of contracts\n{words}\n## Words of std\n\nA contract imports them so, and the operators from `Prelude`:\n\n{contracts}"
             f"\nA proof imports them so, and the operators from `Common`:\n\n{proofs}")
 
