@@ -4,8 +4,8 @@ tools/run add FOLDER             copies `arraystring` and the crates below it in
 tools/run add FOLDER CRATE..     copies these crates and those below them, as bounded_records
 tools/run add                    fails where the logic of `rt version` is another than README.md names, or another page names one, too
 
-Of each crate it copies src/, specs/, proofs/ and LICENSE. What stood there in their place goes, and nothing else does, so that an older copy
-becomes the new one and what a check has kept in out/ stays. Then it writes the line of each into crates.txt, and leaves the other lines.
+Of each crate it copies src/, specs/, proofs/ and LICENSE. What stood there in their place goes, and nothing else does, so that an older
+copy becomes the new one, and what a check has kept in out/ stays. Then it writes the line of each into crates.txt, and leaves the others.
 """
 import re
 import shutil
@@ -30,7 +30,8 @@ def faults_of_logic(root):
         version = subprocess.run(["rt", "version"], capture_output=True, text=True).stdout.strip()
         if f"logic {wanted}" not in version:
             yield f"the crates are proved with the logic {wanted}, and rt version prints {version}"
-    yield from (f"{it.relative_to(root)} names the logic, as {README} alone does" for it in pages(root) if it != root / README and wanted in read(it))
+    others = (it for it in pages(root) if it != root / README and wanted in read(it))
+    yield from (f"{it.relative_to(root)} names the logic, as {README} alone does" for it in others)
 
 
 def lines_of(root):

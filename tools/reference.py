@@ -61,8 +61,8 @@ def impl(text):
     """An impl of a trait: the first sentence of its comment, the members that contracts see, and the methods that have clauses."""
     comment, first = re.match(r"((?:///.*\n)*)(impl.*?)(?: \{| \{\})$", text, re.M).groups()
     members = [it for it in re.findall(r"(?ms)^ {4}ghost (?!use )\w+ = \{.*?\};$", text) if not re.match(rf" *ghost ({PROVED}) =", it)]
-    methods = [f"    {header(it)}" for it in re.findall(r"(?ms)^ {4}(fn .*?)\n^ {4}\}", text) if re.search(r"(?m)^ +ensures\b", header(it))]
-    return "\n".join([*wrapped(sentence(comment), "///"), first, *members, *methods])
+    methods = [f"    {header(it)}" for it in re.findall(r"(?ms)^ {4}(fn .*?)\n^ {4}\}", text)]
+    return "\n".join([*wrapped(sentence(comment), "///"), first, *members, *(it for it in methods if "\n        ensures " in it)])
 
 
 def entries(file, reached):
@@ -98,8 +98,9 @@ class Reader:
     def modules(self, folder):
         """The files of the modules that callers may name, by the names of the modules. What CORE passes on may be of BASE."""
         found = re.findall(r"(?m)^pub (?:mod|use Rattle\.(\w+)\.\w+\.)\s*(\w+)$", read(self.root / TOP / folder / "Lib.antt"))
-        places = {name: [self.root / it / folder / f"{name}.antt" for it in (f"crates/{other or 'arraystring'}", BASE)] for other, name in found}
-        return {name: next(it for it in files if it.exists()) for name, files in places.items() if name != "Rules"}
+        places = {name: (self.root / f"crates/{other}" if other else self.root / TOP, self.root / BASE) for other, name in found if name != "Rules"}
+        files = {name: [it / folder / f"{name}.antt" for it in crates] for name, crates in places.items()}
+        return {name: next(it for it in several if it.exists()) for name, several in files.items()}
 
     def items(self, file):
         """The public items of a module, those that it has from another first, by the names that they have here; None stands for
@@ -143,13 +144,14 @@ def statement(name, lines):
 
 
 def words_of_std(root, page, forms, best):
-    """By the modules of other libraries the words that a page names, as some files of the crates import them."""
+    """By the modules of other libraries the words that statements of a page name, as some files of the crates import them."""
     found = {}
     for file in sorted(it for form in forms for crate in (BASE, CORE, TOP) for it in root.glob(f"{crate}/{form}")):
         for module, words, _ in IMPORT.findall(read(file)):
-            for word in re.findall(r"[^\s,{}]+", words) if not module.startswith("Rattle.arraystring") and " as " not in words else ():
+            is_other = not module.startswith("Rattle.arraystring") and " as " not in words
+            for word in re.findall(r"[^\s,{}]+", words) if is_other else ():
                 found.setdefault(word, set()).add(module)
-    named, modules = set(re.findall(NAME, page)), {}
+    named, modules = set(re.findall(NAME, re.sub(r"(?m)^ *(?:pub |fn |impl|///|--).*$|\w+: ", " ", page))), {}
     for word in sorted(found):
         if word in named and "◌" not in word:
             modules.setdefault(best if best in found[word] else min(found[word], key=lambda it: (len(it), it)), []).append(word)
@@ -164,10 +166,30 @@ def made(root):
     laws, words = "".join(reader.part("proofs", True)), "".join(reader.part("specs", False))
     contracts = words_of_std(root, calls + called + words, ("src/**/*.rt", "specs/*.antt"), "Rattle.std.specs.Prelude")
     proofs = words_of_std(root, laws, ["proofs/*.antt"], "Rattle.std.proofs.Common")
-    return (f"{HEAD}\n## Calls\n{calls}\n## Laws that a body calls\n\nCode imports them from `arraystring::laws`.\n{called}"
-            f"\n## Rulesets\n\nAn attribute cites them from `arraystring::proofs::Rules`.\n\n{rules}\n## Laws that an answer cites\n{laws}"
-            f"\n## Words of contracts\n{words}\n## Words of std\n\nA contract imports them so, and the operators from `Prelude`:\n\n{contracts}"
-            f"\nA proof imports them so, and the operators from `Common`:\n\n{proofs}")
+    return f"""{HEAD}
+## Calls
+{calls}
+## Laws that a body calls
+
+Code imports them from `arraystring::laws`.
+{called}
+## Rulesets
+
+An attribute cites them from `arraystring::proofs::Rules`.
+
+{rules}
+## Laws that an answer cites
+{laws}
+## Words of contracts
+{words}
+## Words of std
+
+A contract imports them so, and the operators from `Prelude`:
+
+{contracts}
+A proof imports them so, and the operators from `Common`:
+
+{proofs}"""
 
 
 def main(arguments, root):
