@@ -19,5 +19,10 @@ pub mod CharacterLaws
 pub mod FindLastLaws
 pub mod NumberLaws
 pub mod WellFormedLaws
+pub mod SizeLaws
+pub mod PlaceLaws
+pub mod ChainLaws
+pub mod DigitLaws
+pub mod PopLaws
 pub mod Rules
 mod examples
