@@ -4,7 +4,7 @@ ghost use Rattle.std.specs.Prelude.{◌≡◌, ◌++◌, ◌∷◌};
 use arraystring::ArrayString;
 
 /// Returns `name`, a bar and `role`. They always fit, since they take at most 20, 1 and 12 bytes.
-#[tactic(auto, using(arraystring::proofs::Rules::cuts, arraystring::proofs::Rules::literals))]
+#[tactic(auto, using(arraystring::proofs::Rules::texts))]
 pub fn member(name: &ArrayString<20>, role: &ArrayString<12>) -> ArrayString<33>
     ensures { result.text ≡ name.now.text ++ 0x7C ∷ role.now.text }
 {
