@@ -19,5 +19,10 @@ pub mod CharacterLaws
 pub mod FindLastLaws
 pub mod NumberLaws
 pub mod WellFormedLaws
+pub mod WalkLaws
+pub mod FieldLaws
+pub mod KeyedLaws
+pub mod BorrowedLaws
+pub mod ReadBackLaws
 pub mod Rules
 mod examples

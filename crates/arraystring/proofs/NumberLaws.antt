@@ -7,7 +7,7 @@ use Rattle.arraystring_base.specs.Text.{bytes}
 use Rattle.arraystring_base.proofs.TextLaws.{bytes-append, bytes_same, utf8-one}
 
 -- a text of ASCII is its own UTF-8
-bytes-ascii : (t : List ℕ) → IsAscii t → bytes t ≡ t
+pub bytes-ascii : (t : List ℕ) → IsAscii t → bytes t ≡ t
 bytes-ascii [] is = refl
 bytes-ascii (c ∷ t) is = cc (utf8-one c (is 0), bytes-ascii t (λ i. is (suc i)))
 
