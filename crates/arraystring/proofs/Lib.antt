@@ -24,5 +24,10 @@ pub mod PlaceLaws
 pub mod ChainLaws
 pub mod DigitLaws
 pub mod PopLaws
+pub mod WalkLaws
+pub mod FieldLaws
+pub mod KeyedLaws
+pub mod BorrowedLaws
+pub mod ReadBackLaws
 pub mod Rules
 mod examples

@@ -20,6 +20,11 @@ use Rattle.arraystring.proofs.PlaceLaws.{place-within, removed-place, cut-place,
 use Rattle.arraystring.proofs.PopLaws.{last-split}
 use Rattle.arraystring.proofs.SizeLaws.{size-map, size-filter, size-reverse, size-pieces}
 use Rattle.arraystring.proofs.TracedLaws.{memory-push, traced-push, traced-chars, traced-item}
+use Rattle.arraystring.proofs.WalkLaws.{walked-on, walked-out}
+use Rattle.arraystring.proofs.FieldLaws.{fields-found, fields-none, fields-count}
+use Rattle.arraystring.proofs.KeyedLaws.{ordered-put, hashed-put, ordered-out, hashed-out}
+use Rattle.arraystring.proofs.BorrowedLaws.{borrowed-same, borrowed-order, borrowed-length}
+use Rattle.arraystring.proofs.ReadBackLaws.{number-read, signed-read}
 
 -- appends, each whole or refused, one after the other
 pub ruleset additions = (addition-made, addition-refused, size-append, append_assoc)
@@ -98,3 +103,18 @@ pub ruleset ascii = (bytes-ascii)
 
 -- the sizes of numbers in decimal, by their types
 pub ruleset digits = (bytes-decimal, size-decimal, size-signed)
+
+-- a walk over the characters of a text by `next`, in a loop of one's own
+pub ruleset walks = (walked-on, walked-out, nat_tests)
+
+-- a text that `split_once` splits at a character, and what is behind it again
+pub ruleset fields = (fields-found, fields-none, fields-count)
+
+-- a `BTreeMap` and a `HashMap` whose keys are strings
+pub ruleset keyed = (ordered-put, hashed-put, ordered-out, hashed-out)
+
+-- texts that std compares, orders and measures by their bytes
+pub ruleset borrowed = (borrowed-same, borrowed-order, borrowed-length)
+
+-- a number that `parse` reads back from its digits
+pub ruleset read_back = (number-read, signed-read)

@@ -1,2 +1,3 @@
 mod Cached
+mod Fields
 mod Loops

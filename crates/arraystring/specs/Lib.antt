@@ -18,3 +18,4 @@ pub use Rattle.arraystring_core.specs.Json
 pub mod Cached
 pub mod Refusals
 pub mod Loops
+pub mod Fields
