@@ -1,6 +1,7 @@
 //! Uses of `arraystring` and `arraystring_run`, as a caller writes them. Its tests are in `tests.rt`.
 #![tactic(auto)]
 
+pub mod chains;
 pub mod columns;
 pub mod commas;
 pub mod cursor;
@@ -16,6 +17,7 @@ pub mod pair;
 pub mod parts;
 pub mod paths;
 pub mod quotes;
+pub mod reversal;
 pub mod row;
 pub mod runs;
 pub mod scores;
