@@ -1,3 +1,4 @@
+pub mod Chains
 pub mod Commas
 pub mod Escapes
 pub mod Keyed

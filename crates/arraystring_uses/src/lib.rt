@@ -2,6 +2,7 @@
 #![tactic(auto)]
 
 pub mod borrowed;
+pub mod chains;
 pub mod columns;
 pub mod commas;
 pub mod cursor;
@@ -22,6 +23,7 @@ pub mod parts;
 pub mod paths;
 pub mod quotes;
 pub mod read_back;
+pub mod reversal;
 pub mod row;
 pub mod runs;
 pub mod scores;

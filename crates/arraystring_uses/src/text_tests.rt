@@ -131,7 +131,11 @@ fn a_string_is_lent(rt: HostRuntime) {
         agree(&rt, order(&string, other), wanted);
         agree(&rt, is_text(&string, other), same);
         agree(&rt, has_bytes_of(&string, other), same);
-        agree(&rt, same_text(&string, &ArrayString::<9>::from_str(other)), same);
+        agree(
+            &rt,
+            same_text(&string, &ArrayString::<9>::from_str(other)),
+            same,
+        );
         agree(&rt, size_of_string(&string), text.len());
         agree(&rt, size_of_text(other), other.len());
     }
@@ -141,9 +145,17 @@ fn a_string_is_lent(rt: HostRuntime) {
 
 #[test]
 fn numbers_are_read_back(rt: HostRuntime) {
-    agree(&rt, read_u8(&ArrayString::<8>::from_str("255")).ok(), Some(255));
+    agree(
+        &rt,
+        read_u8(&ArrayString::<8>::from_str("255")).ok(),
+        Some(255),
+    );
     agree(&rt, read_u8(&ArrayString::<8>::from_str("256")).ok(), None);
-    agree(&rt, read_i8(&ArrayString::<8>::from_str("-128")).ok(), Some(-128));
+    agree(
+        &rt,
+        read_i8(&ArrayString::<8>::from_str("-128")).ok(),
+        Some(-128),
+    );
     agree(&rt, read_i8(&ArrayString::<8>::from_str("128")).ok(), None);
     let least = read_i64(&ArrayString::<24>::from_str("-9223372036854775808"));
     agree(&rt, least.ok(), Some(i64::MIN));
