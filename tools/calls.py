@@ -1,20 +1,17 @@
-"""Fails where a call has no test, or does not stand on the page that lists the calls.
+"""Fails where a call or a law has no test, or a command no row.
 
-Each public call of `ArrayString` is made by a test of `arraystring_tests`, and stands in CALLS.md. What ends in `_counted` needs no
-row there, since one section of that page speaks of all of them. The list there has no call that is gone. Each law that a caller
-calls is called by a test. Each command of a script stands on the page of commands. A test makes a call, or has it in the second column
-of a row. A comment is no test, nor are the files that make the calls of a table.
+Each public call of `ArrayString` is made by a test of `arraystring_tests`, and each law that a caller calls is called by one. Each
+command of a script stands on the page of commands. A test makes a call, or has it in the second column of a row. A comment is no test,
+nor are the files that make the calls of a table.
 """
 import re
 
-from repository import inline_code, read, section
+from repository import inline_code, read
 
 # Which make the calls of tables.
 MAKERS = ("call_list.rt", "calls.rt")
 TESTS = "crates/arraystring_tests/src/tests"
-CALLS, SCRIPTS = "crates/arraystring/CALLS.md", "docs/scripts.md"
-# Which the list of calls has from std.
-OF_STD = {"into"}
+SCRIPTS = "docs/scripts.md"
 
 
 def names_in(root, form, *files):
@@ -30,13 +27,9 @@ def main(arguments, root):
     tests = re.sub("//.*", "", "".join(read(it) for it in sorted((root / TESTS).glob("*.rt")) if it.name not in MAKERS))
     columns = " ".join(line.split("|")[1] for line in tests.splitlines() if line.count("|") > 1)
     tested = {*re.findall(r"(?<!fn )\b(\w+)(?:::<[^()\n]*>)?\(", tests), *re.findall(r"\w+", columns)}
-    listed = set(re.findall(r"\b(\w+)\(", " ".join(inline_code(section(read(root / CALLS), "The calls")))))
     rows = set(re.findall(r"\w+", " ".join(inline_code(read(root / SCRIPTS)))))
-    listed |= {it for it in calls if it.endswith("_counted")}
     faults = [f"{path}: {name} does not stand in {place}"
-              for names, place, has in ((calls, TESTS, tested), (calls, CALLS, listed), (laws, TESTS, tested), (commands, SCRIPTS, rows))
+              for names, place, has in ((calls, TESTS, tested), (laws, TESTS, tested), (commands, SCRIPTS, rows))
               for name, path in names.items() if name not in has]
-    functions = names_in(root, r"\bfn (\w+)", "crates/*/src/**/*.rt")
-    faults += [f"{CALLS}: no source has {name}" for name in sorted(listed - set(functions) - OF_STD)]
     print("\n".join(faults) or f"{len(calls)} calls, {len(laws)} laws and {len(commands)} commands have a test or a row")
     return bool(faults) or not (calls and laws and commands)

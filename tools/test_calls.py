@@ -20,21 +20,16 @@ class Calls(TreeTest):
         f"{calls.TESTS}/remove.rt": '"\nab | pop pop_counted | | | b | a\n"\n',
         f"{calls.TESTS}/more.rt": "fn more() {\n    text.len();\n    parts();\n    popped();\n    given();\n}\n",
         f"{calls.TESTS}/calls.rt": "",
-        calls.CALLS: "## The calls\n\n|`pop()`|`popping t`|\n|`len()`, `size()`|`size t`|\n\n## Others\n\n`trim()`\n",
         calls.SCRIPTS: "|`pop`|\n|`len`, `size`|\n|`get A B`|\n",
     }
 
     def test_each_has_a_test_and_a_row(self):
         self.assertEqual(self.told(calls), (False, "3 calls, 3 laws and 4 commands have a test or a row\n"))
-        tests, page, trim = f"does not stand in {calls.TESTS}", f"does not stand in {calls.CALLS}", (f"{STRING}/trim.rt", CALL.format("trim"))
-        row = (f"{calls.TESTS}/remove.rt", "pop pop", "pop trim pop")
+        tests, trim = f"does not stand in {calls.TESTS}", (f"{STRING}/trim.rt", CALL.format("trim"))
         self.assert_finds(
             calls,
-            # (a new call has neither; a row elsewhere on the page is none)
-            (f"{STRING}/trim.rt: trim {tests}\n{STRING}/trim.rt: trim {page}\n", trim),
-            (f"{STRING}/trim.rt: trim {page}\n", trim, row),
-            (f"{STRING}/remove.rt: pop {page}", (calls.CALLS, r"`pop\(\)`", "`pop`")),
-            (f"{calls.CALLS}: no source has trim\n", (calls.CALLS, r"`len\(\)`", "`len()`, `into()`, `trim()`")),
+            (f"{STRING}/trim.rt: trim {tests}\n", trim),
+            ("", (f"{calls.TESTS}/remove.rt", "pop pop", "pop trim pop")),
             (f"pop_counted {tests}", (f"{calls.TESTS}/remove.rt", " pop_counted", "")),
             # (what makes the calls of tables makes each, and a comment makes none)
             (f"pop {tests}", (f"{calls.TESTS}/remove.rt", "pop ", ""), (f"{calls.TESTS}/calls.rt", "pop()\n")),

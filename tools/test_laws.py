@@ -29,9 +29,11 @@ hidden-law : 1 ≤ 2
 hidden-law = front-start
 """
 FOLDER, END = "crates/numbers", r"\Z"
-LIB, ROWS, FILE, PAGE = (f"{FOLDER}/{it}" for it in ("proofs/Lib.antt", "proofs/RowLaws.antt", "proofs/HalfLemmas.antt", "LAWS.md"))
+LIB, ROWS, FILE, PAGE = (f"{FOLDER}/{it}" for it in ("proofs/Lib.antt", "proofs/RowLaws.antt", "proofs/HalfLemmas.antt", "RECIPES.md"))
+UPPER = "crates/upper/CALLING.md"
 ODD = "\npub half-odd : (n : ℕ) → half n ≡ n\nhalf-odd n = half-odd n\n"
 NAMED, NOTHING = f"{PAGE} names {{}}, which is no law for callers\n".format, f"{FILE}: nothing names {{}}\n".format
+GONE = f"{PAGE} names {{}}, which no crate has\n".format
 
 
 class Laws(TreeTest):
@@ -42,21 +44,28 @@ class Laws(TreeTest):
         FILE: LEMMAS,
         ROWS: LAWS,
         f"{FOLDER}/proofs/halve/Answers.antt": "pub returns-all : goal.returns\nreturns-all c = hidden-law\n",
-        f"{FOLDER}/src/lib.rt": "pub fn halve(n: u8) -> u8 {\n    n / 2\n}\n",
-        PAGE: "`front-made n`, `half-even`; `front-` with\n`start t`; `..-made` and `returns-all`\n",
-        "crates/upper/CALLING.md": "`front-made` and `c.in_err-call` and `kit-13`\n",
+        f"{FOLDER}/src/lib.rt": "mod halves;\n",
+        f"{FOLDER}/src/halves.rt": "pub fn halve(n: u8) -> u8 {\n    n / 2\n}\n",
+        f"{FOLDER}/REFERENCE.md": "`front-end`\n",
+        PAGE: "`front-made n`, `half-even`, `..-made` and `returns-all`; `halve(n)`, `IsHalf n`, `Rules` and `N`\n",
+        UPPER: "`front-made` and `c.in_err-call` and `--some-option` and `a/none-here`\n",
+        f"{FOLDER}/proofs/Rules.antt": "use Rattle.numbers.proofs.Rules\n",
     }
 
     def test_a_page_names_laws_that_its_callers_can_cite(self):
-        self.assertEqual(self.told(laws), (False, "5 lemmas and laws are named or for callers, and pages name laws that are there\n"))
+        self.assertEqual(self.told(laws), (False, "5 lemmas and laws are named or for callers, and what pages name is there\n"))
         self.assert_finds(
             laws,
-            *((NAMED(it), (PAGE, END, f"`{it} n m`\n")) for it in ("front-end", "step-made", "hidden-law", "IsHalf-made")),
-            (NAMED("front-end"), (PAGE, "`start t`", "`start t` and `end t`")),
+            (NAMED("hidden-law"), (PAGE, END, "`hidden-law n m`\n")),
+            # (a law, a call, and a word alone; of other code only laws and calls are names)
+            *((GONE(name), (PAGE, END, f"`{code}`\n")) for name, code in (
+                ("front-end", "front-end"), ("front-end", "f (front-end n)"), ("step-made", "step-made n m"), ("third(", "n.third(1)"), ("half(", "half(n)"), ("quarter", "quarter"))),
+            ("", (PAGE, END, "`quarter of n`, `n.quarter`, `c.in-Ok.ensures` and `NAME`\n")),
+            (GONE("halve("), (f"{FOLDER}/src/halves.rt", "halve", "halved")),
             (NAMED("front-made"), (ROWS, "pub front-made", "front-made")),
             (NAMED("half-even"), (ROWS, "^pub use Rattle.*\n", "")),
-            ("crates/upper/CALLING.md names front-made", ("crates/upper/proofs/Lib.antt", "")),
-            ("crates/upper/CALLING.md names front-end", ("crates/upper/CALLING.md", END, "`front-end n`\n")),
+            (f"{UPPER} names front-made", ("crates/upper/proofs/Lib.antt", "")),
+            (f"{UPPER} names front-end", (UPPER, END, "`front-end n`\n")),
             ("", (PAGE, END, "\n```antt\n`front-end`\n```\n")),
         )
         with self.changed((LIB, "pub mod RowLaws", "mod RowLaws")):
@@ -93,4 +102,4 @@ class Laws(TreeTest):
 
     def test_an_example_is_no_law_for_callers(self):
         example = (f"{FOLDER}/proofs/examples/Numbers.antt", "pub half-of_one : half 1 ≡ 0\nhalf-of_one = refl\n")
-        self.assert_finds(laws, ("", example), (NAMED("half-of_one"), example, (PAGE, END, "`half-of_one`\n")))
+        self.assert_finds(laws, ("", example), (GONE("half-of_one"), example, (PAGE, END, "`half-of_one`\n")))

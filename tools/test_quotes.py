@@ -2,7 +2,7 @@
 import quotes
 from planted import TreeTest
 
-PAGE = "# A page\n\nIt is short. From `src/lib.rt`:\n\n```rust\nfn one() {\n    1\n}\n```\n\nAnd\nFrom `specs/One.antt`:\n\n```antt\none = 1\n```\n"
+PAGE = "# A page\n\nIt is short. From `src/lib.rt`:\n\n```rust\nfn one() {\n    1\n}\n```\n\nAnd from\nhere. From\n`specs/One.antt`:\n\n```antt\none = 1\n```\n"
 
 
 class Quotes(TreeTest):
@@ -23,3 +23,15 @@ class Quotes(TreeTest):
         )
         with self.changed(("deep/er/PAGE.md", "no block\n")):
             self.assertTrue(self.told(quotes)[0])
+
+    def test_a_block_may_leave_out_lines_but_not_turn_them_round(self):
+        fault = "deep/er/PAGE.md: src/lib.rt does not have these lines: {} ..\n".format
+        several = "fn one() {\n    1\n}\n..\nfn two() {\n}"
+        with self.changed(("deep/er/PAGE.md", r"fn one\(\) \{\n    1\n\}", several)):
+            self.assert_finds(
+                quotes,
+                ("", ("src/lib.rt", "fn two", "fn three() {\n}\n\nfn two")),
+                (fault("fn two() {"), ("src/lib.rt", "two", "both")),
+                (fault("fn one() {"), ("src/lib.rt", "    1", "    2")),
+                (fault("fn two() {"), ("src/lib.rt", "fn two() {\n}\n\nfn one() {\n    1\n}\n")),
+            )

@@ -1,5 +1,5 @@
 -- Laws of single characters, of texts of ASCII, as most literals are, and of one character many times.
-use Rattle.std.proofs.Common.{◌≡◌, ℕ, ◌<◌, ◌≤◌, List, [], ◌∷◌, ◌++◌, length, take, drop, get_or, arith, true, refl, sym, ap, ◌∙◌, inl, replicate, length-append, length-drop, Option, Some, None, MatchOption, IsUtf8, IsCharBoundary}
+use Rattle.std.proofs.Common.{◌≡◌, ℕ, ◌+◌, ◌<◌, ◌≤◌, ◌/◌, List, [], ◌∷◌, ◌++◌, length, take, drop, get_or, arith, true, refl, sym, ap, ◌∙◌, inl, replicate, length-append, length-drop, Option, Some, None, MatchOption, IsUtf8, IsCharBoundary}
 use Rattle.std.specs.Char.{is_ascii}
 use Rattle.std.specs.List.{list_all, slice_get}
 use Rattle.std.specs.Str.{chars}
@@ -20,6 +20,11 @@ use Rattle.arraystring.proofs.LoopLaws.{size-replicate}
 pub width-one : (c : ℕ) → c < 128 → width c ≡ 1
 unfolding width
 width-one c lt = grind (arith, nat_tests)
+
+-- the same with no premise, so that `grind` splits nothing for it: 1 for ASCII, and no more than 4
+pub width-low : (c : ℕ) → (1 ≤ width c) × (width c ≤ 4) × (width c ≤ 1 + c / 128)
+unfolding width
+width-low c = grind (arith, nat_tests)
 
 -- a text of ASCII is its own UTF-8
 ascii : (t : List ℕ) → list_all is_ascii t ≡ true → IsText t × (bytes t ≡ t)

@@ -19,5 +19,15 @@ pub mod CharacterLaws
 pub mod FindLastLaws
 pub mod NumberLaws
 pub mod WellFormedLaws
+pub mod SizeLaws
+pub mod PlaceLaws
+pub mod ChainLaws
+pub mod DigitLaws
+pub mod PopLaws
+pub mod WalkLaws
+pub mod FieldLaws
+pub mod KeyedLaws
+pub mod BorrowedLaws
+pub mod ReadBackLaws
 pub mod Rules
 mod examples

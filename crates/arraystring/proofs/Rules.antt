@@ -4,17 +4,27 @@
 use Rattle.std.proofs.Common.{append_assoc}
 use Rattle.std.proofs.lemmas.Bool.Decides.{nat_tests}
 use Rattle.std.proofs.lemmas.Fmt.{decimal_digit, decimal_step}
-use Rattle.std.proofs.lemmas.List.{take_all}
+use Rattle.std.proofs.lemmas.List.{take_all, append-nil, reverse-append}
 use Rattle.arraystring_base.proofs.TextLaws.{size-append, size-is, size-borrowed, empty-size, width-bounds, width-is}
 use Rattle.arraystring_base.proofs.CutLaws.{cut-all, cut-fits, cut-past, cut-past_part}
 use Rattle.arraystring_base.proofs.BoundaryLaws.{front-start, back-start}
 use Rattle.arraystring.proofs.AdditionLaws.{addition-made, addition-refused, addition_of_cut-makes, addition_of_cut-cuts, addition-char_cuts}
 use Rattle.arraystring.proofs.BoundaryLaws.{front-fits, boundary-start, boundary-at_end, boundary-behind_given, boundary-behind_char, boundary-before_char, boundary-after_char, part-start, part-end, part_in-front}
-use Rattle.arraystring.proofs.CharacterLaws.{width-one, chars-ascii, size-repeated, first-boundary}
+use Rattle.arraystring.proofs.CharacterLaws.{width-one, width-low, chars-ascii, size-repeated, first-boundary}
 use Rattle.arraystring.proofs.LoopLaws.{taken-item, taken-with, taken-chars, pieces-push}
 use Rattle.arraystring.proofs.SplitLaws.{joined-found}
 use Rattle.arraystring.proofs.RemovalLaws.{popping-made, popped-take, popped-length, removal-made}
+use Rattle.arraystring.proofs.ChainLaws.{map_pieces, filter_pieces, kept_pieces, gives-chars, gives-mapped, gives-kept}
+use Rattle.arraystring.proofs.DigitLaws.{bytes-ascii, bytes-decimal, size-decimal, size-signed}
+use Rattle.arraystring.proofs.PlaceLaws.{place-within, removed-place, cut-place, end-place}
+use Rattle.arraystring.proofs.PopLaws.{last-split}
+use Rattle.arraystring.proofs.SizeLaws.{size-map, size-filter, size-reverse, size-pieces}
 use Rattle.arraystring.proofs.TracedLaws.{memory-push, traced-push, traced-chars, traced-item}
+use Rattle.arraystring.proofs.WalkLaws.{walked-on, walked-out}
+use Rattle.arraystring.proofs.FieldLaws.{fields-found, fields-none, fields-count}
+use Rattle.arraystring.proofs.KeyedLaws.{ordered-put, hashed-put, ordered-out, hashed-out}
+use Rattle.arraystring.proofs.BorrowedLaws.{borrowed-same, borrowed-order, borrowed-length}
+use Rattle.arraystring.proofs.ReadBackLaws.{number-read, signed-read}
 
 -- appends, each whole or refused, one after the other
 pub ruleset additions = (addition-made, addition-refused, size-append, append_assoc)
@@ -69,3 +79,42 @@ pub ruleset cut_pieces = (addition-char_cuts, cut-past, cut-past_part, cut-all)
 
 -- a text that is put together at a character, and split there again
 pub ruleset joins = (joined-found)
+
+-- what most callers want: appends, whole or cut, literals, loops over slices and characters, removals, splits, insertions at index 0
+pub ruleset texts = (addition-made, addition-refused, size-append, append_assoc, addition_of_cut-makes, addition_of_cut-cuts, cut-all, cut-fits, chars-ascii, size-repeated, size-borrowed, width-low, taken-item, taken-chars, pieces-push, boundary-at_end, popping-made, removal-made, front-start, back-start)
+
+-- a text that is taken apart from its end, by `while let Some(last) = text.pop()`
+pub ruleset backwards = (last-split, reverse-append, append-nil, size-reverse)
+
+-- a place between two characters that an edit leaves where it was, and both ends of a text
+pub ruleset places = (place-within, removed-place, cut-place, end-place, front-start, back-start)
+
+-- a loop that appends what `map` and `filter` make of each character
+pub ruleset chains = (map_pieces, filter_pieces, kept_pieces)
+
+-- what `chars()` gives, with `map` and `filter` behind it, to `from_chars` and `try_from_chars`
+pub ruleset given = (gives-chars, gives-mapped, gives-kept)
+
+-- sizes of what `map`, `filter`, `reverse` and pieces make of a text
+pub ruleset widths = (size-map, size-filter, size-reverse, size-pieces, width-low)
+
+-- texts of ASCII, as `is_ascii` finds them
+pub ruleset ascii = (bytes-ascii)
+
+-- the sizes of numbers in decimal, by their types
+pub ruleset digits = (bytes-decimal, size-decimal, size-signed)
+
+-- a walk over the characters of a text by `next`, in a loop of one's own
+pub ruleset walks = (walked-on, walked-out, nat_tests)
+
+-- a text that `split_once` splits at a character, and what is behind it again
+pub ruleset fields = (fields-found, fields-none, fields-count)
+
+-- a `BTreeMap` and a `HashMap` whose keys are strings
+pub ruleset keyed = (ordered-put, hashed-put, ordered-out, hashed-out)
+
+-- texts that std compares, orders and measures by their bytes
+pub ruleset borrowed = (borrowed-same, borrowed-order, borrowed-length)
+
+-- a number that `parse` reads back from its digits
+pub ruleset read_back = (number-read, signed-read)

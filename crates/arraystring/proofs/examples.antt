@@ -1,2 +1,3 @@
 mod InnerResult
+mod Fields
 mod Memory

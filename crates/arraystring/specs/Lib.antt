@@ -20,3 +20,4 @@ pub mod Cached
 pub mod Refusals
 pub mod Memory
 pub mod Loops
+pub mod Fields

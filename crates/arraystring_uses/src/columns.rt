@@ -1,7 +1,8 @@
 //! Columns of a table.
-ghost use Rattle.std.specs.Prelude.{◌≡◌, ◌<◌, ◌++◌, [], MatchOption, chars, replicate};
+ghost use Rattle.std.specs.Prelude.{◌≡◌, ◌<◌, ◌++◌, [], MatchOption, chars, length, replicate};
+ghost use Rattle.std.specs.Str.{IsNotAscii};
 ghost use Rattle.arraystring.specs.Construct.{IsWholeOrRefused};
-ghost use Rattle.arraystring.specs.Text.{cap, size};
+ghost use Rattle.arraystring.specs.Text.{bytes, cap, size};
 
 use arraystring::laws::text_fits;
 use arraystring::{ArrayString, Error};
@@ -11,7 +12,7 @@ use arraystring::{ArrayString, Error};
 /// # Errors
 ///
 /// Returns `Err(Error::OutOfBounds)` if the whole does not fit.
-#[tactic(auto, using(arraystring::proofs::Rules::additions, arraystring::proofs::Rules::literals))]
+#[tactic(auto, using(arraystring::proofs::Rules::texts))]
 pub fn padded<const N: usize>(text: &str, count: u8) -> Result<ArrayString<N>, Error>
     ensures { IsWholeOrRefused (chars text.now ++ replicate count 0x20) (cap N) result }
 {
@@ -32,5 +33,18 @@ pub fn bytes_shown(column: &ArrayString<16>) -> Option<u8>
     match column.len() {
         0 => None,
         bytes => Some(bytes),
+    }
+}
+
+/// Returns how many characters a column of ASCII has, or `None` if it has one that is not of ASCII.
+#[tactic(auto, using(arraystring::proofs::Rules::ascii))]
+pub fn ascii_width(column: &ArrayString<16>) -> Option<u8>
+    ensures { MatchOption result (IsNotAscii (bytes column.now.text))
+        (λ count. count ≡ length column.now.text) }
+{
+    if column.as_str().is_ascii() {
+        Some(column.len())
+    } else {
+        None
     }
 }

@@ -25,7 +25,7 @@ pub fn with_commas<const N: usize>(text: &str) -> Result<ArrayString<N>, Error>
 }
 
 /// Appends the character at an index of the text, after its comma if it has one.
-#[tactic(auto, using(arraystring::proofs::Rules::additions))]
+#[tactic(auto, using(arraystring::proofs::Rules::texts))]
 fn push_piece<const N: usize>(
     line: &mut ArrayString<N>,
     index: usize,

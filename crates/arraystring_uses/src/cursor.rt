@@ -143,4 +143,79 @@ impl<const N: usize> Line<N> {
             None => None,
         }
     }
+
+    /// Moves the cursor to the start.
+    #[tactic(auto, using(arraystring::proofs::Rules::places))]
+    pub fn home(&mut self)
+        ensures text { self.new.text.text ≡ self.old.text.text }
+        ensures before { front self.new.text.text self.new.cursor ≡ [] }
+        ensures after { back self.new.text.text self.new.cursor ≡ self.old.text.text }
+    {
+        *self = Line {
+            text: self.text,
+            cursor: 0,
+        };
+    }
+
+    /// Moves the cursor to the end.
+    #[tactic(auto, using(arraystring::proofs::Rules::places))]
+    pub fn end(&mut self)
+        ensures text { self.new.text.text ≡ self.old.text.text }
+        ensures before { front self.new.text.text self.new.cursor ≡ self.old.text.text }
+        ensures after { back self.new.text.text self.new.cursor ≡ [] }
+    {
+        let text = self.text;
+        let cursor = text.len();
+        *self = Line { text, cursor };
+    }
+
+    /// Removes the character after the cursor, and returns it. At the end nothing is removed, and `None` is
+    /// returned.
+    #[tactic(auto, using(arraystring::proofs::Rules::places))]
+    pub fn delete(&mut self) -> Option<char>
+        ensures before { front self.new.text.text self.new.cursor
+            ≡ front self.old.text.text self.old.cursor }
+        ensures after { MatchOption result (back self.old.text.text self.old.cursor ≡ [])
+            (λ ch. back self.old.text.text self.old.cursor
+            ≡ ch ∷ back self.new.text.text self.new.cursor) }
+        ensures end { IfNone result (self.new ≡ self.old) }
+    {
+        let mut text = self.text;
+        match text.remove(self.cursor) {
+            Ok(ch) => {
+                let cursor = self.cursor;
+                *self = Line { text, cursor };
+                Some(ch)
+            }
+            Err(_) => None,
+        }
+    }
+
+    /// Removes the character before the cursor, and returns it. At the start nothing is removed, and `None`
+    /// is returned.
+    pub fn backspace(&mut self) -> Option<char>
+        ensures before { MatchOption result (front self.old.text.text self.old.cursor ≡ [])
+            (λ ch. front self.old.text.text self.old.cursor
+            ≡ front self.new.text.text self.new.cursor ++ ch ∷ []) }
+        ensures after { IfSome result (λ ch. back self.new.text.text self.new.cursor
+            ≡ back self.old.text.text self.old.cursor) }
+        ensures start { IfNone result ((self.new.text.text ≡ self.old.text.text)
+            × (self.new.cursor ≡ self.old.cursor)) }
+    {
+        self.left()?;
+        self.delete()
+    }
+
+    /// Removes what stands after the cursor.
+    #[tactic(auto, using(arraystring::proofs::Rules::places))]
+    pub fn kill(&mut self)
+        ensures before { front self.new.text.text self.new.cursor
+            ≡ front self.old.text.text self.old.cursor }
+        ensures after { back self.new.text.text self.new.cursor ≡ [] }
+    {
+        let mut text = self.text;
+        let _ = text.truncate(self.cursor);
+        let cursor = self.cursor;
+        *self = Line { text, cursor };
+    }
 }

@@ -9,7 +9,7 @@ use arraystring::{ArrayString, Error};
 /// # Errors
 ///
 /// Returns `Err(Error::OutOfBounds)` if not all of it fits. The text is then unchanged.
-#[tactic(auto, using(arraystring::proofs::Rules::additions))]
+#[tactic(auto, using(arraystring::proofs::Rules::texts))]
 pub fn add_entry<const N: usize>(
     line: &mut ArrayString<N>,
     key: &str,

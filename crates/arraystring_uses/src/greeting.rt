@@ -11,7 +11,7 @@ use arraystring::{ArrayString, Error};
 /// # Errors
 ///
 /// Returns `Err(Error::OutOfBounds)` if `@` and the name do not fit.
-#[tactic(auto, using(arraystring::proofs::Rules::at_start, arraystring::proofs::Rules::cuts, arraystring::proofs::Rules::literals))]
+#[tactic(auto, using(arraystring::proofs::Rules::texts))]
 pub fn greet(name: &str) -> Result<ArrayString<20>, Error>
     ensures text { IfOk result (λ greeting. greeting.text
         ≡ cut (codes "@" ++ (chars name.now ++ codes ", welcome back")) 20) }

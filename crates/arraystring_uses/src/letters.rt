@@ -21,7 +21,7 @@ pub fn take_first(text: &mut ArrayString<16>) -> Option<char>
 }
 
 /// Appends `ch` if any character would fit, and says whether one would.
-#[tactic(auto, using(arraystring::proofs::Rules::sizes))]
+#[tactic(auto, using(arraystring::proofs::Rules::texts))]
 pub fn push_if_any_fits(text: &mut ArrayString<16>, ch: char) -> bool
     ensures pushed { size text.old.text ≤ 12
         → (result ≡ true) × (text.new.text ≡ text.old.text ++ ch ∷ []) }
@@ -35,7 +35,7 @@ pub fn push_if_any_fits(text: &mut ArrayString<16>, ch: char) -> bool
 }
 
 /// Takes the last character out and returns it, or `None` if there is none.
-#[tactic(auto, using(arraystring::proofs::Rules::removals))]
+#[tactic(auto, using(arraystring::proofs::Rules::texts))]
 pub fn take_last(text: &mut ArrayString<16>) -> Option<char>
     ensures { MatchOption result ((text.old.text ≡ []) × (text.new.text ≡ []))
         (λ last. text.old.text ≡ text.new.text ++ last ∷ []) }

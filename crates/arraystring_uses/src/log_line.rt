@@ -30,7 +30,7 @@ impl Level {
 
 /// Returns the level and the message. A line of more than 64 bytes is cut to the longest prefix
 /// of whole characters that fits into 61, and ends with `…`, which takes three.
-#[tactic(auto, using(arraystring::proofs::Rules::literals, arraystring::proofs::Rules::cuts))]
+#[tactic(auto, using(arraystring::proofs::Rules::texts))]
 pub fn log_line(level: Level, message: &str) -> ArrayString<64>
     ensures whole { size (full_line level (chars message.now)) ≤ 64
         → result.text ≡ full_line level (chars message.now) }
@@ -43,7 +43,7 @@ pub fn log_line(level: Level, message: &str) -> ArrayString<64>
 }
 
 /// Adds `text` at the end of a line of at most 61 bytes, or what fits of it and `…`.
-#[tactic(auto, using(arraystring::proofs::Rules::cuts, arraystring::proofs::Rules::literals))]
+#[tactic(auto, using(arraystring::proofs::Rules::texts))]
 fn push_marked(line: &mut ArrayString<64>, text: &str)
     requires { size line.old.text ≤ 61 }
     ensures whole { size (line.old.text ++ chars text.now) ≤ 64

@@ -10,7 +10,7 @@ use arraystring::{ArrayString, Error};
 /// # Errors
 ///
 /// Those of `try_from_utf8`. If the name is too long, it is well-formed UTF-8.
-#[tactic(auto, using(arraystring::proofs::Rules::sizes))]
+#[tactic(auto, using(arraystring::proofs::Rules::texts))]
 pub fn name_in(given: &[u8]) -> Result<ArrayString<16>, Error>
     ensures too_long { result ≡ Err OutOfBounds → IsWellFormed given.now × (16 < length given.now) }
     ensures name { IsOk result ↔ (IsWellFormed given.now × (length given.now ≤ 16)) }

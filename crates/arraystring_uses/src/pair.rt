@@ -53,7 +53,7 @@ pub fn pair_of(line: &ArrayString<64>) -> Result<(ArrayString<20>, ArrayString<4
 /// # Errors
 ///
 /// Returns `Err(Error::OutOfBounds)` if it does not fit.
-#[tactic(auto, using(arraystring::proofs::Rules::additions))]
+#[tactic(auto, using(arraystring::proofs::Rules::texts))]
 pub fn line_of(key: &str, value: &str) -> Result<ArrayString<64>, Error>
     ensures { IsWholeOrRefused (chars key.now ++ 61 ∷ chars value.now) 64 result }
 {
@@ -69,7 +69,7 @@ pub fn line_of(key: &str, value: &str) -> Result<ArrayString<64>, Error>
 /// # Errors
 ///
 /// Those of `line_of` and `pair`.
-#[tactic(auto, using(arraystring::proofs::Rules::sizes, arraystring::proofs::Rules::joins))]
+#[tactic(auto, using(arraystring::proofs::Rules::texts, arraystring::proofs::Rules::joins))]
 pub fn there_and_back(
     key: &ArrayString<20>,
     value: &ArrayString<40>,

@@ -33,7 +33,7 @@ pub fn prefix<const N: usize>(text: &ArrayString<N>, end: u8) -> Option<&str>
 /// # Precondition
 ///
 /// `N` must be at most 300.
-#[tactic(auto, using(arraystring::proofs::Rules::splits))]
+#[tactic(auto, using(arraystring::proofs::Rules::texts))]
 pub fn drop_part<const N: usize>(text: &mut ArrayString<N>, start: u8, end: u8) -> Result<(), Error>
     requires { N ≤ 300 }
     ensures outcome { result ≡ ok_unless (first_cause (draining text.old.text start end).tests) tt }
@@ -44,7 +44,7 @@ pub fn drop_part<const N: usize>(text: &mut ArrayString<N>, start: u8, end: u8) 
 }
 
 /// Takes the bytes from `start` to `end` out, and returns what was taken: nothing, if `drain` refuses that.
-#[tactic(auto, using(arraystring::proofs::Rules::splits))]
+#[tactic(auto, using(arraystring::proofs::Rules::texts))]
 pub fn taken_out(text: &mut ArrayString<16>, start: u8, end: u8) -> Drain<16>
     ensures text { text.new.text ≡ text_of (draining text.old.text start end) text.old.text }
     ensures refused { first_cause (draining text.old.text start end).tests ≢ None

@@ -13,7 +13,7 @@ use arraystring::{ArrayString, Error};
 /// # Errors
 ///
 /// Returns `Err(Error::OutOfBounds)` if the whole does not fit.
-#[tactic(auto, using(arraystring::proofs::Rules::additions, arraystring::proofs::Rules::characters))]
+#[tactic(auto, using(arraystring::proofs::Rules::texts))]
 pub fn quoted<const N: usize>(field: &str) -> Result<ArrayString<N>, Error>
     ensures { IsWholeOrRefused (quoted (chars field.now)) (cap N) result }
 {
@@ -28,7 +28,7 @@ pub fn quoted<const N: usize>(field: &str) -> Result<ArrayString<N>, Error>
 }
 
 /// Appends a character, a quote twice.
-#[tactic(auto, using(arraystring::proofs::Rules::literals))]
+#[tactic(auto, using(arraystring::proofs::Rules::texts))]
 fn push_doubled<const N: usize>(line: &mut ArrayString<N>, ch: char) -> Result<(), Error>
     ensures { Makes (addition line.old.text (doubled ch) (cap N))
         line.old.text result line.new.text }

@@ -1,5 +1,6 @@
 //! Each use, on values worked out by hand. Those of `edges` only make one call, which has tests of its own.
-use crate::columns::{bytes_shown, padded};
+use crate::chains::{compact, digits_in, digits_of, snake, snake_again, try_compact, try_snake};
+use crate::columns::{ascii_width, bytes_shown, padded};
 use crate::commas::with_commas;
 use crate::cursor::Line;
 use crate::entry::add_entry;
@@ -10,12 +11,14 @@ use crate::letters::{
     take_last,
 };
 use crate::log_line::{Level, log_line};
-use crate::numbers::{push_number, write_number};
+use crate::member::member;
+use crate::numbers::{number_text, push_number, push_signed, signed_text, write_number};
 use crate::packet::name_in;
 use crate::pair::{line_of, pair, pair_of, split_value, there_and_back};
 use crate::parts::{drop_part, part, prefix, start_of_rest, taken_out};
 use crate::paths::{go_up, last_segment};
 use crate::quotes::{quoted, replaced};
+use crate::reversal::reversed;
 use crate::row::add_row;
 use crate::runs::{fits_small, push_and_pop};
 use crate::scores::{first_of, look_up, record};
@@ -299,6 +302,45 @@ fn a_cursor_stands_between_characters(rt: HostRuntime) {
     }
 }
 
+/// Asserts what stands before and after the cursor.
+fn check_cursor(rt: &impl Abort, line: &Line<16>, before: &str, after: &str) {
+    agree(rt, (line.before(), line.after()), (before, after));
+}
+
+/// At each place of a line: both ends, and what is left by each removal.
+#[test]
+fn a_cursor_stays_where_something_is_removed(rt: HostRuntime) {
+    for (before, left, letter, after, behind) in [
+        ("", "", None, "aé€🤔b", "é€🤔b"),
+        ("a", "", Some('a'), "é€🤔b", "€🤔b"),
+        ("aé", "a", Some('é'), "€🤔b", "🤔b"),
+        ("aé€", "aé", Some('€'), "🤔b", "b"),
+        ("aé€🤔", "aé€", Some('🤔'), "b", ""),
+        ("aé€🤔b", "aé€🤔", Some('b'), "", ""),
+    ] {
+        let text = ArrayString::<16>::from_str_truncate("aé€🤔b");
+        match Line::at(text, before.len() as u8) {
+            Some(line) => {
+                let mut moved = line;
+                moved.home();
+                check_cursor(&rt, &moved, "", "aé€🤔b");
+                moved.end();
+                check_cursor(&rt, &moved, "aé€🤔b", "");
+                let mut shorter = line;
+                agree(&rt, shorter.delete(), after.chars().next());
+                check_cursor(&rt, &shorter, before, behind);
+                let mut erased = line;
+                agree(&rt, erased.backspace(), letter);
+                check_cursor(&rt, &erased, left, after);
+                let mut cut = line;
+                cut.kill();
+                check_cursor(&rt, &cut, before, "");
+            }
+            None => agree(&rt, false, true),
+        }
+    }
+}
+
 #[test]
 fn fields_are_quoted(rt: HostRuntime) {
     for (field, wanted) in [
@@ -316,6 +358,75 @@ fn fields_are_quoted(rt: HostRuntime) {
         ("0123456789\"a", None),
     ] {
         check_made::<10>(&rt, quoted(field), wanted);
+    }
+}
+
+/// Each text with what `snake` and `compact` make of it in ten bytes, and its digits.
+#[test]
+fn texts_are_made_character_by_character(rt: HostRuntime) {
+    for (text, snaked, packed, digits) in [
+        ("", "", "", ""),
+        (" ", "_", "", ""),
+        ("a b", "a_b", "AB", ""),
+        ("é 1€ 2", "é_1€_2", "é1€2", "12"),
+        ("0123456789", "0123456789", "0123456789", "0123456789"),
+        (" 🤔 ab 7", "_🤔_ab_7", "🤔AB7", "7"),
+    ] {
+        let given = ArrayString::<10>::from_str_truncate(text);
+        agree(&rt, snake::<10>(text).as_str(), snaked);
+        agree(&rt, snake_again(&given).as_str(), snaked);
+        check_made::<10>(&rt, try_snake(text), Some(snaked));
+        agree(&rt, compact::<10>(text).as_str(), packed);
+        check_made::<10>(&rt, try_compact(text), Some(packed));
+        agree(&rt, digits_of(&given).as_str(), digits);
+        match digits_in::<10>(text) {
+            Ok(made) => agree(&rt, made.as_str(), digits),
+            Err(_) => agree(&rt, false, true),
+        }
+    }
+    // What is one byte too much: the whole is refused, or cut before the character.
+    for (text, snaked, packed) in [
+        ("0123456 €", "0123456_", "0123456€"),
+        ("   01234567€", "___0123456", "01234567"),
+    ] {
+        agree(&rt, snake::<10>(text).as_str(), snaked);
+        check_made::<10>(&rt, try_snake(text), None);
+        agree(&rt, compact::<10>(text).as_str(), packed);
+    }
+    check_made::<10>(&rt, try_compact("   01234567€"), None);
+    agree(&rt, digits_in::<3>("1a2b3c4").is_ok(), false);
+    agree(&rt, digits_in::<4>("1a2b3c4").is_ok(), true);
+}
+
+#[test]
+fn a_text_is_reversed(rt: HostRuntime) {
+    for (text, wanted) in [
+        ("", ""),
+        ("a", "a"),
+        ("aé", "éa"),
+        ("aé€🤔", "🤔€éa"),
+        ("🤔€éa", "aé€🤔"),
+        ("0123456789", "9876543210"),
+    ] {
+        let given = ArrayString::<10>::from_str_truncate(text);
+        agree(&rt, reversed(given).as_str(), wanted);
+    }
+}
+
+#[test]
+fn a_column_of_ascii_has_its_size(rt: HostRuntime) {
+    for (text, wanted) in [
+        ("", Some(0)),
+        ("a", Some(1)),
+        ("0123456789abcdef", Some(16)),
+        ("\u{7F}", Some(1)),
+        ("\u{80}", None),
+        ("aé", None),
+        ("€b", None),
+        ("a🤔b", None),
+    ] {
+        let column = ArrayString::<16>::from_str_truncate(text);
+        agree(&rt, ascii_width(&column), wanted);
     }
 }
 
@@ -682,5 +793,44 @@ fn numbers_are_appended(rt: HostRuntime) {
         agree(&rt, push_number(&mut short, number).is_ok(), is_pushed);
         let after = if is_pushed { digits } else { "" };
         agree(&rt, short.as_str().strip_prefix("é "), Some(after));
+    }
+    for (number, digits) in [
+        (0, "0"),
+        (9, "9"),
+        (10, "10"),
+        (999_999_999, "999999999"),
+        (1_000_000_000, "1000000000"),
+        (u32::MAX, "4294967295"),
+    ] {
+        agree(&rt, number_text(number).as_str(), digits);
+    }
+    for (number, digits) in [
+        (0, "0"),
+        (-1, "-1"),
+        (10, "10"),
+        (-10, "-10"),
+        (i32::MAX, "2147483647"),
+        (i32::MIN, "-2147483648"),
+    ] {
+        agree(&rt, signed_text(number).as_str(), digits);
+        let mut line = ArrayString::<2>::new();
+        let fits = digits.len() <= 2;
+        agree(&rt, push_signed(&mut line, number).is_ok(), fits);
+        agree(&rt, line.as_str(), if fits { digits } else { "" });
+    }
+}
+
+#[test]
+fn a_member_always_fits(rt: HostRuntime) {
+    for (name, role, wanted) in [
+        ("ann", "dev", "ann|dev"),
+        ("", "", "|"),
+        ("", "0123456789ab", "|0123456789ab"),
+        ("0123456789abcdefghij", "", "0123456789abcdefghij|"),
+        ("éééééééééé", "🐢🐢🐢", "éééééééééé|🐢🐢🐢"),
+    ] {
+        let name = ArrayString::from_str_truncate(name);
+        let role = ArrayString::from_str_truncate(role);
+        agree(&rt, member(&name, &role).as_str(), wanted);
     }
 }

@@ -13,7 +13,7 @@ use arraystring::{ArrayString, Error};
 /// # Errors
 ///
 /// Returns `Err(Error::OutOfBounds)` if the whole does not fit.
-#[tactic(auto, using(arraystring::proofs::Rules::additions, arraystring::proofs::Rules::traces))]
+#[tactic(auto, using(arraystring::proofs::Rules::texts, arraystring::proofs::Rules::traces))]
 pub fn titled<const N: usize>(text: &str) -> Result<ArrayString<N>, Error>
     ensures { IsWholeOrRefused (title (chars text.now)) (cap N) result }
 {

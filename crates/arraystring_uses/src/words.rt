@@ -14,7 +14,7 @@ use arraystring::{ArrayString, Error};
 /// # Errors
 ///
 /// Returns `Err(Error::OutOfBounds)` if the whole does not fit.
-#[tactic(auto, using(arraystring::proofs::Rules::additions, arraystring::proofs::Rules::slices))]
+#[tactic(auto, using(arraystring::proofs::Rules::texts))]
 pub fn lines<const N: usize>(words: &[&str]) -> Result<ArrayString<N>, Error>
     ensures { IsWholeOrRefused (lines words.now) (cap N) result }
 {
@@ -32,7 +32,7 @@ pub fn lines<const N: usize>(words: &[&str]) -> Result<ArrayString<N>, Error>
 /// # Errors
 ///
 /// Returns `Err(Error::OutOfBounds)` if the whole does not fit.
-#[tactic(auto, using(arraystring::proofs::Rules::additions, arraystring::proofs::Rules::slices))]
+#[tactic(auto, using(arraystring::proofs::Rules::texts))]
 pub fn path<const N: usize>(words: &[&str]) -> Result<ArrayString<N>, Error>
     ensures { IsWholeOrRefused (path words.now) (cap N) result }
 {
@@ -49,7 +49,7 @@ pub fn path<const N: usize>(words: &[&str]) -> Result<ArrayString<N>, Error>
 }
 
 /// Puts as many of `words` on a line as fit, each with a space after it, and returns how many.
-#[tactic(auto, using(arraystring::proofs::Rules::additions, arraystring::proofs::Rules::takes))]
+#[tactic(auto, using(arraystring::proofs::Rules::texts, arraystring::proofs::Rules::takes))]
 pub fn filled<const N: usize>(words: &[&str]) -> (ArrayString<N>, usize)
     ensures text { result.0.text ≡ flat_map spaced (take result.1 words.now) }
     ensures count { result.1 ≤ length words.now }
@@ -66,7 +66,7 @@ pub fn filled<const N: usize>(words: &[&str]) -> (ArrayString<N>, usize)
 }
 
 /// Appends a word and a space.
-#[tactic(auto, using(arraystring::proofs::Rules::additions))]
+#[tactic(auto, using(arraystring::proofs::Rules::texts))]
 fn push_spaced<const N: usize>(line: &mut ArrayString<N>, word: &str) -> Result<(), Error>
     ensures { Makes (addition line.old.text (chars word.now ++ 0x20 ∷ []) (cap N))
         line.old.text result line.new.text }
@@ -83,7 +83,7 @@ fn push_spaced<const N: usize>(line: &mut ArrayString<N>, word: &str) -> Result<
 /// # Errors
 ///
 /// Returns `Err(Error::OutOfBounds)` if not both fit. The text is then unchanged.
-#[tactic(auto, using(arraystring::proofs::Rules::additions))]
+#[tactic(auto, using(arraystring::proofs::Rules::texts))]
 pub fn add_both(line: &mut ArrayString<24>, first: &str, last: &str) -> Result<(), Error>
     ensures { Makes (addition line.old.text (chars first.now ++ chars last.now) 24)
         line.old.text result line.new.text }

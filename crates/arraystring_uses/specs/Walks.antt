@@ -1,0 +1,18 @@
+-- What two texts have in common at their start, and a text without case.
+use Rattle.std.specs.Prelude.{ℕ, List, [], ◌∷◌, if◌then◌else◌, ◌==◌, map}
+use Rattle.std.specs.Char.{to_ascii_lowercase}
+
+-- the characters that two texts begin with, both
+abbrev pub common : List ℕ → List ℕ → List ℕ
+common [] u = []
+common (c ∷ t) [] = []
+common (c ∷ t) (d ∷ u) = if c == d then c ∷ common t u else []
+
+-- a text with its letters of ASCII in lower case
+abbrev pub folded : List ℕ → List ℕ
+folded t = map to_ascii_lowercase t
+
+-- a text up to the first `c`, or all of it
+abbrev pub until : ℕ → List ℕ → List ℕ
+until c [] = []
+until c (d ∷ t) = if d == c then [] else d ∷ until c t

@@ -1,0 +1,64 @@
+//! A string that is lent to std as a `&str`, whose contracts speak of bytes.
+ghost use Rattle.std.specs.Prelude.{◌≡◌, ◌↔◌, IsTrue, chars, codes};
+ghost use Rattle.std.specs.Cmp.Lexicographic.{slice_cmp};
+ghost use Rattle.std.specs.Ordering.{nat_cmp};
+ghost use Rattle.arraystring.specs.Text.{size};
+
+use arraystring::ArrayString;
+use std::cmp::Ordering;
+
+/// Whether a string has this text.
+#[tactic(auto, using(arraystring::proofs::Rules::borrowed))]
+pub fn is_text<const N: usize>(string: &ArrayString<N>, text: &str) -> bool
+    ensures { IsTrue result ↔ (string.now.text ≡ chars text.now) }
+{
+    string.as_str() == text
+}
+
+/// Whether a string has the text of a literal.
+#[tactic(auto, using(arraystring::proofs::Rules::borrowed, arraystring::proofs::Rules::literals))]
+pub fn is_get<const N: usize>(string: &ArrayString<N>) -> bool
+    ensures { IsTrue result ↔ (string.now.text ≡ codes "GET") }
+{
+    string.as_str() == "GET"
+}
+
+/// Whether strings of two capacities have the same text.
+#[tactic(auto, using(arraystring::proofs::Rules::borrowed))]
+pub fn same_text<const M: usize, const N: usize>(a: &ArrayString<M>, b: &ArrayString<N>) -> bool
+    ensures { IsTrue result ↔ (a.now.text ≡ b.now.text) }
+{
+    a.as_str() == b.as_str()
+}
+
+/// Whether the UTF-8 of a string is that of a text.
+#[tactic(auto, using(arraystring::proofs::Rules::borrowed))]
+pub fn has_bytes_of<const N: usize>(string: &ArrayString<N>, text: &str) -> bool
+    ensures { IsTrue result ↔ (string.now.text ≡ chars text.now) }
+{
+    string.as_bytes() == text.as_bytes()
+}
+
+/// Returns how a string and a text are ordered, by their characters.
+#[tactic(auto, using(arraystring::proofs::Rules::borrowed))]
+pub fn order<const N: usize>(string: &ArrayString<N>, text: &str) -> Ordering
+    ensures { result ≡ slice_cmp nat_cmp string.now.text (chars text.now) }
+{
+    string.as_str().cmp(text)
+}
+
+/// Returns how many bytes a text takes.
+#[tactic(auto, using(arraystring::proofs::Rules::borrowed))]
+pub fn size_of_text(text: &str) -> usize
+    ensures { result ≡ size (chars text.now) }
+{
+    text.len()
+}
+
+/// Returns how many bytes the text of a string takes, by the `&str`.
+#[tactic(auto, using(arraystring::proofs::Rules::borrowed))]
+pub fn size_of_string<const N: usize>(string: &ArrayString<N>) -> usize
+    ensures { result ≡ size string.now.text }
+{
+    string.as_str().len()
+}

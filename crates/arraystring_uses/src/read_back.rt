@@ -1,0 +1,96 @@
+//! Numbers that are read back from the text that `write!` makes of them, one function for each type of integers.
+ghost use Rattle.std.specs.Prelude.{◌≡◌, ◌<◌, ◌^◌, ℕ, ℤ, Ok};
+ghost use Rattle.std.specs.Fmt.{decimal, signed_decimal};
+ghost use Rattle.std.specs.Int.RustNames.{FitsSigned};
+ghost use mir.Syntax.Width.{w8, w16, w32, w64};
+
+use arraystring::ArrayString;
+use std::num::ParseIntError;
+
+/// Reads a number of the type `u8` back.
+#[tactic(auto, using(arraystring::proofs::Rules::read_back))]
+pub fn read_u8<const N: usize>(text: &ArrayString<N>) -> Result<u8, ParseIntError>
+    ensures { (n : ℕ) → n < 2 ^ 8 → text.now.text ≡ decimal n → result ≡ Ok n }
+{
+    text.as_str().parse()
+}
+
+/// Reads a number of the type `u16` back.
+#[tactic(auto, using(arraystring::proofs::Rules::read_back))]
+pub fn read_u16<const N: usize>(text: &ArrayString<N>) -> Result<u16, ParseIntError>
+    ensures { (n : ℕ) → n < 2 ^ 16 → text.now.text ≡ decimal n → result ≡ Ok n }
+{
+    text.as_str().parse()
+}
+
+/// Reads a number of the type `u32` back.
+#[tactic(auto, using(arraystring::proofs::Rules::read_back))]
+pub fn read_u32<const N: usize>(text: &ArrayString<N>) -> Result<u32, ParseIntError>
+    ensures { (n : ℕ) → n < 2 ^ 32 → text.now.text ≡ decimal n → result ≡ Ok n }
+{
+    text.as_str().parse()
+}
+
+/// Reads a number of the type `u64` back.
+#[tactic(auto, using(arraystring::proofs::Rules::read_back))]
+pub fn read_u64<const N: usize>(text: &ArrayString<N>) -> Result<u64, ParseIntError>
+    ensures { (n : ℕ) → n < 2 ^ 64 → text.now.text ≡ decimal n → result ≡ Ok n }
+{
+    text.as_str().parse()
+}
+
+/// Reads a number of the type `usize` back.
+#[tactic(auto, using(arraystring::proofs::Rules::read_back))]
+pub fn read_usize<const N: usize>(text: &ArrayString<N>) -> Result<usize, ParseIntError>
+    ensures { (n : ℕ) → n < 2 ^ 64 → text.now.text ≡ decimal n → result ≡ Ok n }
+{
+    text.as_str().parse()
+}
+
+/// Reads a number of the type `u128` back.
+#[tactic(auto, using(arraystring::proofs::Rules::read_back))]
+pub fn read_u128<const N: usize>(text: &ArrayString<N>) -> Result<u128, ParseIntError>
+    ensures { (n : ℕ) → n < 2 ^ 128 → text.now.text ≡ decimal n → result ≡ Ok n }
+{
+    text.as_str().parse()
+}
+
+/// Reads a number of the type `i8` back.
+#[tactic(auto, using(arraystring::proofs::Rules::read_back))]
+pub fn read_i8<const N: usize>(text: &ArrayString<N>) -> Result<i8, ParseIntError>
+    ensures { (z : ℤ) → FitsSigned w8 z → text.now.text ≡ signed_decimal z → result ≡ Ok z }
+{
+    text.as_str().parse()
+}
+
+/// Reads a number of the type `i16` back.
+#[tactic(auto, using(arraystring::proofs::Rules::read_back))]
+pub fn read_i16<const N: usize>(text: &ArrayString<N>) -> Result<i16, ParseIntError>
+    ensures { (z : ℤ) → FitsSigned w16 z → text.now.text ≡ signed_decimal z → result ≡ Ok z }
+{
+    text.as_str().parse()
+}
+
+/// Reads a number of the type `i32` back.
+#[tactic(auto, using(arraystring::proofs::Rules::read_back))]
+pub fn read_i32<const N: usize>(text: &ArrayString<N>) -> Result<i32, ParseIntError>
+    ensures { (z : ℤ) → FitsSigned w32 z → text.now.text ≡ signed_decimal z → result ≡ Ok z }
+{
+    text.as_str().parse()
+}
+
+/// Reads a number of the type `i64` back.
+#[tactic(auto, using(arraystring::proofs::Rules::read_back))]
+pub fn read_i64<const N: usize>(text: &ArrayString<N>) -> Result<i64, ParseIntError>
+    ensures { (z : ℤ) → FitsSigned w64 z → text.now.text ≡ signed_decimal z → result ≡ Ok z }
+{
+    text.as_str().parse()
+}
+
+/// Reads a number of the type `isize` back.
+#[tactic(auto, using(arraystring::proofs::Rules::read_back))]
+pub fn read_isize<const N: usize>(text: &ArrayString<N>) -> Result<isize, ParseIntError>
+    ensures { (z : ℤ) → FitsSigned w64 z → text.now.text ≡ signed_decimal z → result ≡ Ok z }
+{
+    text.as_str().parse()
+}
