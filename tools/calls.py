@@ -12,7 +12,7 @@ from repository import inline_code, read, section
 # Which make the calls of tables.
 MAKERS = ("call_list.rt", "calls.rt")
 TESTS = "crates/arraystring_tests/src/tests"
-CALLS, SCRIPTS = "crates/arraystring/CALLS.md", "docs/scripts.md"
+CALLS, SCRIPTS = "crates/arraystring/CALLS.md", "crates/arraystring_run/CALLING.md"
 # Which the list of calls has from std.
 OF_STD = {"into"}
 
