@@ -324,12 +324,6 @@ fn a_page_says_of_a_file_that_the_package_lacks_where_it_is() {
     }
 }
 
-#[test]
-fn the_page_says_which_rust_is_needed() {
-    let said = format!("Rust {} or later", env!("CARGO_PKG_RUST_VERSION"));
-    assert!(fs::read_to_string("README.md").expect("a text").contains(&said), "`{said}` is not there");
-}
-
 /// Nothing else tells that one of these is gone.
 #[test]
 fn the_root_denies_what_no_test_sees() {
