@@ -1,4 +1,4 @@
-//! The program `arraystring_cli` as a plain Rust program, over std alone. docs/scripts.md says what it does. It writes a reply that
+//! The program `arraystring_cli` as a plain Rust program, over std alone. crates/arraystring_run/CALLING.md says what it does. It writes a reply that
 //! has a value by `write_all`, part by part, which is faster than `write!`.
 
 use std::borrow::Cow;
@@ -274,7 +274,7 @@ impl Text {
         Ok(Reply::Done)
     }
 
-    /// Refuses to put so many bytes in place of a part, in the order of docs/scripts.md.
+    /// Refuses to put so many bytes in place of a part, in the order of crates/arraystring_run/CALLING.md.
     fn test(&self, start: usize, end: usize, added: usize) -> Result<(), Refused> {
         if start > end || end > self.held.len() || self.held.len() - (end - start) + added > self.capacity {
             return Err(Refused::OutOfBounds);

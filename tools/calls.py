@@ -11,7 +11,7 @@ from repository import inline_code, read
 # Which make the calls of tables.
 MAKERS = ("call_list.rt", "calls.rt")
 TESTS = "crates/arraystring_tests/src/tests"
-SCRIPTS = "docs/scripts.md"
+SCRIPTS = "crates/arraystring_run/CALLING.md"
 
 
 def names_in(root, form, *files):

@@ -89,7 +89,7 @@ AreSpelled bs [] = bs ≡ []
 AreSpelled bs (a ∷ rest) =
     (first : List ℕ) × (others : List ℕ) × (bs ≡ space ∷ (first ++ others)) × IsSpelled first a × AreSpelled others rest
 
--- the bytes are a line of a command: its word, and then its arguments (docs/scripts.md, Lines)
+-- the bytes are a line of a command: its word, and then its arguments (CALLING.md, Commands)
 abbrev pub IsLineOf : List ℕ → Command → Type 0
 IsLineOf bs c = (rest : List ℕ) × (bs ≡ word c ++ rest) × AreSpelled rest (arguments c)
 

@@ -24,7 +24,7 @@ bytes_of Small = 23
 bytes_of Cache = 63
 bytes_of Max = 255
 
--- the exit status of a script that was played, or not (docs/scripts.md, Exit status)
+-- the exit status of a script that was played, or not (CALLING.md, The program)
 abbrev pub status_of : {A : Type 0} → Result A PlayFault → ℕ
 status_of (Ok _) = 0
 status_of (Err (BadLine k)) = 2
@@ -36,7 +36,7 @@ status_of (Err Write) = 4
 abbrev pub usage_line : List ℕ
 usage_line = with_newline (codes "usage: arraystring_run small or cache or max")
 
--- the line of a fault (docs/scripts.md, Exit status)
+-- the line of a fault (CALLING.md, The program)
 abbrev pub fault_line : PlayFault → List ℕ
 fault_line (BadLine k) = with_newline (codes "bad line " ++ decimal k)
 fault_line Memory = with_newline (codes "out of memory")

@@ -10,7 +10,7 @@ use std::str;
 
 /// Returns the command of a line of a script. `line` has no line feed, and the command borrows its text
 /// from it. Returns `None` if the line is no command: it is not UTF-8, its word is not one of those of
-/// docs/scripts.md, an argument has the wrong form, or there is more or less than the word takes.
+/// CALLING.md, an argument has the wrong form, or there is more or less than the word takes.
 pub fn command(line: &[u8]) -> Option<Command<'_>>
     ensures some { IfSome result (λ c. IsLineOf line.now c) }
     ensures none { IfNone result ((c : Command) → IsLineOf line.now c → ⊥) }

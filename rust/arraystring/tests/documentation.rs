@@ -273,8 +273,7 @@ fn the_page_names_no_call_that_is_gone() {
 
 /// The lines of documentation of the face, and of the pages.
 fn documentation() -> Vec<(String, String)> {
-    let pages = ["README.md", "MOVING.md", "CHANGELOG.md"]
-        .map(|page| (page.to_string(), fs::read_to_string(page).expect("a text")));
+    let pages = ["README.md", "MOVING.md"].map(|page| (page.to_string(), fs::read_to_string(page).expect("a text")));
     let mut lines = Vec::new();
     for (file, text) in face().into_iter().chain(pages) {
         let is_shown = |line: &&str| {
@@ -310,30 +309,19 @@ fn is_path(code: &str) -> bool {
 /// This runs in the package, too, which lacks more.
 #[test]
 fn a_page_says_of_a_file_that_the_package_lacks_where_it_is() {
-    for page in ["README.md", "MOVING.md", "CHANGELOG.md"] {
+    for page in ["README.md", "MOVING.md"] {
         let text = fs::read_to_string(page).expect("a text");
-        let words: Vec<_> = text.split_whitespace().collect();
-        let says_of_folders =
-            words.join(" ").contains("A path that begins with `crates/`, `docs/` or `rust/` is one of the repository");
         let mut told = BTreeSet::new();
         for part in parts(&text) {
             for path in part.split('`').skip(1).step_by(2).filter(|code| is_path(code)) {
                 let is_there = [path.to_string(), format!("src/{path}")].iter().any(|path| Path::new(path).exists());
-                let is_told =
-                    says_of_folders && ["crates/", "docs/", "rust/"].iter().any(|folder| path.starts_with(folder));
                 if part.contains("repository") {
                     told.insert(path.to_string());
                 }
-                assert!(is_there || is_told || told.contains(path), "{page}: {path} in {part}");
+                assert!(is_there || told.contains(path), "{page}: {path} in {part}");
             }
         }
     }
-}
-
-#[test]
-fn the_page_says_which_rust_is_needed() {
-    let said = format!("Rust {} or later", env!("CARGO_PKG_RUST_VERSION"));
-    assert!(fs::read_to_string("README.md").expect("a text").contains(&said), "`{said}` is not there");
 }
 
 /// Nothing else tells that one of these is gone.
