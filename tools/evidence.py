@@ -111,7 +111,7 @@ class Crate:
 
     def owner(self, edit):
         """The name of the function for which a wrong body is named; None where there is none."""
-        names = [edit.heading] if edit.heading in self.asked else self.asked if edit.heading is None else []
+        names = self.asked if edit.heading is None else self.asked.keys() & {edit.heading}
         return next((it for it in names if edit.name.startswith(f"{it}.")), None)
 
     def lacking(self):
