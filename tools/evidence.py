@@ -6,8 +6,8 @@ tools/run evidence --more [CRATE..]
                              at what `rt must-fail` says of those in more-wrong-bodies.edits, in a copy where they are in
                              must-fail/; before a release, and of a crate whose public contract was changed
 
-A wrong body is FUNCTION.WHAT_IS_WRONG.edit in must-fail/ of its crate, or stands in the crate's file below the headings `##
-FUNCTION` and `### WHAT_IS_WRONG` (the head of tools/edits.py says how). No two have one name. FUNCTION is the name of a
+A wrong body is FUNCTION.WHAT_IS_WRONG.edit in must-fail/ of its crate, or stands in the crate's file below the headings
+`## FUNCTION` and `### WHAT_IS_WRONG` (the head of tools/edits.py says how). No two have one name. FUNCTION is the name of a
 function of the crate, as `pop`. It has the type in front if two have that name, as `Drain.next_back`, and the trait in the
 function's place if that does not tell them apart, as `Error.Display` and `Error.From.Utf8`. What breaks in a private function
 is named for a public one that names it, directly or by others.
