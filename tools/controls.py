@@ -3,10 +3,8 @@
 tools/run controls [CRATE..]             those of these crates, or of all
 tools/run controls CRATE --edits NAME    of the function NAME alone, and its wrong bodies, with what refuses each
 
-It is run when a control is written, and before a release; docs/review.md has the day of the last whole run. A wrong body is the
-file NAME.edit in must-fail/ or more-wrong-bodies/ of its crate: lines `file: PATH`, `old: TEXT` and `new: TEXT`, each on what the ones
-before made. Its control has the text of the line `# right: TEXT` behind a `new:` in the place of that, or the same text where there is
-none.
+It is run when a control is written, and before a release; docs/review.md has the day of the last whole run. How a wrong body and
+its control are written, the head of tools/edits.py says.
 
 Each is checked in a copy of the repository among the temporary files, with what earlier checks kept in out/; no other `rt` may
 write there while the copy is made. A control takes some seconds. It fails where a control is refused, where a wrong body or its crate
@@ -20,27 +18,8 @@ import tempfile
 from contextlib import contextmanager
 from pathlib import Path
 
-from repository import crates, read, wrong_bodies
-
-PART = re.compile(r"file: ?(.+)\n|old: ?(.*)\nnew: ?(.*)\n(?:# right: ?(.*)\n)?")
-
-
-def applied(edit, is_right):
-    """The files of its crate that a wrong body changes, or its control, each with its text after. A ValueError says why one can't
-    be read or applied."""
-    texts, path, rest = {}, "", read(edit)
-    while rest:
-        part = PART.match(rest)
-        if not part or not (part[1] or path):
-            raise ValueError(f"no line of a wrong body: {rest.splitlines()[0]}")
-        path, rest = part[1] or path, rest[part.end():]
-        if not part[1]:
-            file, old, made = edit.parent.parent / path, part[2], part[3] if part[4] is None or not is_right else part[4]
-            text = texts.get(file) or (read(file) if file.is_file() else "")
-            if text.count(old) != 1:
-                raise ValueError(f"{path} does not have this once: {old}")
-            texts[file] = text.replace(old, made)
-    return texts
+from edits import wrong_bodies
+from repository import crates
 
 
 def rt(folder, *words):
@@ -62,11 +41,11 @@ def checked(folder):
 def is_as_due(edit, is_right):
     """Checks a crate of a copy with a wrong body, or with its control: whether it is as it has to be, which is told. The crate is set
     back then, also what it keeps in out/, so that each begins with the same."""
-    folder, before = edit.parent.parent, edit.parent.parent.with_name("before")
+    folder, before = edit.folder, edit.folder.with_name("before")
     try:
-        texts = applied(edit, is_right)
+        texts = edit.applied(is_right)
     except ValueError as error:
-        print(f"{edit.stem}: {error}", flush=True)
+        print(f"{edit.name}: {error}", flush=True)
         return False
     shutil.copytree(folder, before, symlinks=True)
     for file, text in texts.items():
@@ -75,7 +54,7 @@ def is_as_due(edit, is_right):
     shutil.rmtree(folder)
     before.rename(folder)
     kind = "control" if is_right else "wrong body"
-    print(f"{folder.name} {edit.stem}: the {kind} {'proves' if is_proved else f'is refused: {message}'}", flush=True)
+    print(f"{folder.name} {edit.name}: the {kind} {'proves' if is_proved else f'is refused: {message}'}", flush=True)
     return is_proved == is_right
 
 
@@ -87,10 +66,12 @@ def outcomes(copy, named, function):
             print(f"{crate} is not proved: {message}")
             yield False
             continue
-        for edit in wrong_bodies(copy / "crates" / crate, f"{function}.*" if function else "*"):
+        for edit in wrong_bodies(copy / "crates" / crate):
+            if not edit.name.startswith(f"{function}." if function else ""):
+                continue
             if function:
                 yield is_as_due(edit, False)
-            if re.search("(?m)^# right:", read(edit)):
+            if edit.has_control():
                 yield is_as_due(edit, True)
 
 

@@ -3,13 +3,14 @@
 tools/run evidence           looks at the files alone, also whether each wrong body can be put into its crate
 tools/run evidence LOG       also at what `rt ci` said in LOG of each wrong body in must-fail/
 tools/run evidence --more [CRATE..]
-                             at what `rt must-fail` says of those in more-wrong-bodies/, in a copy where they are in must-fail/;
-                             before a release, and of a crate whose public contract was changed
+                             at what `rt must-fail` says of those in more-wrong-bodies.edits, in a copy where they are in
+                             must-fail/; before a release, and of a crate whose public contract was changed
 
-A wrong body is FUNCTION.WHAT_IS_WRONG.edit in one of the two folders of its crate. FUNCTION is the name of a function of the
-crate, as `pop`. It has the type in front if two have that name, as `Drain.next_back`, and the trait in the function's place if
-that does not tell them apart, as `Error.Display` and `Error.From.Utf8`. What breaks in a private function is named for a public
-one that names it, directly or by others.
+A wrong body is FUNCTION.WHAT_IS_WRONG.edit in must-fail/ of its crate, or stands in the crate's file below the headings
+`## FUNCTION` and `### WHAT_IS_WRONG` (the head of tools/edits.py says how). No two have one name. FUNCTION is the name of a
+function of the crate, as `pop`. It has the type in front if two have that name, as `Drain.next_back`, and the trait in the
+function's place if that does not tell them apart, as `Error.Display` and `Error.From.Utf8`. What breaks in a private function
+is named for a public one that names it, directly or by others.
 
 Every public function that has a body is asked for, each function of a trait's impl that has clauses or ghost members and
 whose type is public, and of a program all functions but `main`; tests, what a trait declares, the crates FOR_TESTS and the
@@ -29,7 +30,8 @@ from collections import Counter, namedtuple
 from pathlib import Path
 
 import controls
-from repository import MORE, closed, crates, public_types, read, sources, wrong_bodies
+from edits import MORE, of_file, wrong_bodies
+from repository import closed, crates, public_types, read, sources
 
 # Only tests call test_support, and memory_tests is one: what is wrong there its own tests and theirs see, or `tools/run refused`.
 FOR_TESTS = {"test_support", "memory_tests"}
@@ -109,7 +111,8 @@ class Crate:
 
     def owner(self, edit):
         """The name of the function for which a wrong body is named; None where there is none."""
-        return next((it for it in self.asked if edit.name.startswith(f"{it}.")), None)
+        names = self.asked if edit.heading is None else self.asked.keys() & {edit.heading}
+        return next((it for it in names if edit.name.startswith(f"{it}.")), None)
 
     def lacking(self):
         """How many wrong bodies of a function are missing, by its name, for each for which they are asked."""
@@ -135,56 +138,70 @@ class Crate:
         stored = re.search(r"\bproofs/(?:\w+/)*(\w+)/\w+\.antt", said)
         if not stored or not any(it.name == stored[1] for it in rests_on):
             return f"refused neither by a goal of src/ nor over a stored proof of what it is named for: {said[:100]}"
-        has_control = re.search("(?m)^# right:", read(edit))
-        return None if VALUES in said or has_control else "refused over a stored proof, and has no control"
+        return None if VALUES in said or edit.has_control() else "refused over a stored proof, and has no control"
 
 
 def fault_of_text(edit):
     """Why a wrong body or its control can't be put into its crate; None where both can."""
     try:
-        controls.applied(edit, is_right=False)
-        controls.applied(edit, is_right=True)
+        edit.applied(is_right=False)
+        edit.applied(is_right=True)
     except ValueError as error:
         return str(error)
     return None
 
 
-def faults_of(crate, log):
-    """What is wrong with the wrong bodies of a crate, and with their refusals in a log, if there is one."""
-    told = {name: said for folder, name, said in VERDICT.findall(log or "") if folder == crate.folder.name}
+def faults_of(crate, log="", tried=()):
+    """What is wrong with the wrong bodies of a crate, and with the refusals of those that were tried, as a log has them."""
+    told = {name: said for folder, name, said in VERDICT.findall(log) if folder == crate.folder.name}
+    counts = Counter(it.name for it in crate.edits)
     for edit in crate.edits:
         fault = fault_of_text(edit)
         if crate.folder.name not in FOR_TESTS and not crate.owner(edit):
             fault = "no public function has this name"
-        elif not fault and log is not None and edit.parent.name == "must-fail":
-            said = told.get(edit.stem)
+        elif counts[edit.name] > 1:
+            fault = "another wrong body has this name"
+        elif not fault and edit in tried:
+            said = told.get(edit.name)
             fault = crate.fault_of_refusal(edit, said) if said else "the log does not say that it is refused"
-        yield from [f"{crate.folder.name} {edit.stem}: {fault}"] * bool(fault)
+        yield from [f"{crate.folder.name} {edit.name}: {fault}"] * bool(fault)
+
+
+def put_into_must_fail(folder):
+    """Makes those in a crate's file that fit the wrong bodies that `rt must-fail` tries."""
+    shutil.rmtree(folder / "must-fail", ignore_errors=True)
+    (folder / "must-fail").mkdir()
+    for edit in of_file(folder):
+        if not fault_of_text(edit):
+            (folder / "must-fail" / f"{edit.name}.edit").write_text(edit.for_rt(), encoding="utf-8")
 
 
 def more(root, named):
-    """Tries the wrong bodies in more-wrong-bodies/ of some crates: whether one is not refused as it has to be."""
+    """Tries the wrong bodies in the files of some crates: whether one is not refused as it has to be."""
     with controls.copied(root, named) as copy:
         folders = [copy / "crates" / it for it in named]
         for folder in folders:
-            shutil.rmtree(folder / "must-fail", ignore_errors=True)
-            (folder / MORE).rename(folder / "must-fail")
+            put_into_must_fail(folder)
         log = controls.rt(copy, "must-fail", *named).stdout
-        faults = [fault for folder in folders for fault in faults_of(Crate(folder), log)]
+        for folder in folders:
+            shutil.rmtree(folder / "must-fail")
+        known = map(Crate, folders)
+        faults = [fault for crate in known for fault in faults_of(crate, log, crate.edits)]
     print(log + "\n".join(faults or ["each is refused as it has to be"]))
     return bool(faults)
 
 
 def main(arguments, root):
     if arguments[:1] == ["--more"]:
-        have = [it for it in crates(root) if (root / "crates" / it / MORE).is_dir()]
+        have = [it for it in crates(root) if (root / "crates" / it / MORE).exists()]
         lacking = sorted(set(arguments[1:]).difference(have))
         return f"no wrong bodies are in crates/{lacking[0]}/{MORE}" if lacking else more(root, arguments[1:] or have)
-    log = read(Path(arguments[0])) if arguments else None
+    log = read(Path(arguments[0])) if arguments else ""
     known = [Crate(root / "crates" / it) for it in crates(root)]
     asked = [it for it in known if it.folder.name not in FOR_TESTS | EXAMPLES]
     lacking = {f"{crate.folder.name} {name}": count for crate in asked for name, count in crate.lacking()}
-    faults = [fault for crate in known for fault in faults_of(crate, log)]
+    tried = [it for crate in known for it in crate.edits if arguments and it.heading is None]
+    faults = [fault for crate in known for fault in faults_of(crate, log, tried)]
     faults += [f"wrong bodies of {name} that are missing: {count}" for name, count in lacking.items() if count]
     print("\n".join(faults) or f"{len(lacking)} functions have {sum(len(it.edits) for it in asked)} wrong bodies")
     return bool(faults) or not lacking

@@ -3,8 +3,6 @@ import re
 from pathlib import Path
 
 ROOT = Path(__file__).resolve().parent.parent
-# The folder of a crate with the wrong bodies that `rt ci` does not try.
-MORE = "more-wrong-bodies"
 # The folder of a crate with the examples of its definitions, one file for each file of specs/. No example is a use of anything.
 EXAMPLES = "proofs/examples"
 
@@ -32,11 +30,6 @@ def sources(folder):
     """The files of a crate's src/, without those of tests."""
     files = sorted(folder.glob("src/**/*.rt"))
     return [it for it in files if "tests" not in it.relative_to(folder).with_suffix("").parts]
-
-
-def wrong_bodies(folder, names="*"):
-    """The wrong bodies of a crate: those that `rt ci` tries, and those that are tried before a release."""
-    return sorted(it for place in ("must-fail", MORE) for it in folder.glob(f"{place}/{names}.edit"))
 
 
 def public_types(files):

@@ -1,7 +1,8 @@
-"""How a wrong body and its control are read, and what is told of those that are tried: over a stand-in for `rt`."""
+"""What is told of the wrong bodies and the controls that are tried: over a stand-in for `rt`."""
 import controls
+from edits import MORE
 from planted import TreeTest
-from repository import MORE, read
+from repository import read
 
 FOLDER = "crates/numbers"
 SOURCE, EDIT = f"{FOLDER}/src/lib.rt", f"{FOLDER}/must-fail/one.is_two.edit"
@@ -26,30 +27,15 @@ class Controls(TreeTest):
         super().setUp()
         self.stand_in_for_rt(RT)
 
-    def applied(self, text, is_right=False):
-        """The texts that a wrong body of this text makes, or its control, by their paths."""
-        self.write(EDIT, text)
-        return {str(file.relative_to(self.root / FOLDER)): made for file, made in controls.applied(self.root / EDIT, is_right).items()}
-
-    def test_each_replacement_is_made_on_what_the_ones_before_made(self):
-        several = f"{PAIR}{RIGHT}old: fn one\nnew: fn first\nfile: src/more.rt\nold: a\nnew: b\nold: b\nnew: c\n# right:\n"
-        self.write(f"{FOLDER}/src/more.rt", "a\n")
-        for is_right, first, more in ((False, "2", "c\n"), (True, "{ 1 }", "\n")):
-            due = {"src/lib.rt": f"fn first() {{\n    {first}\n}}\n\nfn other() {{\n    3\n}}\n", "src/more.rt": more}
-            self.assertEqual(self.applied(several, is_right), due)
-
-    def test_what_is_no_wrong_body_or_stands_not_once_is_refused(self):
-        old, new = PAIR.splitlines()[1:]
-        for text in (f"{old}\n{new}\n", f"file: src/lib.rt\n{new}\n", f"file: src/lib.rt\n{old}\n", f"{PAIR}right: 1\n", RIGHT + PAIR,
-                     PAIR + PAIR, f"{PAIR}{RIGHT}{RIGHT}", "file: src/lib.rt\nold: fn\nnew: f\n", PAIR.replace("lib.rt", "none.rt")):
-            with self.subTest(text), self.assertRaises(ValueError):
-                self.applied(text)
-
     def test_a_control_has_to_prove(self):
         proves = "numbers one.is_two: the control proves\n1 are as they have to be, 0 are not\n"
         self.assertEqual(self.told(controls), (False, proves))
-        with self.changed((EDIT, None), (EDIT.replace("must-fail", MORE), PAIR + RIGHT)):
+        with self.changed((EDIT, None), (f"{FOLDER}/{MORE}", f"\n## one\n\n### is_two\n{PAIR}{RIGHT}")):
             self.assertEqual(self.told(controls, "numbers"), (False, proves))
+            told = "numbers one.is_two: the wrong body is refused: note: src/lib.rt:2:5: open\n" + proves.replace("1 are", "2 are")
+            self.assertEqual(self.told(controls, "numbers", "--edits", "one"), (False, told))
+            # (the name is that of the function, and not a part of it)
+            self.assertTrue(self.told(controls, "numbers", "--edits", "on")[0])
         with self.changed((EDIT, r"\{ 1 \}", "{ 2 }")):
             refused = "numbers one.is_two: the control is refused: note: src/lib.rt:2:5: open\n0 are as they have to be, 1 are not\n"
             self.assertEqual(self.told(controls, "numbers"), (True, refused))

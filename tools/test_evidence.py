@@ -1,7 +1,7 @@
 """Which functions a wrong body is asked for, how it is named, what it touches, and what has to refuse it."""
 import evidence
+from edits import MORE
 from planted import TreeTest
-from repository import MORE
 
 SOURCE = """\
 pub struct Number {
@@ -130,12 +130,38 @@ class Evidence(TreeTest):
             ("numbers doubled.is_once: no line of a wrong body: what: 1", (f"{FOLDER}/doubled.is_once.edit", END, "what: 1\n")),
         )
 
-    def test_those_of_the_other_folder_count_and_have_to_fit(self):
-        here, there = f"{FOLDER}/doubled.is_once.edit", f"crates/numbers/{MORE}/doubled.is_once.edit"
-        lacks = "numbers doubled.is_once: src/lib.rt does not have this once: three"
-        self.assert_finds(evidence, ("", (here, None), (there, ONCE)),
-                          (lacks, (here, None), (there, "file: src/lib.rt\nold: three\nnew: 3\n")),
-                          (NO_NAME("is_once"), (there.replace("doubled.", ""), ONCE)))
+    def test_those_of_the_file_count_and_have_to_fit(self):
+        here, there = f"{FOLDER}/doubled.is_once.edit", f"crates/numbers/{MORE}"
+        page = f"# Wrong bodies.\n\n## doubled\n\n### is_once\n{ONCE}"
+        self.assert_finds(
+            evidence,
+            ("", (here, None), (there, page)),
+            ("numbers doubled.is_once: src/lib.rt does not have this once:     value + value\n",
+             (here, None), (there, page), (FILE, r"    value \+ value", "    2 * value")),
+            ("numbers doubled.is_once: src/lib.rt does not have this once: three", (here, None), (there, page.replace("    value + value", "three"))),
+            (MISSING("numbers doubled", 1), (here, None), (there, page.partition("\n##")[0])),
+            ("numbers doubled.: no wrong body stands here", (here, None), (there, page.partition("\n###")[0])),
+            ("numbers doubled.is_once: no line of a wrong body: what: 1", (here, None), (there, f"{page}what: 1\n")),
+        )
+
+    def test_a_heading_is_the_name_of_a_function(self):
+        there, page = f"crates/numbers/{MORE}", f"\n## doubled\n\n### is_two\n{ONCE}".replace
+        # (`Number.doubled` is a name of the function too, but not the shortest; a part of a name in front is none)
+        self.assert_finds(evidence, ("", (there, page("", "").partition("\n##")[0])), *(
+            (NO_NAME(f"{it}.is_two"), (there, page("doubled", it))) for it in ("tripled", "twice", "double", "Number.doubled", "doubled.more")))
+        self.assert_finds(
+            evidence,
+            (NO_NAME("tripled."), (there, page("doubled", "tripled").partition("\n###")[0])),
+            (NO_NAME(f"above all headings of {MORE}"), (there, page("## doubled\n", ""))),
+            (NO_NAME(f"above all headings of {MORE}"), (there, ONCE + page("", ""))),
+        )
+
+    def test_a_name_is_given_once(self):
+        there, page = f"crates/numbers/{MORE}", f"\n## doubled\n\n### is_once\n{ONCE}"
+        twice = "numbers doubled.is_once: another wrong body has this name\n"
+        self.assert_finds(evidence, (twice, (there, page)), (twice, (f"{FOLDER}/doubled.is_once.edit", None), (there, page + page)))
+        with self.changed((there, page.replace("is_once", "is_two"))):
+            self.assertEqual(self.told(evidence), (False, "2 functions have 3 wrong bodies\n"))
 
     def test_the_type_and_the_trait_tell_equal_names_apart(self):
         letter = SOURCE.replace("Number", "Letter").partition("\nfn twice")[0]
@@ -278,10 +304,11 @@ class Refusals(TreeTest):
                               self.told_of("plain.is_one", STORED.format(name, "expected another"))[1])
             self.assertIn("refused neither by a goal", self.told_of("plain.is_one", "the machine stopped")[1])
 
-    def test_those_of_the_other_folder_are_tried_in_a_copy_and_in_no_log(self):
+    def test_those_of_the_file_are_tried_in_a_copy_and_in_no_log(self):
         self.stand_in_for_rt(RT)
-        path, source = f"crates/moves/{MORE}/plain.is_two.edit", "crates/moves/src/lib.rt"
-        self.write(path, "file: src/lib.rt\nold:     0\nnew:     2\n")
+        path, source = f"crates/moves/{MORE}", "crates/moves/src/lib.rt"
+        page = "\n## plain\n\n### is_two\nfile: src/lib.rt\nold:     0\nnew:     2\n"
+        self.write(path, page)
         self.assertEqual(self.told_of(), (False, "3 functions have 4 wrong bodies\n"))
         for words in (["--more"], ["--more", "moves"]):
             is_bad, said = self.told(evidence, *words)
@@ -291,14 +318,14 @@ class Refusals(TreeTest):
                 ("moves plain.is_two: the log does not say that it is refused", (path, "2", "0 + 0")),
                 ("moves plain.is_two: no line of a wrong body: right: 0", (path, END, "right: 0\n")),
                 ("moves plain.is_two: refused at src/lib.rt:13, where nothing is", (source, "^fn move", "fn f() {\n    9\n}\n\n\n\n\n\nfn move")),
+                ("", (path, "new:     2", "new:\n    2")),
                 words=words)
         self.assertEqual(self.told(evidence, "--more", "none"), (True, f"no wrong bodies are in crates/none/{MORE}"))
         # (of two crates both are tried where none is named, and that which is named alone)
         other = path.replace("moves", "others")
-        for text in ("file: src/lib.rt\nold:     0\nnew:     2\n", "file: src/lib.rt\nold:     0\nnew:     0 + 0\n"):
-            is_refused = text.endswith("2\n")
+        for text in (page, page.replace("2\n", "0 + 0\n")):
             with self.changed(("crates.txt", "moves:\nothers:\n"), ("crates/others/src/lib.rt", COUNTED), (other, text)):
                 for words, is_seen in ((["--more"], True), (["--more", "others"], True), (["--more", "moves"], False)):
                     is_bad, said = self.told(evidence, *words)
-                    self.assertEqual((is_bad, "must-fail others/" in said), (is_seen and not is_refused, is_seen), words)
+                    self.assertEqual((is_bad, "must-fail others/" in said), (is_seen and text != page, is_seen), words)
         self.assertTrue((self.root / path).exists() and (self.root / MOVES / "plain.is_one.edit").exists())
