@@ -40,4 +40,3 @@ pub fn escape<const N: usize>(text: &str) -> Result<ArrayString<N>, Error>
     text_fits(&line);
     Ok(line)
 }
-

@@ -1,7 +1,7 @@
 //! The uses of walks, fields, maps keyed by strings, borrowed texts, numbers that are read back and escapes, on values
 //! worked out by hand.
 use crate::borrowed::{
-    has_bytes_of, is_get, is_text, order, same_text, size_of_string, size_of_text,
+    behind, has_bytes_of, is_get, is_text, order, same_text, size_of_string, size_of_text,
 };
 use crate::escapes::escape;
 use crate::fields::{count_fields, value_of, version};
@@ -131,7 +131,11 @@ fn a_string_is_lent(rt: HostRuntime) {
         agree(&rt, order(&string, other), wanted);
         agree(&rt, is_text(&string, other), same);
         agree(&rt, has_bytes_of(&string, other), same);
-        agree(&rt, same_text(&string, &ArrayString::<9>::from_str(other)), same);
+        agree(
+            &rt,
+            same_text(&string, &ArrayString::<9>::from_str(other)),
+            same,
+        );
         agree(&rt, size_of_string(&string), text.len());
         agree(&rt, size_of_text(other), other.len());
     }
@@ -140,10 +144,32 @@ fn a_string_is_lent(rt: HostRuntime) {
 }
 
 #[test]
+fn a_prefix_is_taken_off(rt: HostRuntime) {
+    for (text, prefix, wanted) in [
+        ("éab", "é", Some("ab")),
+        ("ab", "", Some("ab")),
+        ("ab", "ab", Some("")),
+        ("ab", "abc", None),
+        ("è", "é", None),
+        ("", "", Some("")),
+    ] {
+        agree(&rt, behind(text, prefix), wanted);
+    }
+}
+
+#[test]
 fn numbers_are_read_back(rt: HostRuntime) {
-    agree(&rt, read_u8(&ArrayString::<8>::from_str("255")).ok(), Some(255));
+    agree(
+        &rt,
+        read_u8(&ArrayString::<8>::from_str("255")).ok(),
+        Some(255),
+    );
     agree(&rt, read_u8(&ArrayString::<8>::from_str("256")).ok(), None);
-    agree(&rt, read_i8(&ArrayString::<8>::from_str("-128")).ok(), Some(-128));
+    agree(
+        &rt,
+        read_i8(&ArrayString::<8>::from_str("-128")).ok(),
+        Some(-128),
+    );
     agree(&rt, read_i8(&ArrayString::<8>::from_str("128")).ok(), None);
     let least = read_i64(&ArrayString::<24>::from_str("-9223372036854775808"));
     agree(&rt, least.ok(), Some(i64::MIN));
