@@ -61,27 +61,32 @@ fn make_value(rt: &(impl Print + AllocGlobal), text: &str) -> io::Result<()> {
     }
 }
 
-/// Puts 24 users into a directory, one by one in ascending order. The username of each is a letter, and
-/// its role is that letter in upper case. One that is refused is put in again.
+/// Puts 24 users into a directory, one by one in ascending order. One that is refused is put in again.
 fn make_directory(rt: &(impl Print + AllocGlobal)) -> io::Result<()> {
     let mut users = Directory::new(rt.alloc());
     for letter in "a b c d e f g h i j k l m n o p q r s t u v w x".split(' ') {
-        let mut role: ArrayString<5> = ArrayString::from_str_truncate(letter);
-        role.make_ascii_uppercase();
-        let Ok(user) = User::new(letter, role.as_str()) else {
-            return Err(ErrorKind::InvalidData.into());
-        };
-        if users.insert(user).is_err() {
+        if !is_inserted(&mut users, letter) {
             println!(rt;
                 "insert: {letter} is refused, the users are {}",
                 list_of(&users)
             )?;
-            if users.insert(user).is_err() {
+            if !is_inserted(&mut users, letter) {
                 println!(rt; "insert: {letter} is refused again")?;
             }
         }
     }
     println!(rt; "insert: the users are {}", list_of(&users))
+}
+
+/// Puts in the user whose username is a letter and whose role is the same in upper case, and returns
+/// whether there was memory for it.
+fn is_inserted(users: &mut Directory, letter: &str) -> bool {
+    let mut role: ArrayString<5> = ArrayString::from_str_truncate(letter);
+    role.make_ascii_uppercase();
+    match User::new(letter, role.as_str()) {
+        Ok(user) => users.insert(user).is_ok(),
+        Err(_) => false,
+    }
 }
 
 /// The usernames and roles, one behind the other.
