@@ -1,5 +1,5 @@
 -- Laws of std's calls over a `&str`, which speak of bytes, said of the characters.
-use Rattle.std.proofs.Common.{◌≡◌, ◌≢◌, ◌⊎◌, ℕ, List, Bool, true, false, inl, inr, refl, sym, ap, ◌∙◌, IsUtf8, chars, length}
+use Rattle.std.proofs.Common.{◌≡◌, ◌≢◌, ◌⊎◌, ℕ, List, true, false, inl, inr, refl, sym, ap, ◌∙◌, IsUtf8, chars, length}
 use Rattle.std.specs.Ordering.{nat_cmp}
 use Rattle.std.specs.Bool.{nat_eq}
 use Rattle.std.specs.Cmp.Lexicographic.{slice_cmp, bytes_decides, pointwise}

@@ -1,9 +1,9 @@
 -- Laws of a text that is split again and again where a character stands.
-use Rattle.std.proofs.Common.{◌≡◌, ℕ, ◌<◌, ◌+◌, List, [], ◌∷◌, ◌++◌, refl, sym, ap, ◌∙◌, arith, IsUtf8, chars, length, take, drop, Some, None, eq-eqb, true, false, Bool, length-drop, length-append, length-take-le, ◌≤◌}
+use Rattle.std.proofs.Common.{◌≡◌, ℕ, ◌<◌, ◌+◌, List, [], ◌∷◌, ◌++◌, refl, sym, ap, ◌∙◌, arith, IsUtf8, chars, length, take, drop, Some, eq-eqb, true, false, Bool, length-drop, length-append, length-take-le, ◌≤◌}
 use Rattle.std.specs.Prelude.{◌==◌, if◌then◌else◌}
 use Rattle.std.specs.Char.{encode_utf8, len_utf8}
-use Rattle.std.specs.Str.{NonePass, NoCharPasses, encode_utf8_all}
-use Rattle.std.specs.Str.Pattern.{FindsChar, HasCharAt, SplitsAroundMatch}
+use Rattle.std.specs.Str.{NonePass, NoCharPasses}
+use Rattle.std.specs.Str.Pattern.{HasCharAt}
 use Rattle.std.proofs.lemmas.Str.{encodes-chars, encodes_same, length-encode, len_utf8_bounds, IsUtf8-drop}
 use Rattle.std.specs.Borrow.{Bor}
 use Rattle.arraystring_base.proofs.FindLaws.{split_once-first}

@@ -1,13 +1,13 @@
 -- Laws of std's maps whose keys are strings: what is under each text after a call that changes what is under one.
-use Rattle.std.proofs.Common.{◌≡◌, ◌≢◌, ◌⊎◌, ℕ, List, Bool, true, false, Option, inl, inr, refl, sym, ap, ◌∙◌}
+use Rattle.std.proofs.Common.{◌≡◌, ◌≢◌, ◌⊎◌, ℕ, List, Bool, true, false, inl, inr, refl, sym, ap, ◌∙◌}
 use Rattle.std.specs.BTreeMap.{is_at}
-use Rattle.std.specs.Map.{lookup, KeepsOthers, IsKeyTest, AreApart}
-use Rattle.std.specs.Ordering.{nat_cmp, is_eq, eq_by_cmp}
+use Rattle.std.specs.Map.{lookup, KeepsOthers}
+use Rattle.std.specs.Ordering.{nat_cmp, eq_by_cmp}
 use Rattle.std.specs.Cmp.Lexicographic.{slice_cmp, bytes_decides, texts_ties, pointwise}
 use Rattle.std.specs.Str.{bytes_eq}
 use Rattle.std.specs.Bool.{nat_eq}
 use Rattle.std.specs.Borrow.{Bor}
-use Rattle.std.proofs.lemmas.Bool.{cases_Bool}
+use Rattle.std.proofs.lemmas.Bool.{cases_Bool, false_from_ne_true}
 use Rattle.std.proofs.lemmas.Cmp.{nat_list_eq_equiv}
 use Rattle.arraystring_core.specs.Stored.{Stored}
 
@@ -17,19 +17,15 @@ After test query text t old new =
     ((t ≡ text) × (lookup query new ≡ lookup test new) × (lookup query old ≡ lookup test old))
     ⊎ ((t ≢ text) × (lookup query new ≡ lookup query old))
 
-module _ {V : Type 0} (eq : Stored → Stored → Bool) (test : Stored → Bool) where
-  others : (old new : List (Stored × V)) → KeepsOthers eq test old new → (other : Stored → Bool) → IsKeyTest eq other → AreApart test other
-      → lookup other new ≡ lookup other old
-  unfolding KeepsOthers
-  others old new keeps = keeps
-
--- what is another text for a third
+-- of two texts that differ, a third is at most one
 apart : (a b k : List ℕ) → bytes_eq a b ≡ false → bytes_eq a k ≡ true → bytes_eq b k ≡ false
-apart a b k differ same = nat_list_eq_equiv.symm b k ∙ sym (nat_list_eq_equiv.congr a k b same) ∙ differ
+apart a b k differ same =
+    false_from_ne_true _ (λ e. absurd (cc (differ, (bytes_decides a b).1 ((bytes_decides a k).0 same ∙ sym ((bytes_decides b k).0 e)))))
 
 -- `by` says how a map looks for a text
 module _ {V : Type 0} (by : List ℕ → Stored → Bool) (is : (l : List ℕ) (k : Stored) → by l k ≡ bytes_eq l k.text) (text t : List ℕ) where
   after : (old new : List (Stored × V)) → KeepsOthers (λ a b. by a.text b) (by text) old new → After (by text) (by t) text t old new
+  unfolding KeepsOthers
   after old new keeps = go (cases_Bool (bytes_eq text t))
     where
       go : (bytes_eq text t ≡ true) ⊎ (bytes_eq text t ≡ false) → After (by text) (by t) text t old new
@@ -37,7 +33,7 @@ module _ {V : Type 0} (by : List ℕ → Stored → Bool) (is : (l : List ℕ) (
           let e : t ≡ text = sym ((bytes_decides text t).0 y) in inl (e, ap (λ l. lookup (by l) new) e, ap (λ l. lookup (by l) old) e)
       go (inr n) = inr (
         λ e. absurd (cc (n, (bytes_decides text t).1 (sym e))),
-        others (λ a b. by a.text b) (by text) old new keeps (by t)
+        keeps (by t)
             (λ x y same. is t y ∙ nat_list_eq_equiv.congr t x.text y.text (sym (is t x) ∙ same) ∙ sym (is x.text y))
             (λ k same. is t k ∙ apart text t k.text n (sym (is text k) ∙ same)),
       )

@@ -28,6 +28,7 @@ pub mod WalkLaws
 pub mod FieldLaws
 pub mod KeyedLaws
 pub mod BorrowedLaws
+pub mod PrefixLaws
 pub mod ReadBackLaws
 pub mod Rules
 mod examples

@@ -1,9 +1,8 @@
 -- Laws of a number that is read back from the text that `write!` makes of it.
-use Rattle.std.proofs.Common.{◌≡◌, ◌≢◌, ℕ, suc, zero, ◌<◌, ◌≤◌, ◌^◌, List, [], ◌∷◌, ◌++◌, length, get_or, refl, ap, sym, subst, ◌∙◌, Result, Ok, IsUtf8, chars, arith, lit≤}
+use Rattle.std.proofs.Common.{◌≡◌, ◌≢◌, ℕ, ◌<◌, ◌≤◌, ◌^◌, List, [], ◌∷◌, get_or, refl, ap, sym, subst, ◌∙◌, Result, Ok, IsUtf8, chars, arith}
 use Rattle.std.specs.Fmt.{decimal, signed_decimal}
 use Rattle.std.specs.Char.{digit_value}
 use Rattle.std.specs.Result.{OkIff}
-use Rattle.std.specs.Str.{IsAscii}
 use Rattle.std.specs.Str.Parse.{without_leading_plus, digits_value, IsNumeral, ParsesSigned}
 use Rattle.std.proofs.lemmas.Fmt.{IsAscii-decimal_wide, IsAscii-signed, decimal_is_IsNumeral_wide, parse-signed_decimal}
 use Rattle.std.proofs.lemmas.Result.{Ok-from_Ok_iff}

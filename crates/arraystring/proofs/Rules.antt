@@ -24,6 +24,7 @@ use Rattle.arraystring.proofs.WalkLaws.{walked-on, walked-out}
 use Rattle.arraystring.proofs.FieldLaws.{fields-found, fields-none, fields-count}
 use Rattle.arraystring.proofs.KeyedLaws.{ordered-put, hashed-put, ordered-out, hashed-out}
 use Rattle.arraystring.proofs.BorrowedLaws.{borrowed-same, borrowed-order, borrowed-length}
+use Rattle.arraystring.proofs.PrefixLaws.{prefix-found, prefix-bytes}
 use Rattle.arraystring.proofs.ReadBackLaws.{number-read, signed-read}
 
 -- appends, each whole or refused, one after the other
@@ -118,3 +119,6 @@ pub ruleset borrowed = (borrowed-same, borrowed-order, borrowed-length)
 
 -- a number that `parse` reads back from its digits
 pub ruleset read_back = (number-read, signed-read)
+
+-- what stands behind a text that `strip_prefix` takes off
+pub ruleset prefixes = (prefix-found, prefix-bytes)

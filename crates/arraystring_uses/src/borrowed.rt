@@ -1,5 +1,5 @@
 //! A string that is lent to std as a `&str`, whose contracts speak of bytes.
-ghost use Rattle.std.specs.Prelude.{◌≡◌, ◌↔◌, IsTrue, chars, codes};
+ghost use Rattle.std.specs.Prelude.{◌≡◌, ◌≢◌, ◌↔◌, ◌++◌, ℕ, List, IsTrue, IfNone, IfSome, chars, codes};
 ghost use Rattle.std.specs.Cmp.Lexicographic.{slice_cmp};
 ghost use Rattle.std.specs.Ordering.{nat_cmp};
 ghost use Rattle.arraystring.specs.Text.{size};
@@ -61,4 +61,13 @@ pub fn size_of_string<const N: usize>(string: &ArrayString<N>) -> usize
     ensures { result ≡ size string.now.text }
 {
     string.as_str().len()
+}
+
+/// Returns what stands behind `prefix` in a text, or `None` if the text does not begin with `prefix`.
+#[tactic(auto, using(arraystring::proofs::Rules::prefixes))]
+pub fn behind<'a>(text: &'a str, prefix: &str) -> Option<&'a str>
+    ensures some { IfSome result (λ rest. chars text.now ≡ chars prefix.now ++ chars rest.now) }
+    ensures none { IfNone result ((rest : List ℕ) → chars text.now ≢ chars prefix.now ++ rest) }
+{
+    text.strip_prefix(prefix)
 }

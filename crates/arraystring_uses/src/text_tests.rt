@@ -1,7 +1,7 @@
 //! The uses of walks, fields, maps keyed by strings, borrowed texts, numbers that are read back and escapes, on values
 //! worked out by hand.
 use crate::borrowed::{
-    has_bytes_of, is_get, is_text, order, same_text, size_of_string, size_of_text,
+    behind, has_bytes_of, is_get, is_text, order, same_text, size_of_string, size_of_text,
 };
 use crate::escapes::escape;
 use crate::fields::{count_fields, value_of, version};
@@ -141,6 +141,20 @@ fn a_string_is_lent(rt: HostRuntime) {
     }
     agree(&rt, is_get(&ArrayString::<3>::from_str("GET")), true);
     agree(&rt, is_get(&ArrayString::<3>::from_str("get")), false);
+}
+
+#[test]
+fn a_prefix_is_taken_off(rt: HostRuntime) {
+    for (text, prefix, wanted) in [
+        ("éab", "é", Some("ab")),
+        ("ab", "", Some("ab")),
+        ("ab", "ab", Some("")),
+        ("ab", "abc", None),
+        ("è", "é", None),
+        ("", "", Some("")),
+    ] {
+        agree(&rt, behind(text, prefix), wanted);
+    }
 }
 
 #[test]
