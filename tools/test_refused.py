@@ -84,7 +84,7 @@ class Refused(TreeTest):
         self.assertEqual(refused.main(["arraystring"], ROOT), "arraystring is none of arraystring_cli, memory_tests")
 
     def test_each_call_that_memory_can_run_out_in_is_refused(self):
-        named = re.search(r"Memory can run out in (.*?);", read(ROOT / "docs/not_proved.md"), re.S)[1]
+        named = re.search(r"Memory can run out in (.*?);", read(ROOT / "docs/trust.md"), re.S)[1]
         cases = [it.name for it in refused.CASES["memory_tests"]]
         self.assertEqual({it.rpartition("::")[2] for it in re.findall("`(.*?)`", named)}, {it.removesuffix("_nothing") for it in cases})
         self.assertEqual(re.findall(r'(?m)^    "(\w+)",$', read(ROOT / "crates/memory_tests/src/main.rt")), cases)

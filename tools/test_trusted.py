@@ -54,7 +54,7 @@ pub fn length_of(line: &Line) -> u8
 }
 """
 PAGE = """\
-## The words of `run`
+## The table of edits
 
 |Definition|What|Example|Behind it|
 |---|---|---|---|
@@ -89,7 +89,7 @@ LIST, FILE, END = "crates/base/specs/Lib.antt", "crates/base/specs/Words.antt", 
 OF_WORDS, OF_ROWS = "crates/base/proofs/examples/Words.antt", "crates/base/proofs/examples/Rows.antt"
 RUN, USER = "crates/base/src/lib.rt", "crates/user/src/lib.rt"
 IN_ORDER = ["IsShort", "limit", "rest_of"]
-LIBRARIES = list(trusted.LIBRARIES)
+LIBRARIES, IS_EDIT = list(trusted.LIBRARIES), trusted.is_edit
 
 
 class Trusted(TreeTest):
@@ -107,9 +107,10 @@ class Trusted(TreeTest):
 
     def setUp(self):
         super().setUp()
-        libraries = mock.patch.object(trusted, "LIBRARIES", ["base", "user"])
-        libraries.start()
-        self.addCleanup(libraries.stop)
+        for name, value in (("LIBRARIES", ["base", "user"]), ("is_edit", lambda it: True)):
+            patch = mock.patch.object(trusted, name, value)
+            patch.start()
+            self.addCleanup(patch.stop)
 
     def reached(self, of_run=False):
         """The names of the definitions that --list tells of all public contracts, or of `run` alone, in order."""
@@ -122,7 +123,8 @@ class Trusted(TreeTest):
         self.assertEqual(self.told(trusted), (False, counts))
         self.assertEqual(self.reached(of_run=True), IN_ORDER)
         listed = self.told(trusted, "--list")[1]
-        self.assertIn(f"{FILE}:4: IsShort: a text is short\n{FILE}:9: limit: how long a short text is at most\n", listed)
+        first = f"{FILE}:4: IsShort: a text is short\n    IsShort []\n    IsShort (1 ∷ 2 ∷ 3 ∷ []) → ⊥\n"
+        self.assertIn(f"{first}{FILE}:9: limit: how long a short text is at most\n    limit ≡ 3\n", listed)
 
     def test_the_block_around_a_definition_belongs_to_it(self):
         with self.changed(("crates/base/specs/Rows.antt", r" \(short : IsShort t\)", "")):
@@ -239,7 +241,13 @@ class Trusted(TreeTest):
             with self.changed((RUN, line.replace("    ghost invariant", f"    ghost use {other};\n    ghost invariant"))):
                 self.assertEqual(self.reached(), ["limit"])
 
-    def test_the_page_has_the_definitions_of_run_in_order(self):
+    def test_a_row_of_the_table_of_edits_is_one_by_what_it_makes(self):
+        types = {"addition : List ℕ → ℕ → Edit (Unit {0})": True, "clearing : Edit (Unit {0})": True, "result_of : {X : Type 0} → Edit X → X": False,
+                 "cut : List ℕ → ℕ → List ℕ": False}
+        for line, wanted in types.items():
+            self.assertEqual(IS_EDIT(mock.Mock(lines=[f"abbrev pub {line}"])), wanted, line)
+
+    def test_the_page_has_the_edits_of_run_in_order(self):
         in_the_place = f"{trusted.PAGE} has {{}} in the place of {{}}\n".format
         self.assert_finds(
             trusted,

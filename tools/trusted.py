@@ -2,8 +2,8 @@
 
 tools/run trusted           how many definitions the contract of `run` reaches, and how many lines they have; then the same of all
                             public contracts of the LIBRARIES, and of all that there are
-tools/run trusted --list    also prints them with their comments in the order in which to read them: those of `run`, the others of
-                            public contracts of the LIBRARIES, and the rest
+tools/run trusted --list    also prints them with their comments and first examples, in the order in which to read them: those of `run`,
+                            the others of public contracts of the LIBRARIES, and the rest
 
 A definition is an `abbrev`, `unfoldable`, `data` or `record` of a module of specs/, but no `abbrev` of an equation or of a
 comparison. Its lines go from its name to its last clause, without comments and blank lines. What std defines is none, nor what
@@ -18,8 +18,8 @@ is named as that of the definition. No example is followed: a definition that on
 
 It fails at what is no definition in specs/, but in modules named GhostProofs (`rt` stops at a call of a tactic there); at a
 definition that has no comment, or that no contract and no law reaches, where a law is what is `pub` in a module `..Laws`; at a
-definition of a public contract of the LIBRARIES that has no example; where the tables of PAGE are not of the definitions of `run` in
-order; and where a row of PAGE has something else in its column `Example` than what examples of its definitions state, or a part of it.
+definition of a public contract of the LIBRARIES that has no example; where the table of PAGE is not of the edits of `run` in order; and
+where a row of it has something else in its column `Example` than what examples of its definitions state, or a part of it.
 """
 import re
 import sys
@@ -30,8 +30,8 @@ from modules import NAME, Modules, imports
 from repository import EXAMPLES, closed, crates, inline_code, public_types, read, section, sources
 
 LIBRARIES = ["arraystring_base", "arraystring_core", "arraystring", "arraystring_run", "bounded_records"]
-PAGE = "docs/definitions.md"
-TABLES = "The words of `run`"
+PAGE = "docs/trust.md"
+TABLE = "The table of edits"
 FUNCTION = r"(?:pub(?:\(\w+\))? |const |unsafe )*fn "
 
 Contract = namedtuple("Contract", "name is_public signature words")
@@ -83,24 +83,35 @@ def rows_of(page):
             yield re.findall(r"`([^\s`]+)[^`]*`", row[1]), inline_code(dict(zip(head, row)).get("Example", ""))
 
 
-def stated(root, item):
-    """What the examples of a definition state, and each part of it: `width 0x80 ≡ 2` of `(width 0x80 ≡ 2) × (width 0x7FF ≡ 2)`."""
+def examples(root, item):
+    """What the examples of a definition state."""
     file = root / item.path.parents[1] / EXAMPLES / item.path.name
-    examples = re.findall(rf"(?m)^({NAME}) : (.*(?:\n .*)*)", read(file)) if file.exists() else []
-    whole = [re.sub(r"\n *", " ", it) for name, it in examples if name.startswith(f"{item.name}-")]
+    found = re.findall(rf"(?m)^({NAME}) : (.*(?:\n .*)*)", read(file)) if file.exists() else []
+    return [re.sub(r"\n *", " ", it) for name, it in found if name.startswith(f"{item.name}-")]
+
+
+def stated(root, item):
+    """The same, and each part of it: `width 0x80 ≡ 2` of `(width 0x80 ≡ 2) × (width 0x7FF ≡ 2)`."""
+    whole = examples(root, item)
     return whole + [re.sub(r"^\((.*)\)$", r"\1", part) for it in whole for part in it.split(" × ")]
 
 
+def is_edit(item):
+    """Whether a definition is a row of the table of edits."""
+    return bool(re.search(r" : (.* → )?Edit [^→]*$", item.lines[0]))
+
+
 def faults_of_page(root, headline):
-    """Where the tables of PAGE are not of the definitions of the headline, or quote what is none of their examples."""
-    rows = list(rows_of(section(read(root / PAGE), TABLES)))
-    both = zip_longest([it.name for it in headline], [name for names, _ in rows for name in names])
+    """Where the table of PAGE is not of the edits of the headline, or quotes what is none of their examples."""
+    edits = [it for it in headline if is_edit(it)]
+    rows = list(rows_of(section(read(root / PAGE), TABLE)))
+    both = zip_longest([it.name for it in edits], [name for names, _ in rows for name in names])
     first = next((f"{PAGE} has {name} in the place of {it}" for it, name in both if it != name), None)
     if first:
         yield first
-    examples = {it.name: stated(root, it) for it in headline}
+    of_edits = {it.name: stated(root, it) for it in edits}
     for names, quoted in rows:
-        of_them = [it for name in names for it in examples.get(name, [])]
+        of_them = [it for name in names for it in of_edits.get(name, [])]
         if of_them and not quoted:
             yield f"{PAGE} quotes no example of {names[0]}"
         for code in quoted:
@@ -122,9 +133,10 @@ def main(arguments, root):
     for name, found in (("run", headline), ("all public contracts", everything), ("all of specs/", all_of_them)):
         print(f"{name}: {len(found)} definitions, {sum(len(it.lines) for it in found)} lines")
         if arguments == ["--list"]:
-            print("".join(f"{it}: {it.comment}\n" for it in found if it not in listed))
+            print("".join(f"{line}\n" for it in found if it not in listed
+                          for line in [f"{it}: {it.comment}", *(f"    {text}" for text in examples(root, it)[:2])]))
         listed += found
-    bare = [f"{it} has no example in {EXAMPLES}/{it.path.name}" for it in everything if not stated(root, it)]
+    bare = [f"{it} has no example in {EXAMPLES}/{it.path.name}" for it in everything if not examples(root, it)]
     faults = [*faults_of_specs(tree, known), *bare, *faults_of_page(root, headline)]
     print("".join(f"{it}\n" for it in faults), end="", file=sys.stderr)
     return bool(faults)

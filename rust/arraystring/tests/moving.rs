@@ -1,6 +1,6 @@
 //! Moving to this crate: what MOVING.md writes for the calls of `String`, arrayvec, heapless and arraystring 0.3.0 is run. (What it says of
 //! arrayvec itself is run by `rust/moves_from_arrayvec` of the repository.) And what is here of 0.3.0 in other words, and the faults of
-//! it in docs/differences.md.
+//! it in docs/DECISIONS.md.
 
 use std::collections::BTreeMap;
 use std::fmt::Write;

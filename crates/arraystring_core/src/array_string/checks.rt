@@ -1,4 +1,4 @@
-//! The tests by which edits are refused. A row of the table of edits (docs/definitions.md) lists them in order. The first
+//! The tests by which edits are refused. A row of the table of edits (docs/trust.md) lists them in order. The first
 //! that holds decides which error is returned.
 ghost use Rattle.std.specs.Prelude.{◌≡◌, ◌+◌, ◌-◌, ◌≤◌, ◌∷◌, []};
 ghost use Rattle.arraystring_base.specs.Text.{cap, size};

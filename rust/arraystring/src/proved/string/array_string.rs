@@ -4,7 +4,7 @@
 //! The modules below have its other calls. `traits` has its impls of traits, and `unchecked` the calls that leave a
 //! test to the caller. These have what the others rest on:
 //!
-//! - `boundary` has the test for a boundary, and `checks` the tests of the table of edits (docs/definitions.md);
+//! - `boundary` has the test for a boundary, and `checks` the tests of the table of edits (docs/trust.md);
 //! - `splice` replaces a part of the text by another;
 //! - `append_at_array_end` appends to a text that may end where its array ends, and `appended_items` what an iterator gives;
 //! - `remove` also takes out a part, a front or an end.

@@ -1,7 +1,7 @@
 // Made from crates/arraystring_core/src/lib.rt by rust/generate.py: change that, and run this.
 //! `ArrayString<N>`, a string of at most `N` bytes of UTF-8 that is stored inline in the value, and
 //! its laws. It allocates nothing, except to make a JSON value. Callers name `arraystring`, which has
-//! its paths. Its tests are in `crates/arraystring_tests`. `docs/definitions.md` reads a contract aloud.
+//! its paths. Its tests are in `crates/arraystring_tests`. `docs/trust.md` reads a contract aloud.
 
 pub mod array_string;
 pub mod drain;

@@ -1,4 +1,4 @@
-//! The table of docs/definitions.md below its example of a contract: each call returns and leaves what the page says.
+//! The table of docs/trust.md below its example of a contract: each call returns and leaves what the page says.
 
 use std::fs;
 
@@ -15,7 +15,7 @@ fn the_calls_below_a_contract_do_what_the_page_says() {
     if !is_in_the_repository() {
         return;
     }
-    let page = fs::read_to_string("../../docs/definitions.md").expect("a text");
+    let page = fs::read_to_string("../../docs/trust.md").expect("a text");
     let (_, below) = page.split_once("\n|Call|Returns|The text after it|\n|---|---|---|\n").expect("the table");
     let rows: Vec<_> = below.lines().map_while(|line| line.strip_prefix('|')?.strip_suffix('|')).collect();
     assert_eq!(rows.len(), 4);

@@ -1,5 +1,5 @@
 // Made from crates/arraystring_core/src/array_string/checks.rt by rust/generate.py: change that, and run this.
-//! The tests by which edits are refused. A row of the table of edits (docs/definitions.md) lists them in order. The first
+//! The tests by which edits are refused. A row of the table of edits (docs/trust.md) lists them in order. The first
 //! that holds decides which error is returned.
 
 use crate::proved::string::ArrayString;
