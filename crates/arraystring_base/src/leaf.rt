@@ -25,7 +25,7 @@ pub fn byte(bytes: &[u8], at: usize) -> u8
     bytes[at]
 }
 
-/// Writes `K` bytes, which are no vector, from `at` on.
+/// Writes the `K` bytes of an array from `at` on. `put_bytes` writes those of a vector.
 #[inline(always)]
 pub(crate) fn put_array<const K: usize>(all: &mut [u8], at: usize, bytes: [u8; K])
     requires { at + K ≤ length all.old }
@@ -139,7 +139,8 @@ pub(crate) fn move_long_run<const N: usize>(all: &mut [u8], from: usize, to: usi
     }
 }
 
-/// Moves `len` bytes, from `2 * K` to `4 * K` of them: two times `K` at each end, which may overlap.
+/// Moves `len` bytes, which are from `2 * K` to `4 * K`: the first `2 * K` and the last `2 * K`, each as two vectors. Both may
+/// overlap, so all four vectors are read before the first is written.
 #[inline(always)]
 fn move_pairs<const K: usize>(all: &mut [u8], from: usize, to: usize, len: usize)
     requires source { from + len ≤ length all.old }

@@ -71,7 +71,7 @@ pub fn shift_by_call<const N: usize>(
     steps.count_run(from, to, len);
 }
 
-/// Moves `len` bytes: fewer than 16, and at most `N`. The branches for sizes above `N` are left out.
+/// Moves `len` bytes: fewer than 16, and at most `N`. `N` is a constant, so the compiler leaves out the branches for more bytes.
 #[inline(always)]
 fn move_short_run<const N: usize>(all: &mut [u8], from: usize, to: usize, len: usize)
     requires source { from + len ≤ length all.old }
@@ -145,7 +145,7 @@ pub fn write_by_call<const N: usize>(array: &mut [u8; N], at: usize, given: &[u8
     write_bytes(&mut array[..], given, at);
 }
 
-/// Writes `given`: fewer than 16 bytes, and at most `N`. The branches for sizes above `N` are left out.
+/// Writes `given`: fewer than 16 bytes, and at most `N`. The compiler leaves out the branches for more bytes.
 #[inline(always)]
 fn write_short_run<const N: usize>(all: &mut [u8], at: usize, given: &[u8])
     requires room { at + length given.now ≤ length all.old }

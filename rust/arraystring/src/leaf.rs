@@ -58,7 +58,7 @@ pub(crate) fn byte(bytes: &[impl ByteOrPlace], at: usize) -> u8 {
     unsafe { bytes.get_unchecked(at) }.value()
 }
 
-/// Writes `K` bytes, which are no vector, from `at` on.
+/// Writes the `K` bytes of an array from `at` on. `put_bytes` writes those that `bytes_of` read.
 ///
 /// ```text
 /// requires { at + K ≤ length all.old }

@@ -24,6 +24,16 @@ impl<const N: usize> ArrayString<N> {
     /// - `Err(Error::OutOfBounds)` if the range ends past the text;
     /// - `Err(Error::Utf8)` if the start of the range is inside a character;
     /// - `Err(Error::Utf8)` if the end of the range is inside a character.
+    ///
+    /// # Examples
+    ///
+    /// ```
+    /// let mut string = ArrayString::<8>::from("abcdé");
+    /// assert_eq!(string.drain(1..=2).unwrap().as_str(), "bc");
+    /// assert_eq!(string.as_str(), "adé");
+    /// assert_eq!(string.drain(2..9), Err(Error::OutOfBounds)); // past the text
+    /// assert_eq!(string.drain(..3), Err(Error::Utf8)); // inside `é`
+    /// ```
     #[inline]
     pub fn drain<R: RangeBounds<u8> + Drop>(&mut self, range: R) -> Result<Drain<N>, Error>
         ensures { OfReturnedBounds R.has_bounds R.start_bound R.end_bound range (λ start end.

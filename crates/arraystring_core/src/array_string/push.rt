@@ -16,6 +16,15 @@ impl<const N: usize> ArrayString<N> {
     /// # Errors
     ///
     /// Returns `Err(OutOfBounds)` if `ch` does not fit. The text is then unchanged.
+    ///
+    /// # Examples
+    ///
+    /// ```
+    /// let mut string = ArrayString::<4>::from("ab");
+    /// assert_eq!(string.try_push('c'), Ok(()));
+    /// assert_eq!(string.try_push('é'), Err(OutOfBounds)); // one byte is left, and `é` takes two
+    /// assert_eq!(string.as_str(), "abc");
+    /// ```
     #[inline(always)]
     pub fn try_push(&mut self, ch: char) -> Result<(), OutOfBounds>
         ensures { Makes (addition self.old.text (ch ∷ []) (cap N))
@@ -23,7 +32,7 @@ impl<const N: usize> ArrayString<N> {
     {
         let end = self.end();
         if Self::has_room(end, ch) {
-            // One sum for all widths would make a loop of pushes longer.
+            // ASCII has a sum of its own, because one for all widths would make a loop of pushes longer.
             if ch.is_ascii() {
                 self.size += 1;
                 encode(ch, &mut self.array, end);
@@ -47,6 +56,15 @@ impl<const N: usize> ArrayString<N> {
     /// # Errors
     ///
     /// Returns `Err(OutOfBounds)` if not all of `string` fits. The text is then unchanged.
+    ///
+    /// # Examples
+    ///
+    /// ```
+    /// let mut string = ArrayString::<4>::from("ab");
+    /// assert_eq!(string.try_push_str("c"), Ok(()));
+    /// assert_eq!(string.try_push_str("de"), Err(OutOfBounds));
+    /// assert_eq!(string.as_str(), "abc");
+    /// ```
     #[inline]
     pub fn try_push_str(&mut self, string: &str) -> Result<(), OutOfBounds>
         ensures { Makes (addition self.old.text (chars string.now) (cap N))
@@ -66,6 +84,14 @@ impl<const N: usize> ArrayString<N> {
     }
 
     /// Appends the longest prefix of whole characters of `string` that fits.
+    ///
+    /// # Examples
+    ///
+    /// ```
+    /// let mut string = ArrayString::<4>::from("abc");
+    /// string.push_str("dé");
+    /// assert_eq!(string.as_str(), "abcd"); // no room for `é`
+    /// ```
     #[inline]
     pub fn push_str(&mut self, string: &str)
         ensures { Makes (addition_of_cut self.old.text (chars string.now) (cap N))
@@ -91,6 +117,14 @@ impl<const N: usize> ArrayString<N> {
     /// # Precondition
     ///
     /// The iterator must end, and until then the precondition of its `next` must hold.
+    ///
+    /// # Examples
+    ///
+    /// ```
+    /// let mut string = ArrayString::<4>::from("ab");
+    /// string.extend_chars("cdef".chars());
+    /// assert_eq!(string.as_str(), "abcd");
+    /// ```
     #[inline]
     pub fn extend_chars<I: IntoIterator<Item = char> + Drop>(&mut self, characters: I)
         requires { IsFiniteIterable I.into_iter_gives I.IntoIter.can_next
@@ -113,6 +147,14 @@ impl<const N: usize> ArrayString<N> {
     /// # Precondition
     ///
     /// The iterator must end, and until then the precondition of its `next` must hold.
+    ///
+    /// # Examples
+    ///
+    /// ```
+    /// let mut string = ArrayString::<8>::from("one");
+    /// string.extend_strs([" two", " three"]);
+    /// assert_eq!(string.as_str(), "one two ");
+    /// ```
     #[inline]
     pub fn extend_strs<'a, I: IntoIterator<Item = &'a str> + Drop>(&mut self, pieces: I)
         requires { IsFiniteIterable I.into_iter_gives I.IntoIter.can_next

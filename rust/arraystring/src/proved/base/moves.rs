@@ -50,7 +50,7 @@ pub fn shift_by_call<const N: usize>(
     move_bytes(array, from, to, len);
 }
 
-/// Moves `len` bytes: fewer than 16, and at most `N`. The branches for sizes above `N` are left out.
+/// Moves `len` bytes: fewer than 16, and at most `N`. `N` is a constant, so the compiler leaves out the branches for more bytes.
 #[inline(always)]
 fn move_short_run<const N: usize>(all: &mut [crate::leaf::Place], from: usize, to: usize, len: usize) {
     if N >= 4 && len >= 4 {
@@ -102,7 +102,7 @@ pub fn write_by_call<const N: usize>(array: &mut [crate::leaf::Place; N], at: us
     write_bytes(&mut array[..], given, at);
 }
 
-/// Writes `given`: fewer than 16 bytes, and at most `N`. The branches for sizes above `N` are left out.
+/// Writes `given`: fewer than 16 bytes, and at most `N`. The compiler leaves out the branches for more bytes.
 #[inline(always)]
 fn write_short_run<const N: usize>(all: &mut [crate::leaf::Place], at: usize, given: &[u8]) {
     let len = given.len();

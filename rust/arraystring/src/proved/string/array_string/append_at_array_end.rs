@@ -17,9 +17,9 @@ impl<const N: usize> ArrayString<N> {
     }
 
     /// Moves the text, which is the `size` bytes from `start` on, to the start of the array, writes `ch` behind it, and
-    /// returns the size of both. It stands apart from `try_push`, each of whose calls would be longer. It is given the
-    /// numbers and not the string, so that a loop of pushes keeps them in registers. They come last, because no register
-    /// is then moved for a push.
+    /// returns the size of both. It is a function of its own, so that `try_push` is short where it is inlined. It takes the
+    /// numbers and not the string, so that a loop of pushes keeps them in registers. They are its last parameters, because
+    /// in this order no register has to be moved before the call.
     #[cold]
     #[inline(never)]
     pub(super) fn compact_and_push(

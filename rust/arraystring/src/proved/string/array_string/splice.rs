@@ -14,7 +14,8 @@ impl<const N: usize> ArrayString<N> {
     pub(super) fn splice(&mut self, start: usize, end: usize, given: &str) {
         let (offset, size) = (self.start as usize, self.size as usize);
         let (len, tail) = (given.len(), size - end);
-        // That the text grows follows from the first test. The compiler drops the branch by it if nothing is given.
+        // The second test follows from the first, because only a text that grows can reach past the end. It is for the
+        // compiler, which leaves out the branch where nothing is given, as in a removal.
         if offset + (start + (len + tail)) > Self::capacity() as usize && len > end - start {
             return self.compact_and_splice(start, end, given);
         }
