@@ -108,7 +108,8 @@ class Reader:
         names = self.tree.modules[module_of(file.relative_to(self.root))]
         passed = re.findall(r"(?m)^(?:unfoldable )?pub use [^{;]*\{([^}]*)\}", read(file))
         own = {it.name: it for it in self.tree.items if self.root / it.path == file and "pub " in it.lines[0]}
-        return {word: self.tree.resolved(names, word) for it in passed for word in re.findall(NAME, it)} | own
+        passed = [re.findall(NAME, piece)[-1] for it in passed for piece in it.split(",") if piece.strip()]
+        return {word: self.tree.resolved(names, word) for word in passed} | own
 
     def text(self, item):
         """The lines of an item, as they stand in its file."""
@@ -130,7 +131,7 @@ class Reader:
         modules = self.modules(folder)
         for name, file in modules.items():
             items, others = self.items(file), {*modules.values()} - {file}
-            elsewhere = [word for word, it in items.items() if not it or self.root / it.path in others]
+            elsewhere = [word for word, it in items.items() if not it or it.name != word or self.root / it.path in others]
             also = listed("It also has", elsewhere)[2:] if elsewhere else ""
             told = self.told([it for word, it in items.items() if word not in elsewhere], is_law)
             comment = sentence(re.match(r"(?:--.*\n)*", read(file))[0])
