@@ -10,7 +10,14 @@ use test_support::writer::FakeWriter;
 /// How many bytes wait at most.
 const BLOCK: usize = 8192;
 
-const LETTERS: &str = "abcdefghijklmnopqrstuvw";
+/// The text of a script. The first 23 letters are all of it where no more fit.
+const LETTERS: &str =
+    "abcdefghijklmnopqrstuvwabcdefghijklmnopqrstuvwabcdefghijklmnopqrstuvwabcdefghijklmnopqrstuvw\
+    abcdefghijklmnopqrstuvwabcdefghijklmnopqrstuvwabcdefghijklmnopqrstuvwabcdefghijklmnopqrstuvw\
+    abcdefghijklmnopqrstuvwabcdefghijklmnopqrstuvwabcdefghijklmnopqrstuvw";
+
+/// The letters that are left of the text before it is printed at last.
+const LAST: &str = "abcdefghijklmnopqrstuvw";
 
 /// Adds a line that asks for the first letters, and its reply, which has `size` bytes: `text `, the letters and a
 /// newline.
@@ -21,8 +28,20 @@ fn ask(rt: &impl Abort, script: &mut String, replies: &mut String, size: usize) 
     writeln!(replies, "text {text}").expect(rt, "memory for a reply");
 }
 
+/// The size of the reply that comes after `before` bytes, if `left` are to come: 7 to 29 bytes. If replies may be `long`,
+/// it is 200 to 249 where the end and each end of a block are farther than 100 bytes, so that a script has few lines.
+fn size_of(before: usize, left: usize, at: usize, long: bool) -> usize {
+    let behind = before % BLOCK;
+    let is_far = behind >= 100 && BLOCK.saturating_sub(behind) >= 350 && left >= 350;
+    if long && is_far {
+        200 + at % 50
+    } else {
+        7 + at % 23
+    }
+}
+
 /// A script with replies of so many bytes, at least 41, and the replies. Two lines that follow each other differ.
-fn script_of(rt: &(impl Abort + AllocGlobal), bytes: usize) -> (String, String) {
+fn script_of(rt: &(impl Abort + AllocGlobal), bytes: usize, long: bool) -> (String, String) {
     let mut script = String::new(rt.alloc());
     let mut replies = String::new(rt.alloc());
     writeln!(script, "push_str {LETTERS}").expect(rt, "memory for a line");
@@ -32,7 +51,7 @@ fn script_of(rt: &(impl Abort + AllocGlobal), bytes: usize) -> (String, String) 
         if left < 36 {
             break;
         }
-        let size = 7 + at % 23;
+        let size = size_of(replies.len(), left, at, long);
         ask(rt, &mut script, &mut replies, size);
         left = left.saturating_sub(size);
     }
@@ -45,10 +64,15 @@ fn script_of(rt: &(impl Abort + AllocGlobal), bytes: usize) -> (String, String) 
     (script, replies)
 }
 
-/// A script that prints so many bytes, at least 71, and what it prints. The last line has 30 bytes.
-fn script_that_prints(rt: &(impl Abort + AllocGlobal), bytes: usize) -> (String, String) {
-    let (script, mut wanted) = script_of(rt, bytes.saturating_sub(30));
-    writeln!(wanted, "final {LETTERS}").expect(rt, "memory for the text");
+/// A script that prints so many bytes, at least 76, and what it prints. The last line has 30 bytes.
+fn script_that_prints(
+    rt: &(impl Abort + AllocGlobal),
+    bytes: usize,
+    long: bool,
+) -> (String, String) {
+    let (mut script, mut wanted) = script_of(rt, bytes.saturating_sub(35), long);
+    writeln!(script, "truncate 23").expect(rt, "memory for a line");
+    writeln!(wanted, "done\nfinal {LAST}").expect(rt, "memory for the text");
     agree(rt, "the bytes", wanted.len(), bytes);
     (script, wanted)
 }
@@ -73,13 +97,13 @@ fn outputs_of_each_size_are_written(rt: HostRuntime) {
     for blocks in 1..=2usize {
         for more in 0..=80usize {
             let bytes = (blocks * BLOCK + more).saturating_sub(40);
-            let (script, wanted) = script_that_prints(&rt, bytes);
+            let (script, wanted) = script_that_prints(&rt, bytes, true);
             let wanted = wanted.as_bytes();
             let mut output = FakeWriter::new(rt.alloc(), usize::MAX, None);
-            plays::<23>(&rt, &script, output, Ok(()), wanted);
+            plays::<255>(&rt, &script, output, Ok(()), wanted);
             output = FakeWriter::new(rt.alloc(), usize::MAX, None);
             output.flushes = false;
-            plays::<23>(&rt, &script, output, Err(PlayFault::Write), wanted);
+            plays::<255>(&rt, &script, output, Err(PlayFault::Write), wanted);
         }
     }
 }
@@ -88,7 +112,7 @@ fn outputs_of_each_size_are_written(rt: HostRuntime) {
 /// interrupted there, all is written.
 #[test]
 fn writes_that_fail_near_a_block_are_reported(rt: HostRuntime) {
-    let (script, wanted) = script_that_prints(&rt, 2 * BLOCK + 100);
+    let (script, wanted) = script_that_prints(&rt, 2 * BLOCK + 100, true);
     let whole = wanted.as_bytes();
     for near in [BLOCK, 2 * BLOCK, whole.len()] {
         for more in 0..=80usize {
@@ -99,14 +123,14 @@ fn writes_that_fail_near_a_block_are_reported(rt: HostRuntime) {
             for kind in [Some(ErrorKind::Other), None] {
                 let output = FakeWriter::new(rt.alloc(), taken, kind);
                 let outcome = Err(PlayFault::Write);
-                plays::<23>(&rt, &script, output, outcome, &whole[..taken]);
+                plays::<255>(&rt, &script, output, outcome, &whole[..taken]);
             }
             let mut output = FakeWriter::new(rt.alloc(), taken, Some(ErrorKind::Interrupted));
-            plays::<23>(&rt, &script, output, Ok(()), whole);
+            plays::<255>(&rt, &script, output, Ok(()), whole);
             output = FakeWriter::new(rt.alloc(), taken, Some(ErrorKind::Interrupted));
             output.faults = 3;
             output.again = 3;
-            plays::<23>(&rt, &script, output, Ok(()), whole);
+            plays::<255>(&rt, &script, output, Ok(()), whole);
         }
     }
 }
@@ -115,7 +139,7 @@ fn writes_that_fail_near_a_block_are_reported(rt: HostRuntime) {
 /// before each write.
 #[test]
 fn what_waits_is_written_in_parts(rt: HostRuntime) {
-    let (script, wanted) = script_that_prints(&rt, 2 * BLOCK + 100);
+    let (script, wanted) = script_that_prints(&rt, 2 * BLOCK + 100, false);
     for step in [
         1, 2, 3, 7, 100, 4095, 4096, 4097, 8190, 8191, 8192, 8193usize,
     ] {
@@ -136,8 +160,8 @@ fn lines_over_the_end_of_a_block_are_written(rt: HostRuntime) {
     for size in [0, 1, 20, 254, 255usize] {
         let text = "z".repeat(rt.alloc(), size).expect(&rt, "memory");
         for before in 0..=size.saturating_add(10) {
-            let (mut script, mut wanted) = script_of(&rt, BLOCK.saturating_sub(before));
-            writeln!(script, "replace_range 0 23 {text}\nas_str\nas_str").expect(&rt, "memory");
+            let (mut script, mut wanted) = script_of(&rt, BLOCK.saturating_sub(before), true);
+            writeln!(script, "replace_range 0 253 {text}\nas_str\nas_str").expect(&rt, "memory");
             writeln!(wanted, "done\ntext {text}\ntext {text}\nfinal {text}").expect(&rt, "memory");
             let output = FakeWriter::new(rt.alloc(), usize::MAX, None);
             plays::<255>(&rt, &script, output, Ok(()), wanted.as_bytes());

@@ -1,4 +1,5 @@
-//! Each use, on values worked out by hand. Those of `edges` only make one call, which has tests of its own.
+//! Uses on values worked out by hand, which show what a clause means. What a clause says of all values has no
+//! other test. Uses of `edges` only make one call, which has tests of its own.
 use crate::chains::{compact, digits_in, digits_of, snake, snake_again, try_compact, try_snake};
 use crate::columns::{ascii_width, bytes_shown, padded};
 use crate::commas::with_commas;
@@ -212,25 +213,18 @@ fn letters_go_in_and_out(rt: HostRuntime) {
     }
 }
 
-/// Takes the last characters of each text one by one, as long as there is one.
 #[test]
-fn last_letters_are_taken(rt: HostRuntime) {
-    for whole in ["", "a", "é", "€", "🤔", "aé€🤔", "🤔€éa", "ééé"] {
-        let mut text = ArrayString::from_str_truncate(whole);
-        for _ in 0..5 {
-            let last = last_letter(text.as_str());
-            let bytes = last.map_or(0, |ch| ch.len_utf8());
-            let left = whole.get(..(text.len() as usize).saturating_sub(bytes));
-            agree(&rt, take_last(&mut text), last);
-            agree(&rt, Some(text.as_str()), left);
-        }
-        agree(&rt, text.as_str(), "");
-    }
+fn first_and_last_letters(rt: HostRuntime) {
     agree(&rt, last_letter("aé"), Some('é'));
     agree(&rt, last_letter("é🤔"), Some('🤔'));
     agree(&rt, last_letter(""), None);
     agree(&rt, first_letter("éa"), Some('é'));
     agree(&rt, first_letter(""), None);
+    let mut text = ArrayString::from_str_truncate("a🤔");
+    agree(&rt, take_last(&mut text), Some('🤔'));
+    agree(&rt, take_last(&mut text), Some('a'));
+    agree(&rt, take_last(&mut text), None);
+    agree(&rt, text.as_str(), "");
 }
 
 #[test]
@@ -250,27 +244,20 @@ fn a_cut_is_told(rt: HostRuntime) {
     }
 }
 
-/// Puts a text and a character at each place of a line, and steps from its end to its start and back.
+/// A line is made at a boundary, filled there to its last byte, and walked from its end to its start and back.
 #[test]
 fn a_cursor_stands_between_characters(rt: HostRuntime) {
     let whole = "aé€🤔b";
-    for cursor in 0..=12u8 {
-        let text = ArrayString::<16>::from_str_truncate(whole);
-        let front = whole.get(..cursor as usize);
-        agree(&rt, prefix(&text, cursor), front);
-        match (Line::at(text, cursor), front) {
-            (Some(mut line), Some(front)) => {
-                agree(&rt, line.before(), front);
-                agree(&rt, line.put("ñ"), Ok(()));
-                agree(&rt, line.insert('€'), Ok(()));
-                // The line is full.
-                agree(&rt, line.put("b"), Err(Error::OutOfBounds));
-                agree(&rt, line.insert('b'), Err(Error::OutOfBounds));
-                agree(&rt, line.before().strip_prefix(front), Some("ñ€"));
-                agree(&rt, Some(line.after()), whole.get(cursor as usize..));
-            }
-            (line, front) => agree(&rt, line.is_some() || front.is_some(), false),
-        }
+    let text = ArrayString::<16>::from_str_truncate(whole);
+    agree(&rt, prefix(&text, 3), Some("aé"));
+    agree(&rt, prefix(&text, 2), None);
+    agree(&rt, Line::at(text, 2).is_some(), false);
+    if let Some(mut line) = Line::at(text, 3) {
+        agree(&rt, line.put("ñ"), Ok(()));
+        agree(&rt, line.insert('€'), Ok(()));
+        agree(&rt, line.put("b"), Err(Error::OutOfBounds));
+        agree(&rt, line.insert('b'), Err(Error::OutOfBounds));
+        check_cursor(&rt, &line, "aéñ€", "€🤔b");
     }
     match Line::at(ArrayString::<16>::from_str_truncate(whole), 11) {
         Some(mut line) => {
@@ -565,69 +552,38 @@ fn commands_fit_until_one_is_tight(rt: HostRuntime) {
     check_small(&rt, alloc, &wide, false, texts);
 }
 
-/// A text without `=`, of characters of one to four bytes. Its 22 bytes are two more than fit in a key.
-const BEFORE: &str = "aé€🤔bè₭🤕cd";
-
-/// A text with `=` in it. Its 41 bytes are one more than fit in a value.
-const BEHIND: &str = "é=€🤔==bcdefghijklmnopqrstuvwxyz0123";
-
-/// Asserts what the line `before`, `=`, `behind` gives. There is no `=` in `before`.
-fn check_line(rt: &impl Abort, before: &str, behind: &str) {
-    let mut line = ArrayString::<64>::from_str_truncate(before);
-    agree(rt, line.try_push_str("="), Ok(()));
-    agree(rt, line.try_push_str(behind), Ok(()));
-    agree(rt, pair(line.as_str()), pair_of(&line));
-    let fits = before.len() <= 20 && behind.len() <= 40;
-    agree(rt, pair_of(&line).is_ok(), fits);
-    match pair_of(&line) {
-        Ok((key, value)) => {
-            agree(rt, key.as_str(), before);
-            agree(rt, value.as_str(), behind);
-        }
-        Err(error) => agree(rt, error, Error::OutOfBounds),
-    }
-    if before.len() <= 20 && behind.len() <= 40 {
-        agree(rt, line_of(before, behind), Ok(line));
-    }
-    let (key, value) = (
-        ArrayString::from_str_truncate(before),
-        ArrayString::from_str_truncate(behind),
-    );
-    agree(rt, there_and_back(&key, &value), Ok((key, value)));
-    let rest = split_value(&mut line).unwrap_or_default();
-    agree(rt, line.as_str(), before);
-    agree(rt, rest.as_str().strip_prefix('='), Some(behind));
-}
-
-/// Asserts that a line without `=` is refused.
-fn check_line_without_sign(rt: &impl Abort, text: &str) {
+/// Asserts which key and value a line gives, and what is left of it behind its first `=`.
+fn check_line(rt: &impl Abort, text: &str, wanted: Option<(&str, &str)>, rest: Option<&str>) {
     let mut line = ArrayString::<64>::from_str_truncate(text);
-    agree(rt, pair(text), Err(Error::OutOfBounds));
-    agree(rt, pair_of(&line), Err(Error::OutOfBounds));
-    agree(rt, split_value(&mut line), None);
-    agree(rt, line.as_str(), text);
+    for found in [pair(text), pair_of(&line)] {
+        match found {
+            Ok((key, value)) => agree(rt, Some((key.as_str(), value.as_str())), wanted),
+            Err(error) => agree(rt, (error, None), (Error::OutOfBounds, wanted)),
+        }
+    }
+    let split = split_value(&mut line);
+    agree(rt, split.is_some(), rest.is_some());
+    let split = split.unwrap_or_default();
+    agree(rt, split.as_str(), rest.unwrap_or_default());
 }
 
-/// Puts `=` after each prefix of `BEFORE`, and after it each prefix and each suffix of `BEHIND`.
 #[test]
 fn lines_are_split_at_their_first_sign(rt: HostRuntime) {
-    let (mut without, mut lines) = (0u32, 0u32);
-    for at in 0..=BEFORE.len() {
-        let Some(before) = BEFORE.get(..at) else {
-            continue;
-        };
-        check_line_without_sign(&rt, before);
-        without = without.wrapping_add(1);
-        for cut in 0..=BEHIND.len() {
-            if let (Some(front), Some(back)) = (BEHIND.get(..cut), BEHIND.get(cut..)) {
-                check_line(&rt, before, front);
-                check_line(&rt, before, back);
-                lines = lines.wrapping_add(2);
-            }
-        }
-    }
-    // 10 characters are before it, and 35 behind it.
-    agree(&rt, (without, lines), (11, 2 * 11 * 36));
+    check_line(&rt, "", None, None);
+    check_line(&rt, "ann", None, None);
+    check_line(&rt, "=", Some(("", "")), Some("="));
+    check_line(&rt, "ann=7", Some(("ann", "7")), Some("=7"));
+    check_line(&rt, "é=€==🤔", Some(("é", "€==🤔")), Some("=€==🤔"));
+    // A key has at most 20 bytes.
+    let key = "0123456789abcdefghij";
+    check_line(&rt, "0123456789abcdefghij=é", Some((key, "é")), Some("=é"));
+    check_line(&rt, "0123456789abcdefghié=", None, Some("="));
+    agree(&rt, line_of("ann", "7").map(|line| line.len()), Ok(5));
+    let (key, value) = (
+        ArrayString::from_str_truncate("ann"),
+        ArrayString::from_str_truncate("a=b"),
+    );
+    agree(&rt, there_and_back(&key, &value), Ok((key, value)));
 }
 
 #[test]

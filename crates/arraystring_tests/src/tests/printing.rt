@@ -8,19 +8,35 @@ use std::fmt::{Debug, Display};
 use std::process::Abort;
 use test_support::printing::first_debug_difference;
 
-/// Asserts that a value is printed as a text, in each form that could pad or cut it, at each width.
+/// Asserts that a value is printed as a text, in each form that could pad or cut it, at a width.
+fn display_at<T: Display>(rt: &(impl Abort + AllocGlobal), value: &T, wanted: &str, width: usize) {
+    let printed = format!(in rt.alloc();
+        "{value}{value:#}{value:width$}{value:<width$}{value:>width$}{value:*^width$}\
+        {value:0width$}{value:#width$}{value:.width$}{value:>width$.1}\
+        {value:+}{value:+#}{value:+width$}{value:+#0width$}{value:+.width$}"
+    );
+    let printed = printed.expect(rt, "memory for what is printed");
+    let rest = printed.as_str().trim_start_matches(wanted);
+    agree(rt, wanted, rest, "");
+    agree(rt, wanted, printed.len() / 15, wanted.len());
+    agree(rt, wanted, printed.len() % 15, 0);
+}
+
+/// Asserts that a value is printed as a text, at each width.
 pub(crate) fn display_is<T: Display>(rt: &(impl Abort + AllocGlobal), value: &T, wanted: &str) {
     for width in 0..300usize {
-        let printed = format!(in rt.alloc();
-            "{value}{value:#}{value:width$}{value:<width$}{value:>width$}{value:*^width$}\
-            {value:0width$}{value:#width$}{value:.width$}{value:>width$.1}\
-            {value:+}{value:+#}{value:+width$}{value:+#0width$}{value:+.width$}"
-        );
-        let printed = printed.expect(rt, "memory for what is printed");
-        let rest = printed.as_str().trim_start_matches(wanted);
-        agree(rt, wanted, rest, "");
-        agree(rt, wanted, printed.len() / 15, wanted.len());
-        agree(rt, wanted, printed.len() % 15, 0);
+        display_at(rt, value, wanted, width);
+    }
+}
+
+/// Asserts that a value is printed as a text, at the widths within 2 of its size, and at each hundredth.
+fn display_is_near<T: Display>(rt: &(impl Abort + AllocGlobal), value: &T, wanted: &str) {
+    for more in 0..5usize {
+        let width = wanted.len().saturating_add(more).saturating_sub(2);
+        display_at(rt, value, wanted, width);
+    }
+    for hundreds in 0..3usize {
+        display_at(rt, value, wanted, hundreds * 100);
     }
 }
 
@@ -59,6 +75,17 @@ pub(crate) fn debug_is_that_of<T: Debug, W: Debug>(
     agree(rt, "each form", apart, None);
 }
 
+/// Asserts that one value is printed for debugging as the other, on one line and on several.
+fn debug_is_plainly_that_of<T: Debug, W: Debug>(
+    rt: &(impl Abort + AllocGlobal),
+    value: &T,
+    wanted: &W,
+) {
+    let printed = format!(in rt.alloc(); "{value:?}|{value:#?}").expect(rt, "memory");
+    let wanted = format!(in rt.alloc(); "{wanted:?}|{wanted:#?}").expect(rt, "memory");
+    agree(rt, "on a line or more", printed, wanted);
+}
+
 #[test]
 fn texts_are_printed_as_they_are(rt: HostRuntime) {
     for text in ",a,é,€,🤔,aé€🤔bé,ab,abc".split(',') {
@@ -74,46 +101,58 @@ fn texts_are_printed_as_they_are(rt: HostRuntime) {
     );
 }
 
-/// Asserts how a string of a text that fits is printed, and what is drained from it.
-fn shows<const N: usize>(rt: &(impl Abort + AllocGlobal), text: &str)
+/// Asserts how a string of a text that fits is printed, and what is drained from it: at each width, or at
+/// some.
+fn shows<const N: usize>(rt: &(impl Abort + AllocGlobal), text: &str, at_each_width: bool)
     requires { N ≤ 300 }
 {
     let mut string: ArrayString<N> = string(text);
-    display_is(rt, &string, text);
-    let wanted = derived::ArrayString {
-        array: text,
-        size: text.len(),
-    };
-    debug_is_that_of(rt, &string, &wanted);
-    let drained = string.drain(..).unwrap_or_default();
-    debug_is_that_of(rt, &drained, &derived::Drain(text));
+    let (array, size) = (text, text.len());
+    let wanted = derived::ArrayString { array, size };
+    if at_each_width {
+        display_is(rt, &string, text);
+        debug_is_that_of(rt, &string, &wanted);
+        let drained = string.drain(..).unwrap_or_default();
+        debug_is_that_of(rt, &drained, &derived::Drain(text));
+    } else {
+        display_is_near(rt, &string, text);
+        debug_is_plainly_that_of(rt, &string, &wanted);
+        let drained = string.drain(..).unwrap_or_default();
+        debug_is_plainly_that_of(rt, &drained, &derived::Drain(text));
+    }
 }
 
-/// Asserts how a `CacheString` of a text that fits is printed.
-fn shows_cached(rt: &(impl Abort + AllocGlobal), text: &str) {
+/// Asserts how a `CacheString` of a text that fits is printed: at each width, or at some.
+fn shows_cached(rt: &(impl Abort + AllocGlobal), text: &str, at_each_width: bool) {
     let string = CacheString::from_str_truncate(text);
-    display_is(rt, &string, text);
-    let wanted = derived::ArrayString {
-        array: text,
-        size: text.len(),
-    };
-    debug_is_that_of(rt, &string, &derived::CacheString(wanted));
+    let (array, size) = (text, text.len());
+    let wanted = derived::CacheString(derived::ArrayString { array, size });
+    if at_each_width {
+        display_is(rt, &string, text);
+        debug_is_that_of(rt, &string, &wanted);
+    } else {
+        display_is_near(rt, &string, text);
+        debug_is_plainly_that_of(rt, &string, &wanted);
+    }
 }
 
+/// Texts of each size are printed: the longest of each capacity, and those whose size is the least or the
+/// greatest of so many digits, at each width.
 #[test]
 fn texts_of_many_sizes_are_printed(rt: HostRuntime) {
-    for count in 0..52usize {
-        let size = count * 5;
+    for size in 0..=255usize {
         let text = MANY_LETTERS.get(..size).unwrap_or_default();
+        let each = matches!(size, 0 | 3 | 9 | 10 | 23 | 99 | 100 | 199 | 255);
         match size {
-            0..4 => shows::<3>(&rt, text),
-            4..24 => shows::<23>(&rt, text),
-            24..200 => shows::<300>(&rt, text),
-            _ => shows::<255>(&rt, text),
+            0..4 => shows::<3>(&rt, text, each),
+            4..24 => shows::<23>(&rt, text, each),
+            24..200 => shows::<300>(&rt, text, each),
+            _ => shows::<255>(&rt, text, each),
         }
     }
     for size in 0..64usize {
-        shows_cached(&rt, MANY_LETTERS.get(..size).unwrap_or_default());
+        let text = MANY_LETTERS.get(..size).unwrap_or_default();
+        shows_cached(&rt, text, matches!(size, 0 | 9 | 10 | 63));
     }
 }
 

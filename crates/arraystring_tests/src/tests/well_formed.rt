@@ -13,20 +13,19 @@ use test_support::table::{column, rows};
 ///
 ///     first byte | as far as this one | bytes behind it | read
 ///
-/// in hexadecimal, if the last is `ok` or `Utf8`. At each offset of each size stands one of the first
-/// bytes in turn; one that has bytes behind it, at each eighth, which is another for the next size, and
-/// at the last four. If these do not fit, std says how all is read. Returns how many bytes were read,
-/// and in how many of these what stands in the row fits.
+/// in hexadecimal, if the last is `ok` or `Utf8`. In each size one of the first bytes in turn stands at the
+/// last four offsets, so that it stands at each offset with up to three bytes behind it, and at each 32nd,
+/// which is another for the next size. If the bytes behind it do not fit, std says how all is read. Returns
+/// how many bytes were read, and in how many of these what stands in the row fits.
 fn check_reading(rt: &impl Abort, table: &str) -> (u32, u32) {
     let mut bytes = [b'a'; 264];
     let mut turn = 0u8;
     let (mut read, mut fitting) = (0u32, 0u32);
     for row in rows(table) {
         let (first, last) = (byte(rt, column(row, 0)), byte(rt, column(row, 1)));
-        let step = if column(row, 2).is_empty() { 1 } else { 8 };
         for size in 1..258usize {
             for at in 0..size {
-                if at % step != size % step && size - at > 4 {
+                if at % 32 != size % 32 && size - at > 4 {
                     continue;
                 }
                 turn = if turn < first || turn >= last {
@@ -126,27 +125,49 @@ fn bytes_are_read_as_in_std(rt: HostRuntime) {
         F5 | FF | 80 80 80 | Utf8
         ",
     );
-    // Of the sizes to 257 the sum is 33,153, that of their eighths 4,032, and 1,022 that of their last
-    // offsets, of which 765 leave room for a byte behind, 509 for two, and 254 for three.
-    let read = 3 * 33153 + 15 * (4032 + 1022);
-    let fitting = 3 * 33153 + 15 * 4032 + 3 * 765 + 6 * 509 + 6 * 254;
+    // Of the sizes to 257 the sum of the 32nds is 912, and 1,022 that of their last offsets, of which 765
+    // leave room for a byte behind, 509 for two, and 254 for three.
+    let read = 18 * (912 + 1022);
+    let fitting = 18 * 912 + 3 * (1022 + 765) + 6 * (509 + 254);
     agree(&rt, "how many", count, (read, fitting));
 }
 
-/// A byte from 80 to FF among ASCII is refused, at each offset of each size that a string has.
+/// Each byte stands at each offset among letters, as the last one and with all others behind it. It is
+/// refused if it is past ASCII.
 #[test]
 fn each_byte_past_ascii_is_refused(rt: HostRuntime) {
     let mut bytes = [b'a'; 255];
+    for at in 0..255usize {
+        let mut mistaken = 0u32;
+        for byte in 0..=0xFFu8 {
+            bytes[at] = byte;
+            let is_past = byte >= 0x80;
+            let last = MaxString::from_utf8(&bytes[..at + 1]).is_err();
+            let whole = MaxString::from_utf8(&bytes).is_err();
+            mistaken = mistaken.wrapping_add((last != is_past || whole != is_past) as u32);
+        }
+        agree(&rt, "bytes that are mistaken", mistaken, 0);
+        bytes[at] = b'a';
+    }
+}
+
+/// A byte past ASCII is refused at each offset of each size that a string has. It is another for the next
+/// offset.
+#[test]
+fn bytes_past_ascii_are_refused_in_each_size(rt: HostRuntime) {
+    let mut bytes = [b'a'; 255];
+    let mut byte = 0x80u8;
     for size in 1..256usize {
         for at in 0..size {
-            let mut refused = 0u32;
-            for byte in 0x80..=0xFFu8 {
-                bytes[at] = byte;
-                let is_refused = MaxString::from_utf8(&bytes[..size]).is_err();
-                refused = refused.wrapping_add(is_refused as u32);
-            }
-            agree(&rt, "bytes past ASCII", refused, 128);
+            bytes[at] = byte;
+            let made = MaxString::from_utf8(&bytes[..size]);
+            agree(&rt, "a byte past ASCII", made.is_err(), true);
             bytes[at] = b'a';
+            byte = if byte == 0xFF {
+                0x80
+            } else {
+                byte.wrapping_add(1)
+            };
         }
     }
 }
