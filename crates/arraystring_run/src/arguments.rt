@@ -11,7 +11,7 @@ use std::env::{Env, FillError};
 /// It has no `ensures`, since the contract of the kit's `Env` does not say what its calls return. So no
 /// clause could tell the program's argument from another word. `only_word` says what is made of what `env`
 /// returns. That `env` is asked for its arguments 1 and 2 is only tested: `program` and `words` of
-/// `crates/arraystring_run_tests` ask environments of their own, and `crates/arraystring_cli/try` gives
+/// `crates/arraystring_program_tests` ask environments of their own, and `crates/arraystring_cli/try` gives
 /// the built program its arguments.
 pub fn given_word<E: Env>(env: &E) -> Option<MaxString> {
     let mut first = [0u8; 255];

@@ -1,6 +1,6 @@
 //! Commands that edit a string of bounded size. `run` executes a list of commands, and `play` plays a
 //! script of them. The `main` of a player calls what is in `program`. The tests are in
-//! `crates/arraystring_run_tests`.
+//! `crates/arraystring_run_tests` and `crates/arraystring_program_tests`.
 #![tactic(auto)]
 
 mod arguments;

@@ -1,15 +1,12 @@
 //! Scripts that are played and served over memory.
-use super::devices::FakeReader;
 use super::table::{agree, printed};
 use arraystring_run::{PlayFault, play, serve};
 use std::alloc::Global;
 use std::io::ErrorKind;
 use std::process::Abort;
+use test_support::reader::FakeReader;
+use test_support::scripts::{EXAMPLE, EXAMPLE_OUTPUT, OUTPUT, SCRIPT};
 use test_support::table::{column, rows};
-
-pub(super) const SCRIPT: &str = "try_push_str ABCD\ntry_push 🤔\nlen\npop\nas_str\n";
-
-pub(super) const OUTPUT: &str = "done\ndone\nnumber 8\nchar 🤔\ntext ABCD\nfinal ABCD\n";
 
 /// Plays `script` at 23 bytes, and compares what is returned and what is written.
 pub(super) fn plays(
@@ -163,14 +160,6 @@ fn the_first_bad_line_is_reported(rt: HostRuntime) {
         }
     }
 }
-
-pub(super) const EXAMPLE: &str =
-    "push_str ABCD🤔\ntry_insert 1 A\ntry_insert_str 2 B\ndrain_back 4 10\n\
-    get 0 9\nremove 9\nas_str\n";
-
-pub(super) const EXAMPLE_OUTPUT: &str =
-    "done\ndone\ndone\ntext 🤔DC\nno text\nrefused OutOfBounds\ntext AABB\n\
-    final AABB\n";
 
 /// What is printed of the example if it is cut at a byte; cut elsewhere, its last line is bad. The
 /// columns of a row are

@@ -2,8 +2,6 @@
 //! replies.
 ghost use Rattle.std.specs.Prelude.{◌≤◌};
 
-use super::player::{EXAMPLE, EXAMPLE_OUTPUT};
-use super::runs::text_of;
 use super::table::agree;
 use arraystring::ArrayString;
 use arraystring_run::{Command, PlayFault, Reply, play, run, run_both, serve};
@@ -14,6 +12,7 @@ use std::io::{Read, Write};
 use std::mem::size_of;
 use std::process::Abort;
 use test_support::memory::{ScarceMemory, TIMES};
+use test_support::scripts::{EXAMPLE, EXAMPLE_OUTPUT};
 
 /// The example with a bad line before it, which is met once there is memory for the input.
 const BAD_FIRST: &str = "Len\npush_str ABCD🤔\ntry_insert 1 A\ntry_insert_str 2 B\ndrain_back 4 10\n\
@@ -22,6 +21,13 @@ const BAD_FIRST: &str = "Len\npush_str ABCD🤔\ntry_insert 1 A\ntry_insert_str 
 /// The example with a bad line behind it, which is met once there is memory for the commands too.
 const BAD_LAST: &str = "push_str ABCD🤔\ntry_insert 1 A\ntry_insert_str 2 B\ndrain_back 4 10\n\
     get 0 9\nremove 9\nas_str\nLen\n";
+
+/// The string of a text that fits.
+fn text_of<const N: usize>(text: &str) -> ArrayString<N> {
+    let mut string = ArrayString::new();
+    string.push_str(text);
+    string
+}
 
 /// Takes all memory. It is `None` where a test ends without it.
 pub(super) fn all_memory(rt: &(impl Abort + Env + Eprint + AllocGlobal)) -> Option<ScarceMemory> {

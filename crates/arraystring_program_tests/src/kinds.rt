@@ -1,13 +1,13 @@
 //! Each kind of error of a read, a write and a flush, at each position: an interrupted read or write is
 //! tried again, and all others are reported.
-use super::devices::FakeReader;
-use super::player::{OUTPUT, SCRIPT};
 use super::table::agree;
 use arraystring_run::{PlayFault, play};
 use std::alloc::Global;
 use std::io;
 use std::io::{ErrorKind, Write};
 use std::process::Abort;
+use test_support::reader::FakeReader;
+use test_support::scripts::{OUTPUT, SCRIPT};
 use test_support::writer::FakeWriter;
 
 /// All kinds of errors that there are.

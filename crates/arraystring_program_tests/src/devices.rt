@@ -1,60 +1,13 @@
 //! Readers and writers that fail, are interrupted, or give and take little at a time.
-use super::player::{OUTPUT, SCRIPT};
 use super::program::WORDS;
 use super::table::agree;
 use arraystring_run::{PlayFault, play, serve};
 use std::alloc::Global;
-use std::io;
-use std::io::{ErrorKind, Read};
+use std::io::ErrorKind;
 use std::process::Abort;
+use test_support::reader::FakeReader;
+use test_support::scripts::{OUTPUT, SCRIPT};
 use test_support::writer::FakeWriter;
-
-/// Gives at most `step` bytes a read. After the first `reads` reads, as many as `faults` says fail
-/// with `kind`; after each later one, as many as `again` says.
-#[derive(Drop)]
-pub(super) struct FakeReader<'a> {
-    pub(super) bytes: &'a [u8],
-    pub(super) step: usize,
-    pub(super) reads: usize,
-    pub(super) faults: u8,
-    pub(super) again: u8,
-    pub(super) kind: ErrorKind,
-}
-
-impl<'a> FakeReader<'a> {
-    /// A reader of `step` bytes a read. After `reads` reads, one read fails with `kind`. All later reads
-    /// succeed.
-    pub(super) fn new(
-        bytes: &'a [u8],
-        step: usize,
-        reads: usize,
-        kind: ErrorKind,
-    ) -> FakeReader<'a> {
-        FakeReader {
-            bytes,
-            step,
-            reads,
-            faults: 1,
-            again: 0,
-            kind,
-        }
-    }
-}
-
-impl Read for FakeReader<'_> {
-    fn read(&mut self, buf: &mut [u8]) -> io::Result<usize> {
-        if self.reads == 0 && self.faults > 0 {
-            self.faults -= 1;
-            return Err(self.kind.into());
-        }
-        self.reads = self.reads.saturating_sub(1);
-        self.faults = self.faults.max(self.again);
-        let count = self.step.min(self.bytes.len()).min(buf.len());
-        buf[..count].copy_from_slice(&self.bytes[..count]);
-        self.bytes = &self.bytes[count..];
-        Ok(count)
-    }
-}
 
 /// A read that fails is reported, also if a bad line was read before it.
 #[test]
