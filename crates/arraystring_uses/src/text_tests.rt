@@ -100,7 +100,10 @@ fn a_key_has_a_value(rt: HostRuntime) {
 
 #[test]
 fn names_have_numbers(rt: HostRuntime) {
-    let (ann, bob): (Name, Name) = (ArrayString::from_str("ann"), ArrayString::from_str("bob"));
+    let (ann, bob): (Name, Name) = (
+        ArrayString::from_str_truncate("ann"),
+        ArrayString::from_str("bob"),
+    );
     let mut ordered = BTreeMap::new(rt.alloc());
     let mut hashed = HashMap::new(rt.alloc());
     for (name, number) in [(ann, 7), (bob, 2), (ann, 3)] {
@@ -126,21 +129,29 @@ fn a_string_is_lent(rt: HostRuntime) {
         ("z", "é", Ordering::Less),
         ("b", "ab", Ordering::Greater),
     ] {
-        let string = ArrayString::<4>::from_str(text);
+        let string = ArrayString::<4>::from_str_truncate(text);
         let same = text == other;
         agree(&rt, order(&string, other), wanted);
         agree(&rt, is_text(&string, other), same);
         agree(&rt, has_bytes_of(&string, other), same);
         agree(
             &rt,
-            same_text(&string, &ArrayString::<9>::from_str(other)),
+            same_text(&string, &ArrayString::<9>::from_str_truncate(other)),
             same,
         );
         agree(&rt, size_of_string(&string), text.len());
         agree(&rt, size_of_text(other), other.len());
     }
-    agree(&rt, is_get(&ArrayString::<3>::from_str("GET")), true);
-    agree(&rt, is_get(&ArrayString::<3>::from_str("get")), false);
+    agree(
+        &rt,
+        is_get(&ArrayString::<3>::from_str_truncate("GET")),
+        true,
+    );
+    agree(
+        &rt,
+        is_get(&ArrayString::<3>::from_str_truncate("get")),
+        false,
+    );
 }
 
 #[test]
@@ -161,19 +172,29 @@ fn a_prefix_is_taken_off(rt: HostRuntime) {
 fn numbers_are_read_back(rt: HostRuntime) {
     agree(
         &rt,
-        read_u8(&ArrayString::<8>::from_str("255")).ok(),
+        read_u8(&ArrayString::<8>::from_str_truncate("255")).ok(),
         Some(255),
     );
-    agree(&rt, read_u8(&ArrayString::<8>::from_str("256")).ok(), None);
     agree(
         &rt,
-        read_i8(&ArrayString::<8>::from_str("-128")).ok(),
+        read_u8(&ArrayString::<8>::from_str_truncate("256")).ok(),
+        None,
+    );
+    agree(
+        &rt,
+        read_i8(&ArrayString::<8>::from_str_truncate("-128")).ok(),
         Some(-128),
     );
-    agree(&rt, read_i8(&ArrayString::<8>::from_str("128")).ok(), None);
-    let least = read_i64(&ArrayString::<24>::from_str("-9223372036854775808"));
+    agree(
+        &rt,
+        read_i8(&ArrayString::<8>::from_str_truncate("128")).ok(),
+        None,
+    );
+    let least = read_i64(&ArrayString::<24>::from_str_truncate("-9223372036854775808"));
     agree(&rt, least.ok(), Some(i64::MIN));
-    let most = read_u128(&ArrayString::<40>::from_str("340282366920938463463374607431768211455"));
+    let most = read_u128(&ArrayString::<40>::from_str_truncate(
+        "340282366920938463463374607431768211455",
+    ));
     agree(&rt, most.ok(), Some(u128::MAX));
 }
 
