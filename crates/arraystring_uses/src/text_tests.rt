@@ -1,8 +1,6 @@
 //! The uses of walks, fields, maps keyed by strings, borrowed texts, numbers that are read back and escapes, on values
 //! worked out by hand.
-use crate::borrowed::{
-    behind, has_bytes_of, is_get, is_text, order, same_text, size_of_string, size_of_text,
-};
+use crate::borrowed::{behind, is_get, is_text, order, same_text, size_of_string, size_of_text};
 use crate::escapes::escape;
 use crate::fields::{count_fields, value_of, version};
 use crate::keyed::{
@@ -130,7 +128,6 @@ fn a_string_is_lent(rt: HostRuntime) {
         let same = text == other;
         agree(&rt, order(&string, other), wanted);
         agree(&rt, is_text(&string, other), same);
-        agree(&rt, has_bytes_of(&string, other), same);
         agree(
             &rt,
             same_text(&string, &ArrayString::<9>::from_str(other)),

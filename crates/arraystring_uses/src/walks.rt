@@ -59,7 +59,8 @@ pub fn first_field<const N: usize>(line: &str) -> Result<ArrayString<N>, Error>
     let mut left = line.chars();
     while let Some(ch) = left.next() {
         if ch == ',' {
-            break;
+            text_fits(&field);
+            return Ok(field);
         }
         field.try_push(ch)?;
     }
