@@ -25,7 +25,7 @@ pub fn byte(bytes: &[u8], at: usize) -> u8
     bytes[at]
 }
 
-/// Writes the `K` bytes of an array from `at` on. `put_bytes` writes those of a vector.
+/// Writes the `K` bytes of an array into `all`, from index `at` of `all` on. `put_bytes` writes those of a vector.
 #[inline(always)]
 pub(crate) fn put_array<const K: usize>(all: &mut [u8], at: usize, bytes: [u8; K])
     requires { at + K ≤ length all.old }
@@ -178,7 +178,7 @@ pub(crate) fn bytes_of<const K: usize>(given: &[u8], at: usize) -> Simd<u8, K>
     Simd::<u8, K>::from_slice(&given[at..at + K])
 }
 
-/// Writes `K` bytes from `at` on.
+/// Writes the `K` bytes of a vector into `all`, from index `at` of `all` on.
 #[inline(always)]
 pub(crate) fn put_bytes<const K: usize>(all: &mut [u8], at: usize, bytes: Simd<u8, K>)
     requires { at + K ≤ length all.old }

@@ -115,7 +115,7 @@ AreArguments (Number n ∷ rest) = (n ≤ 255) × AreArguments rest
 AreArguments (Character c ∷ rest) = IsScalarValue c × AreArguments rest
 AreArguments (Text given ∷ rest) = IsWellFormed given × AreArguments rest
 
--- no byte is a space
+-- no byte is a space; no bytes at all are one word, too
 abbrev pub IsOneWord : List ℕ → Type 0
 IsOneWord [] = ⊤
 IsOneWord (b ∷ bs) = (b ≢ space) × IsOneWord bs

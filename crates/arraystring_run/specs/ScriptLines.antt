@@ -16,7 +16,7 @@ abbrev pub joined_lines : List (List ℕ) → List ℕ
 joined_lines [] = []
 joined_lines (line ∷ rest) = with_newline line ++ joined_lines rest
 
--- no byte is a line feed
+-- no byte is a line feed; no bytes at all are one line, too
 abbrev pub IsOneLine : List ℕ → Type 0
 IsOneLine [] = ⊤
 IsOneLine (b ∷ bs) = (b ≢ line_feed) × IsOneLine bs

@@ -61,9 +61,9 @@ fn command_alone(word: &str) -> Option<Command<'static>>
     }
 }
 
-/// The command of a word that is followed by one space and `rest`. A word that takes a number first is in no arm of this
-/// `match`: it is looked up in that of `command_given_more`, and one that takes a range in that of `command_of_range`, too.
-/// One `match` of all words is too much for the check (docs/DECISIONS.md).
+/// The command of a word that is followed by one space and `rest`. A word that takes a number and more behind it is in no
+/// arm of this `match`, but in one of `command_given_more`, and a word that takes two numbers alone in one of
+/// `command_of_range`. One `match` of all words is too much for the check (docs/DECISIONS.md).
 fn command_given<'a>(word: &str, rest: &'a str) -> Option<Command<'a>>
     requires { IsOneWord word.now }
     ensures some { IfSome result (λ c. IsLineOf (word.now ++ space ∷ rest.now) c) }

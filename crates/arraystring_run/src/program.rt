@@ -67,7 +67,7 @@ pub fn serve<I: Read, O: Write, E: Write>(
     report(played, errors)
 }
 
-/// Plays a script at a capacity. Without one it returns `None`, and nothing is read or written.
+/// Plays a script at a capacity. Without a capacity it returns `None`, and nothing is read or written.
 fn play_at<I: Read, O: Write>(
     alloc: Global,
     capacity: Option<Capacity>,

@@ -11,8 +11,3 @@ common (c ∷ t) (d ∷ u) = if c == d then c ∷ common t u else []
 -- a text with its letters of ASCII in lower case
 abbrev pub folded : List ℕ → List ℕ
 folded t = map to_ascii_lowercase t
-
--- a text up to the first `c`, or all of it
-abbrev pub until : ℕ → List ℕ → List ℕ
-until c [] = []
-until c (d ∷ t) = if d == c then [] else d ∷ until c t

@@ -31,14 +31,6 @@ pub fn same_text<const M: usize, const N: usize>(a: &ArrayString<M>, b: &ArraySt
     a.as_str() == b.as_str()
 }
 
-/// Whether the UTF-8 of a string is that of a text.
-#[tactic(auto, using(arraystring::proofs::Rules::borrowed))]
-pub fn has_bytes_of<const N: usize>(string: &ArrayString<N>, text: &str) -> bool
-    ensures { IsTrue result ↔ (string.now.text ≡ chars text.now) }
-{
-    string.as_bytes() == text.as_bytes()
-}
-
 /// Returns how a string and a text are ordered, by their characters.
 #[tactic(auto, using(arraystring::proofs::Rules::borrowed))]
 pub fn order<const N: usize>(string: &ArrayString<N>, text: &str) -> Ordering

@@ -297,16 +297,16 @@ fn check_cursor(rt: &impl Abort, line: &Line<16>, before: &str, after: &str) {
 /// At each place of a line: both ends, and what is left by each removal.
 #[test]
 fn a_cursor_stays_where_something_is_removed(rt: HostRuntime) {
-    for (before, left, letter, after, behind) in [
-        ("", "", None, "aé€🤔b", "é€🤔b"),
-        ("a", "", Some('a'), "é€🤔b", "€🤔b"),
-        ("aé", "a", Some('é'), "€🤔b", "🤔b"),
-        ("aé€", "aé", Some('€'), "🤔b", "b"),
-        ("aé€🤔", "aé€", Some('🤔'), "b", ""),
-        ("aé€🤔b", "aé€🤔", Some('b'), "", ""),
+    for (cursor, before, left, letter, after, behind) in [
+        (0, "", "", None, "aé€🤔b", "é€🤔b"),
+        (1, "a", "", Some('a'), "é€🤔b", "€🤔b"),
+        (3, "aé", "a", Some('é'), "€🤔b", "🤔b"),
+        (6, "aé€", "aé", Some('€'), "🤔b", "b"),
+        (10, "aé€🤔", "aé€", Some('🤔'), "b", ""),
+        (11, "aé€🤔b", "aé€🤔", Some('b'), "", ""),
     ] {
         let text = ArrayString::<16>::from_str_truncate("aé€🤔b");
-        match Line::at(text, before.len() as u8) {
+        match Line::at(text, cursor) {
             Some(line) => {
                 let mut moved = line;
                 moved.home();

@@ -1,8 +1,6 @@
 //! The uses of walks, fields, maps keyed by strings, borrowed texts, numbers that are read back and escapes, on values
 //! worked out by hand.
-use crate::borrowed::{
-    behind, has_bytes_of, is_get, is_text, order, same_text, size_of_string, size_of_text,
-};
+use crate::borrowed::{behind, is_get, is_text, order, same_text, size_of_string, size_of_text};
 use crate::escapes::escape;
 use crate::fields::{count_fields, value_of, version};
 use crate::keyed::{
@@ -10,7 +8,7 @@ use crate::keyed::{
     take_hashed, take_ordered,
 };
 use crate::read_back::{read_i8, read_i64, read_u8, read_u128};
-use crate::walks::{common_prefix, first_field, same_without_case};
+use crate::walks::{common_prefix, same_without_case};
 use arraystring::ArrayString;
 use std::cmp::Ordering;
 use std::collections::{BTreeMap, HashMap};
@@ -54,20 +52,8 @@ fn case_is_looked_over(rt: HostRuntime) {
 
 #[test]
 fn a_line_has_fields(rt: HostRuntime) {
-    for (line, count, first) in [
-        ("", 1, Some("")),
-        (",", 2, Some("")),
-        ("a,b", 2, Some("a")),
-        ("abcd", 1, Some("abcd")),
-        ("abcde,", 2, None),
-        ("a,,é,", 4, Some("a")),
-    ] {
+    for (line, count) in [("", 1), (",", 2), ("a,b", 2), ("abcd", 1), ("a,,é,", 4)] {
         agree(&rt, count_fields(line), count);
-        let made = first_field::<4>(line);
-        match made {
-            Ok(text) => agree(&rt, Some(text.as_str()), first),
-            Err(_) => agree(&rt, None, first),
-        }
     }
 }
 
@@ -133,7 +119,6 @@ fn a_string_is_lent(rt: HostRuntime) {
         let same = text == other;
         agree(&rt, order(&string, other), wanted);
         agree(&rt, is_text(&string, other), same);
-        agree(&rt, has_bytes_of(&string, other), same);
         agree(
             &rt,
             same_text(&string, &ArrayString::<9>::from_str_truncate(other)),

@@ -1,12 +1,8 @@
 //! Walks over the characters of one or two texts, a character at a time.
 ghost use Rattle.std.specs.Prelude.{◌≡◌, chars};
 ghost use Rattle.std.specs.Str.{bytes_eq};
-ghost use Rattle.arraystring.specs.Construct.{IsWholeOrRefused};
-ghost use Rattle.arraystring.specs.Text.{cap, size};
-ghost use Rattle.arraystring_uses.specs.Walks.{common, folded, until};
-
-use arraystring::laws::text_fits;
-use arraystring::{ArrayString, Error};
+ghost use Rattle.arraystring.specs.Text.{size};
+ghost use Rattle.arraystring_uses.specs.Walks.{common, folded};
 
 /// Returns how many bytes two texts have in common at their start.
 #[tactic(auto, using(arraystring::proofs::Rules::walks))]
@@ -44,25 +40,4 @@ pub fn same_without_case(a: &str, b: &str) -> bool
         }
     }
     right.next().is_none()
-}
-
-/// Returns the field that a line begins with, which ends at the first comma, or else with the line.
-///
-/// # Errors
-///
-/// Returns `Err(Error::OutOfBounds)` if the field does not fit.
-#[tactic(auto, using(arraystring::proofs::Rules::additions, arraystring::proofs::Rules::walks))]
-pub fn first_field<const N: usize>(line: &str) -> Result<ArrayString<N>, Error>
-    ensures { IsWholeOrRefused (until 0x2C (chars line.now)) (cap N) result }
-{
-    let mut field = ArrayString::new();
-    let mut left = line.chars();
-    while let Some(ch) = left.next() {
-        if ch == ',' {
-            break;
-        }
-        field.try_push(ch)?;
-    }
-    text_fits(&field);
-    Ok(field)
 }

@@ -45,19 +45,19 @@ padding field = drop (1 + count field) field
 abbrev pub HasLength : List ℕ → Type 0
 HasLength bs = length bs ≡ 27
 
--- the second: each count is at most the room of its field
+-- the second test of `decode`: each count is at most the room of its field
 abbrev pub CountsFit : List ℕ → Type 0
 CountsFit bs = (count (username_field bs) ≤ 20) × (count (role_field bs) ≤ 5)
 
--- the third: the counted bytes are UTF-8
+-- the third test of `decode`: the counted bytes of both fields are well-formed UTF-8
 abbrev pub AreWellFormed : List ℕ → Type 0
 AreWellFormed bs = IsWellFormed (counted_bytes (username_field bs)) × IsWellFormed (counted_bytes (role_field bs))
 
--- the fourth: the bytes after them are zero
+-- the fourth test of `decode`: the bytes after the counted ones are zero, in both fields
 abbrev pub ArePadded : List ℕ → Type 0
 ArePadded bs = All (λ b. b ≡ 0) (padding (username_field bs)) × All (λ b. b ≡ 0) (padding (role_field bs))
 
--- the test of the fault is the first that the bytes fail
+-- the bytes pass each test of `decode` before the one that this fault belongs to, and fail that one
 abbrev pub IsFirstFault : List ℕ → RecordFault → Type 0
 IsFirstFault bs Length = ¬ (HasLength bs)
 IsFirstFault bs Count = HasLength bs × ¬ (CountsFit bs)

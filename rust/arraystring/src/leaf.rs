@@ -9,7 +9,7 @@ use core::{ptr, slice};
 /// Whether each access is tested, although the proof says of each that it is right.
 pub(crate) const IS_TESTED: bool = cfg!(any(debug_assertions, feature = "checked", not(target_pointer_width = "64")));
 
-/// Asserts what the source of a function requires, where accesses are tested.
+/// Asserts the preconditions of a function (what its contract in Rattle `requires`), if `IS_TESTED`. Else it does nothing.
 macro_rules! required {
     ($($condition:expr),*) => {
         if $crate::leaf::IS_TESTED {
@@ -58,7 +58,7 @@ pub(crate) fn byte(bytes: &[impl ByteOrPlace], at: usize) -> u8 {
     unsafe { bytes.get_unchecked(at) }.value()
 }
 
-/// Writes the `K` bytes of an array from `at` on. `put_bytes` writes those that `bytes_of` read.
+/// Writes the `K` bytes of an array into `all`, from index `at` of `all` on. `put_bytes` writes those that `bytes_of` read.
 ///
 /// ```text
 /// requires { at + K ≤ length all.old }
@@ -81,7 +81,8 @@ pub(crate) fn put_array<const K: usize>(all: &mut [Place], at: usize, bytes: [u8
 #[inline(always)]
 pub(crate) const fn part(bytes: &[Place], start: usize, len: usize) -> &[u8] {
     required!(start <= bytes.len(), len <= bytes.len() - start);
-    // SAFETY: the part is within, as is required. The proved code borrows the bytes of texts, which were written.
+    // SAFETY: the part is within `bytes`, as is required. Each of its places has a value, because the proved code borrows only
+    // bytes of texts, and these were written.
     unsafe { slice::from_raw_parts(bytes.as_ptr().add(start).cast(), len) }
 }
 
@@ -89,7 +90,8 @@ pub(crate) const fn part(bytes: &[Place], start: usize, len: usize) -> &[u8] {
 #[inline(always)]
 pub(crate) fn part_mut(bytes: &mut [Place], start: usize, end: usize) -> &mut [u8] {
     required!(start <= end, end <= bytes.len());
-    // SAFETY: the part is within, as is required. The proved code borrows the bytes of texts, which were written.
+    // SAFETY: the part is within `bytes`, as is required. Each of its places has a value, because the proved code and `as_mut_str`
+    // borrow only bytes of texts, and these were written.
     unsafe { slice::from_raw_parts_mut(bytes.as_mut_ptr().add(start).cast(), end - start) }
 }
 

@@ -172,7 +172,7 @@ struct Draft<'a, const N: usize> {
     is_whole: bool,
 }
 
-/// A draft that is cut at the first piece that does not fit.
+/// A draft that cuts the first piece that does not fit to its leading whole characters that do, and refuses each later piece.
 struct Prefix<'a, const N: usize>(Draft<'a, N>);
 
 impl<'a, const N: usize> Draft<'a, N> {
