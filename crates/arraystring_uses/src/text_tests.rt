@@ -88,7 +88,7 @@ fn a_key_has_a_value(rt: HostRuntime) {
 fn names_have_numbers(rt: HostRuntime) {
     let (ann, bob): (Name, Name) = (
         ArrayString::from_str_truncate("ann"),
-        ArrayString::from_str("bob"),
+        ArrayString::from_str_truncate("bob"),
     );
     let mut ordered = BTreeMap::new(rt.alloc());
     let mut hashed = HashMap::new(rt.alloc());
