@@ -11,10 +11,10 @@ import re
 import textwrap
 from itertools import zip_longest
 
-from modules import IMPORT, NAME, Modules, module_of
-from repository import read
+from modules import IMPORT, Modules, module_of
+from repository import NAME, REFERENCE, read
 
-PAGE = "crates/arraystring/REFERENCE.md"
+PAGE = f"crates/arraystring/{REFERENCE}"
 LAWS = "laws.rt"
 BASE, CORE, TOP = "crates/arraystring_base", "crates/arraystring_core", "crates/arraystring"
 # What an impl proves of itself, and no word of a contract.

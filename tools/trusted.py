@@ -26,8 +26,8 @@ import sys
 from collections import namedtuple
 from itertools import zip_longest
 
-from modules import NAME, Modules, imports
-from repository import EXAMPLES, closed, crates, inline_code, public_types, read, section, sources
+from modules import Modules, imports
+from repository import EXAMPLES, NAME, closed, crates, inline_code, public_types, read, section, sources
 
 LIBRARIES = ["arraystring_base", "arraystring_core", "arraystring", "arraystring_run", "bounded_records"]
 PAGE = "docs/trust.md"
