@@ -1,5 +1,7 @@
 """Makes the reference for callers of the string out of the sources, so that nobody keeps a list of calls or laws by hand.
 
+It alone sees, for example, that the clause of a call or the comment of a law was changed, and that the page still has the old one.
+
 tools/run reference            fails where PAGE is not what the sources make
 tools/run reference --write    writes PAGE
 

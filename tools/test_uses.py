@@ -26,7 +26,7 @@ class Uses(TreeTest):
         f"{UPPER}/REFERENCE.md": "`row-made`\n",
         f"{UPPER}/proofs/Lib.antt": "mod HalfLemmas\npub mod RowLaws\n",
         LEMMAS: "-- of halves\nstep : (n : ℕ) → n ≡ n\nstep n = refl\n",
-        LAWS: "pub row-made : 1 ≡ 1\nrow-made = step 1\n",
+        LAWS: "use Rattle.arraystring.proofs.HalfLemmas.{step}\n\npub row-made : 1 ≡ 1\nrow-made = step 1\n",
     }
 
     def test_each_call_and_law_has_a_test_and_each_command_a_row(self):
@@ -57,12 +57,14 @@ class Uses(TreeTest):
             uses,
             (nothing, odd),
             (nothing, (LEMMAS, END, f"\n-- as half-odd\n{ODD}")),
-            (f"{LEMMAS}: nothing names step\n", (LAWS, "= step 1", "= refl")),
+            (f"{LEMMAS}: nothing names step\n", (LAWS, r"\.\{step\}", ""), (LAWS, "= step 1", "= refl")),
+            # (a lemma of this name in another module is another)
+            (nothing, odd, (f"{UPPER}/proofs/MoreLemmas.antt", f"{ODD}\neven = half-odd\n"), (f"{UPPER}/proofs/pop/Answers.antt", "returns = even\n")),
             # (a page is no use, nor is an example)
             (nothing, odd, (f"{UPPER}/CALLING.md", "`half-odd`\n")),
             (nothing, odd, (f"{UPPER}/proofs/examples/Numbers.antt", "half-of_one = half-odd 1\n")),
         )
-        for cites in ((f"{UPPER}/proofs/pop/Answers.antt", "returns = half-odd 1\n"), (f"{UPPER}/proofs/Lib.antt", "\\Amod", "pub mod")):
+        for cites in ((f"{UPPER}/proofs/pop/Answers.antt", "use Rattle.arraystring.proofs.HalfLemmas.{half-odd}\nreturns = half-odd 1\n"), (f"{UPPER}/proofs/Lib.antt", "\\Amod", "pub mod")):
             with self.changed(odd, cites):
                 self.assertFalse(self.told(uses)[0], cites)
 

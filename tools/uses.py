@@ -36,12 +36,14 @@ def tested(root):
 
 
 def faults_of_lemmas(root, lemmas, words):
-    """The lemmas that callers can't cite, and that stand nowhere but in their own lines."""
+    """The lemmas that callers can't cite, and that neither their own file nor one that names their module names. `words` has those of each
+    file."""
     for_all = {name for crate in crates(root) if (root / "crates" / crate / REFERENCE).is_file() for name in for_callers(root, crate)}
     for lemma in lemmas:
-        own = re.findall(NAME, "\n".join(lemma.lines)).count(lemma.name)
-        if lemma.name not in for_all and words[lemma.name] <= own:
-            yield f"{lemma.path}: nothing names {lemma.name}"
+        name, module, own = lemma.name, lemma.path.stem, words[root / lemma.path]
+        is_named = own[name] > re.findall(NAME, "\n".join(lemma.lines)).count(name)
+        if name not in for_all and not is_named and not any(module in it and name in it for it in words.values() if it is not own):
+            yield f"{lemma.path}: nothing names {name}"
 
 
 def main(arguments, root):
@@ -57,7 +59,7 @@ def main(arguments, root):
     files = [file for it in folders for file in [*it.glob("src/**/*.rt"), *it.glob("specs/**/*.antt"), *proof_files(it)]]
     examples = [file for it in folders for file in sorted(it.glob(f"{EXAMPLES}/*.antt"))]
     lemmas = [it for it in Modules(root).items if it.path.match("crates/*/proofs/*.antt")]
-    faults += faults_of_lemmas(root, lemmas, Counter(word for it in files for word in words_of(it)))
+    faults += faults_of_lemmas(root, lemmas, {it: Counter(words_of(it)) for it in files})
     others = [it for it in (*files, *examples) if not it.is_relative_to(root / "crates" / CORE)]
     faults += [f"{it.relative_to(root)} names spare, as {CORE} alone may" for it in others if "spare" in words_of(it)]
     print("\n".join(faults) or f"{len(calls)} calls and {len(laws)} laws have a test, {len(commands)} commands a row, and "
