@@ -1,5 +1,7 @@
 """Copies the string into another repository, or brings it up to date there.
 
+It alone sees, for example, that README.md names another logic than that of the kit on this machine, with which all would be proved anew.
+
 tools/run add FOLDER             copies `arraystring` and the crates below it into FOLDER, the top of a repository in Rattle
 tools/run add FOLDER CRATE..     copies these crates and those below them, as bounded_records
 tools/run add                    fails where the logic of `rt version` is another than README.md names, or another page names one, too

@@ -1,5 +1,8 @@
 """Tries the controls: right bodies of the form of wrong ones, which prove where those must not.
 
+It alone sees, for example, that a wrong body is refused for its form, as one with a branch for which a stored answer has no case: then the
+right body of the same form is refused, too.
+
 tools/run controls [CRATE..]             those of these crates, or of all
 tools/run controls CRATE --edits NAME    of the function NAME alone, and its wrong bodies, with what refuses each
 

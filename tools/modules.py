@@ -2,9 +2,8 @@
 Examples are left out."""
 import re
 
-from repository import crates, proof_files, read
+from repository import NAME, crates, proof_files, read
 
-NAME = r"[^\s(){}\[\];,.]+"
 IMPORT = re.compile(r"(?m)^ *(?:unfoldable |pub |ghost )*use (Rattle[^\s{;]*?)(?:\.\{([^}]*)\})?(?: as ([^\s;]+))?;?$")
 
 
@@ -24,6 +23,17 @@ def imports(text):
 def module_of(path):
     """The name of the module in a file, by its path in the repository."""
     return "Rattle." + ".".join(path.with_suffix("").parts[1:])
+
+
+def for_callers(root, crate):
+    """The laws and rulesets that callers of a crate can cite: what is `pub` in a module that its proofs/Lib.antt passes on."""
+    found, listed = set(), root / f"crates/{crate}/proofs/Lib.antt"
+    passed = re.findall(r"(?m)^pub (?:mod|use Rattle\.(\w+)\.proofs\.)\s*(\w+)$", read(listed)) if listed.exists() else []
+    for other, name in passed:
+        text = read(root / f"crates/{other or crate}/proofs/{name}.antt")
+        brought = " ".join(re.findall(r"(?m)^pub use [^{;]*\{([^}]*)\}", text))
+        found |= {*re.findall(rf"(?m)^ *pub (?:ruleset )?({NAME}) [:=](?=\s)", text), *re.findall(NAME, brought)}
+    return found
 
 
 class Item:

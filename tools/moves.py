@@ -1,5 +1,8 @@
 """Fails where a move or a look might not be counted, as no contract says that each is.
 
+It alone sees, for example, that `compact_and_splice` moves the tail with `&mut Steps::new()` in place of `steps`: the moves of the front
+reach the lower bound of its contract.
+
 - A function that is given a `Steps` makes no other, and copies none. `Steps` has no other name.
 - arraystring_core moves bytes by the calls MOVES alone, and assigns none by an index or in a loop over all. Of LEAF, whose
   functions count nothing, it names READS alone: those read, lend or turn case.

@@ -1,5 +1,7 @@
 """Makes the reference for callers of the string out of the sources, so that nobody keeps a list of calls or laws by hand.
 
+It alone sees, for example, that the clause of a call or the comment of a law was changed, and that the page still has the old one.
+
 tools/run reference            fails where PAGE is not what the sources make
 tools/run reference --write    writes PAGE
 
@@ -11,10 +13,10 @@ import re
 import textwrap
 from itertools import zip_longest
 
-from modules import IMPORT, NAME, Modules, module_of
-from repository import read
+from modules import IMPORT, Modules, module_of
+from repository import NAME, REFERENCE, read
 
-PAGE = "crates/arraystring/REFERENCE.md"
+PAGE = f"crates/arraystring/{REFERENCE}"
 LAWS = "laws.rt"
 BASE, CORE, TOP = "crates/arraystring_base", "crates/arraystring_core", "crates/arraystring"
 # What an impl proves of itself, and no word of a contract.

@@ -1,6 +1,9 @@
 """Makes each call that takes memory while one growth after the other is refused, and compares what came back with what is worked
 out by hand: the status or the value, standard output, standard error, and the texts that are there then.
 
+It alone sees, for example, that `run` takes memory where it is given no command, or takes it twice: every contract allows that memory runs
+out at any time.
+
 tools/run refused [CRATE..]
 
 The crates are arraystring_cli, the program with scripts of each kind of reply at each word, and memory_tests, a program that

@@ -5,6 +5,10 @@ from pathlib import Path
 ROOT = Path(__file__).resolve().parent.parent
 # The folder of a crate with the examples of its definitions, one file for each file of specs/. No example is a use of anything.
 EXAMPLES = "proofs/examples"
+# The page of a crate that is made, and has each law of its callers.
+REFERENCE = "REFERENCE.md"
+# A name in a definition, a proof or a clause.
+NAME = r"[^\s(){}\[\];,.]+"
 
 
 def read(path):
@@ -30,6 +34,11 @@ def sources(folder):
     """The files of a crate's src/, without those of tests."""
     files = sorted(folder.glob("src/**/*.rt"))
     return [it for it in files if "tests" not in it.relative_to(folder).with_suffix("").parts]
+
+
+def words_of(file):
+    """The names in a source, a definition or a proof, without comments on lines of their own."""
+    return re.findall(NAME, re.sub(r"(?m)^\s*(--|//).*$|::", " ", read(file)))
 
 
 def public_types(files):

@@ -79,27 +79,15 @@ class Evidence(TreeTest):
             (MISSING("program print", 1), (PROGRAM, END, "\nfn print() {\n    1\n}\n")),
         )
 
-    def test_what_only_tests_call_needs_none_and_its_wrong_bodies_have_any_name(self):
+    def test_what_only_tests_call_and_an_example_need_none(self):
+        """The wrong bodies of what only tests call have any name."""
         self.assert_finds(
             evidence,
             ("", ("crates/test_support/must-fail/any.edit", "file: src/lib.rt\nold:     1\nnew:     0\n")),
-            ("", ("crates/memory_tests/must-fail/any.edit", "file: src/lib.rt\nold:     1\nnew:     0\n")),
-            ("", ("crates/numbers/deep/must-fail/any.edit", ONCE)),
+            ("arraystring_uses any: no public function has this name\n",
+             ("crates/arraystring_uses/must-fail/any.edit", "file: src/lib.rt\nold:     1\nnew:     0\n")),
             (NO_NAME("any"), (f"{FOLDER}/any.edit", ONCE)),
         )
-
-    def test_an_example_needs_none_and_one_that_it_has_is_held_as_others_are(self):
-        for crate in ("arraystring_uses", "bounded_records_uses"):
-            edit, text = f"crates/{crate}/must-fail/{{}}.edit".format, "file: src/lib.rt\nold:     1\nnew:     0\n"
-            self.assert_finds(
-                evidence,
-                ("", (edit("unasked.is_zero"), text)),
-                (f"{crate} any: no public function has this name\n", (edit("any"), text)),
-                (f"{crate} unasked.is_zero: src/lib.rt does not have this once:     2", (edit("unasked.is_zero"), text.replace("1", "2"))),
-            )
-            self.write("log", "3 passed, 0 failed\n")
-            lacking = f"{crate} unasked.is_zero: the log does not say that it is refused\n"
-            self.assert_finds(evidence, (lacking, (edit("unasked.is_zero"), text)), words=[str(self.root / "log")])
 
     def test_no_function_is_a_fault(self):
         with self.changed(*((it, None) for it in self.FILES if it.startswith("crates/numbers/"))):
@@ -191,12 +179,6 @@ class Evidence(TreeTest):
                 with self.changed((f"{FOLDER}/doubled.is_once.edit", None)):
                     self.assertEqual(self.told(evidence), (True, MISSING("numbers doubled", 2)))
 
-    def test_the_laws_that_borrow_need_none(self):
-        for name in ("text_fits", "text_spelled", "left_fits"):
-            with self.changed((OTHER, f"pub fn {name}() {{\n    1\n}}\n")):
-                self.assertFalse(self.told(evidence)[0])
-
-
 COUNTED = """\
 pub fn counted(steps: &mut Steps)
     ensures moved { steps.new.moved ≤ 4 }
@@ -283,11 +265,6 @@ class Refusals(TreeTest):
             self.write("log", f"rt: must-fail {line}\n")
             self.assertIn(f"moves other.is_zero: {lacking}", self.told(evidence, str(self.root / "log"))[1])
 
-    def test_one_that_is_named_for_no_function_is_refused_nowhere(self):
-        self.write(f"{MOVES}/nothing.is_one.edit", "file: src/lib.rt\nold:     0\nnew:     1\n")
-        told = "moves nothing.is_one: no public function has this name\n"
-        self.assertEqual(self.told_of("nothing.is_one", GOAL.format(13, "returns")), (True, told))
-
     def test_counts_refuse_nothing_of_what_does_not_count(self):
         by_counts = GOAL.format(13, "returns-then-zero-clause-moved")
         self.assert_named("refused by counts, of which plain is not", "plain.is_one", by_counts)
@@ -321,11 +298,4 @@ class Refusals(TreeTest):
                 ("", (path, "new:     2", "new:\n    2")),
                 words=words)
         self.assertEqual(self.told(evidence, "--more", "none"), (True, f"no wrong bodies are in crates/none/{MORE}"))
-        # (of two crates both are tried where none is named, and that which is named alone)
-        other = path.replace("moves", "others")
-        for text in (page, page.replace("2\n", "0 + 0\n")):
-            with self.changed(("crates.txt", "moves:\nothers:\n"), ("crates/others/src/lib.rt", COUNTED), (other, text)):
-                for words, is_seen in ((["--more"], True), (["--more", "others"], True), (["--more", "moves"], False)):
-                    is_bad, said = self.told(evidence, *words)
-                    self.assertEqual((is_bad, "must-fail others/" in said), (is_seen and text != page, is_seen), words)
         self.assertTrue((self.root / path).exists() and (self.root / MOVES / "plain.is_one.edit").exists())

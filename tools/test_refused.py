@@ -56,11 +56,8 @@ class Refused(TreeTest):
             self.assertEqual(self.told_of(":", *how), (False, []))
 
     def test_a_wrong_answer_at_one_number_is_seen(self):
-        for at, mistake in (("taken at 1", "status=3"), ("taken at 2", "status=0"), ("taken at 3", "output=done"),
-                            ("taken at 3", "errors=''"), ("taken at 3", "errors='read failed'"), ("taken at 4", "output=''"),
-                            ("taken at 4", "errors='out of memory'"), ("taken at 2", "how=fault"), ("none at 1", "status=3"),
-                            ("none at 4", "output=\"$output b\""), ("none at 4", "continue"),
-                            ("none at 4", "output=$(printf '\\377')"), ("none at 4", "how='failed run=ended'")):
+        for at, mistake in (("taken at 2", "status=0"), ("taken at 3", "errors=''"), ("taken at 4", "output=''"), ("taken at 2", "how=fault"),
+                            ("none at 1", "status=3"), ("none at 4", "continue")):
             for crate, builds in HOW:
                 failed, lines = self.told_of(f"[ $at != {at.replace(' at ', '')} ] || {mistake}", crate, builds)
                 self.assertEqual((failed, len(lines)), (True, 1), mistake)
@@ -79,9 +76,6 @@ class Refused(TreeTest):
             failed, lines = self.told_of(mistake)
             self.assertEqual((failed, len(lines)), (True, count))
             self.assertRegex(lines[-1], rf"^stand_in at \d: rt try ends with {said}$")
-
-    def test_another_crate_is_refused(self):
-        self.assertEqual(refused.main(["arraystring"], ROOT), "arraystring is none of arraystring_cli, memory_tests")
 
     def test_each_call_that_memory_can_run_out_in_is_refused(self):
         named = re.search(r"Memory can run out in (.*?);", read(ROOT / "docs/trust.md"), re.S)[1]

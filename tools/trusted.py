@@ -1,5 +1,8 @@
 """Says which definitions a reader of the contracts has to agree with, and keeps specs/ to definitions.
 
+It alone sees, for example, a definition of `specs` that no contract and no law reaches, one of a public contract that has no example, or a
+row in docs/trust.md that quotes another error than its example proves.
+
 tools/run trusted           how many definitions the contract of `run` reaches, and how many lines they have; then the same of all
                             public contracts of the LIBRARIES, and of all that there are
 tools/run trusted --list    also prints them with their comments and first examples, in the order in which to read them: those of `run`,
@@ -26,8 +29,8 @@ import sys
 from collections import namedtuple
 from itertools import zip_longest
 
-from modules import NAME, Modules, imports
-from repository import EXAMPLES, closed, crates, inline_code, public_types, read, section, sources
+from modules import Modules, imports
+from repository import EXAMPLES, NAME, closed, crates, inline_code, public_types, read, section, sources
 
 LIBRARIES = ["arraystring_base", "arraystring_core", "arraystring", "arraystring_run", "bounded_records"]
 PAGE = "docs/trust.md"
