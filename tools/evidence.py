@@ -1,7 +1,7 @@
 """Fails where a public function or impl has no wrong body of its name, and where something else than a goal refused one.
 
-It alone sees, for example, that a new public call has no wrong body, or that one of `encode` is refused only because a stored answer of it
-names what the wrong body lacks. `rt ci` asks for no wrong body, and takes a refusal of any kind.
+It alone sees, for example, that a new public call has no wrong body, or that what refused one of `encode` is a goal of another function, or
+a clause about counts. `rt ci` asks for no wrong body, and does not look at where one was refused.
 
 tools/run evidence           looks at the files alone, also whether each wrong body can be put into its crate
 tools/run evidence LOG       also at what `rt ci` said in LOG of each wrong body in must-fail/

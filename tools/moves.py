@@ -1,7 +1,7 @@
 """Fails where a move or a look might not be counted, as no contract says that each is.
 
 It alone sees, for example, that `compact_and_splice` moves the tail with `&mut Steps::new()` in place of `steps`: the moves of the front
-reach the lower bound of its contract.
+reach the lower bound of its contract. (`tools/run evidence` then names the wrong bodies that quote the line, and not why it is wrong.)
 
 - A function that is given a `Steps` makes no other, and copies none. `Steps` has no other name.
 - arraystring_core moves bytes by the calls MOVES alone, and assigns none by an index or in a loop over all. Of LEAF, whose
