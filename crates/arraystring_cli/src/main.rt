@@ -1,5 +1,5 @@
 //! Plays a script of commands from standard input to standard output. What it calls is tested in
-//! `crates/arraystring_run_tests`, and the program by `try`.
+//! `crates/arraystring_program_tests`, and the program by `try`.
 #![tactic(auto)]
 
 use arraystring::MaxString;
