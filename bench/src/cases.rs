@@ -201,6 +201,7 @@ pub const CURVES: &[Curve] = &[
     curve("`len`", Call::Len, At::text),
     curve("`cmp`, equal", Call::Cmp, At::equal),
     curve("`cmp`, the first differs", Call::Cmp, |at| at.differs(0)),
+    curve("`cmp`, the middle differs", Call::Cmp, |at| at.differs(at.size / 2)),
     curve("`cmp`, the last differs", Call::Cmp, |at| at.differs(at.size.checked_sub(1)?)),
     curve("`<`, the last differs", Call::Less, |at| at.differs(at.size.checked_sub(1)?)),
     curve("`==`, equal", Call::Eq, At::equal),

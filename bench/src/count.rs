@@ -70,7 +70,8 @@ pub fn calls(names: &[String]) -> Table {
     }
     let totals = totals(RUN_CALLS, names);
     assert_eq!(parts.len(), totals.len(), "callgrind counts each part");
-    let counted: Vec<_> = parts.iter().zip(totals).map(|(part, total)| (part, (total / TIMES as f64).round())).collect();
+    let counted: Vec<_> =
+        parts.iter().zip(totals).map(|(part, total)| (part, (total / TIMES as f64).round())).collect();
     let mean = |title, capacity, side| {
         let of = |it: &Part| it.curve.title == title && it.capacity == capacity && it.side == side;
         let counts: Vec<f64> = counted.iter().filter(|(part, _)| of(part)).map(|(_, count)| *count).collect();

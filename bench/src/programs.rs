@@ -54,9 +54,7 @@ fn sort_measured<S: Texts>(rows: &mut [RowOf<S>]) {
 
 /// Which rows each city has, by std's map, whose hashes are the same at each run.
 #[inline(never)]
-fn hash_map_measured<S: Texts>(
-    rows: &[RowOf<S>],
-) -> HashMap<S::City, Vec<usize>, BuildHasherDefault<DefaultHasher>> {
+fn hash_map_measured<S: Texts>(rows: &[RowOf<S>]) -> HashMap<S::City, Vec<usize>, BuildHasherDefault<DefaultHasher>> {
     let mut cities = HashMap::<_, Vec<usize>, _>::default();
     for (at, row) in rows.iter().enumerate() {
         cities.entry(row.city.clone()).or_default().push(at);

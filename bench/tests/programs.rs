@@ -83,7 +83,8 @@ fn expected(title: &str, given: &Given) -> Vec<String> {
             given.short.iter().map(digits).collect()
         }
         ("error", _) => {
-            let text = |(at, word): (usize, &String)| ["line ", &at.to_string(), ": unknown word `", word, "`"].concat();
+            let text =
+                |(at, word): (usize, &String)| ["line ", &at.to_string(), ": unknown word `", word, "`"].concat();
             given.long.iter().enumerate().map(text).collect()
         }
         _ => panic!("no expectation has the title {title}"),

@@ -12,7 +12,7 @@ fn table(ours: [f64; 3], peers: [f64; 3]) -> Table {
 /// How many faults our sides have beside a page, each as often as the other.
 fn faults(table: &Table, page: &str) -> usize {
     let ours = SIDES.iter().filter(|side| side.is_ours()).count();
-    table.faults(page, true).len() / ours
+    table.faults(page, false).len() / ours
 }
 
 #[test]

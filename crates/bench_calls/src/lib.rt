@@ -155,7 +155,12 @@ fn insert_str_measured<const N: usize>(text: &mut Text<N>, index: u8, given: &st
 }
 
 #[inline(never)]
-fn replace_range_measured<const N: usize>(text: &mut Text<N>, start: u8, end: u8, given: &str) -> bool {
+fn replace_range_measured<const N: usize>(
+    text: &mut Text<N>,
+    start: u8,
+    end: u8,
+    given: &str,
+) -> bool {
     text.replace_range(start..end, given).is_ok()
 }
 
@@ -258,7 +263,12 @@ struct Case<'a> {
 }
 
 /// What a call answers that makes a string or changes none: the calls have the numbers of `Call` in bench/src/cases.rs.
-fn make_or_look<const N: usize>(call: u8, text: &mut Text<N>, other: &Text<N>, case: &Case<'_>) -> u64 {
+fn make_or_look<const N: usize>(
+    call: u8,
+    text: &mut Text<N>,
+    other: &Text<N>,
+    case: &Case<'_>,
+) -> u64 {
     match call {
         0 => {
             *text = new_try_push_str_measured(case.held);
@@ -386,7 +396,15 @@ pub extern "C" fn proved_answer(
     let Some(ch) = char::from_u32(code) else {
         return 0;
     };
-    let case = Case { held, offset, given, units, ch, start, end };
+    let case = Case {
+        held,
+        offset,
+        given,
+        units,
+        ch,
+        start,
+        end,
+    };
     match capacity {
         23 => answer::<23>(call, &case),
         63 => answer::<63>(call, &case),
