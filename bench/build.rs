@@ -1,4 +1,4 @@
-//! Links the proved build where PROVED names the folder that proved/build made, and sets `proved`.
+//! Links the proved build where PROVED names the folder of crates/bench_calls that has it, and sets `proved`.
 
 fn main() {
     println!("cargo::rustc-check-cfg=cfg(proved)");

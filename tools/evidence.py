@@ -36,8 +36,9 @@ import controls
 from edits import MORE, of_file, wrong_bodies
 from repository import closed, crates, public_types, read, sources
 
-# Only tests call test_support, and memory_tests is one: what is wrong there its own tests and theirs see, or `tools/run refused`.
-FOR_TESTS = {"test_support", "memory_tests"}
+# Only tests call test_support, and memory_tests is one: what is wrong there its own tests and theirs see, or `tools/run refused`. Nothing
+# calls bench_calls but the bench, which compares each answer with those of other strings.
+FOR_TESTS = {"test_support", "memory_tests", "bench_calls"}
 # Callers that pages quote. What a call that they make can do wrong, its own crate shows.
 EXAMPLES = {"arraystring_uses", "bounded_records_uses"}
 # They borrow what they speak of, or call it, so that the prover has the fact. Without that they are as true.

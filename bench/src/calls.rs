@@ -1,4 +1,4 @@
-//! Each call in a function of its own that is measured. The proved build has the same functions in proved/calls.txt.
+//! Each call in a function of its own that is measured. The proved build has the same functions in crates/bench_calls.
 
 use std::cmp::Ordering;
 use std::hash::{DefaultHasher, Hasher};
@@ -56,7 +56,6 @@ measured! {
     from_str_truncate_measured<S: More>(given: &str) -> S = S::from_str_truncate(given);
     from_chars_truncate_measured<S: More>(given: &str) -> S = S::from_chars_truncate(given.chars());
     try_from_utf8_measured<S: More>(given: &[u8]) -> Option<S> = S::try_from_utf8(given);
-    from_utf8_truncate_measured<S: More>(given: &[u8]) -> Option<S> = S::from_utf8_truncate(given);
     from_utf16_truncate_measured<S: More>(units: &[u16]) -> Option<S> = S::from_utf16_truncate(units);
     from_utf16_lossy_truncate_measured<S: More>(units: &[u16]) -> S = S::from_utf16_lossy_truncate(units);
     try_insert_measured<S: More>(text: &mut S, index: usize, ch: char) -> bool = text.try_insert(index, ch);
@@ -68,7 +67,6 @@ measured! {
         text.replace_range(start, end, given);
     trim_in_place_measured<S: More>(text: &mut S) -> () = text.trim_in_place();
     retain_measured<S: More>(text: &mut S, dropped: char) -> () = text.retain(|ch| ch != dropped);
-    retain_fourth_measured<S: More>(text: &mut S) -> () = text.retain(|ch| !(ch as u32).is_multiple_of(4));
     split_off_measured<S: More>(text: &mut S, at: usize) -> Option<S> = text.split_off(at);
     drain_measured<S: More>(text: &mut S, start: usize, end: usize) -> u32 = {
         let mut sum = 0u32;
@@ -128,7 +126,6 @@ pub fn make_any<S: More>(call: Call, text: &mut S, other: &S, case: &Case) -> Op
         Call::FromStrTruncate => put(text, Some(from_str_truncate_measured(held))),
         Call::FromCharsTruncate => put(text, Some(from_chars_truncate_measured(held))),
         Call::TryFromUtf8 => put(text, try_from_utf8_measured(held.as_bytes())),
-        Call::FromUtf8Truncate => put(text, from_utf8_truncate_measured(held.as_bytes())),
         Call::FromUtf16Truncate => put(text, from_utf16_truncate_measured(&case.units)),
         Call::FromUtf16LossyTruncate => put(text, Some(from_utf16_lossy_truncate_measured(&case.units))),
         Call::TryInsert => try_insert_measured(text, start, case.ch).into(),
@@ -141,10 +138,6 @@ pub fn make_any<S: More>(call: Call, text: &mut S, other: &S, case: &Case) -> Op
         }
         Call::Retain => {
             retain_measured(text, case.ch);
-            0
-        }
-        Call::RetainFourth => {
-            retain_fourth_measured(text);
             0
         }
         Call::SplitOff => split_off_measured(text, start).map_or(0, |rest| digest(rest.as_str())),

@@ -1,6 +1,8 @@
 //! The curves: which call is measured on which strings, at each length. A length is that of the text, or of what is put into a
 //! text that fills half of the capacity.
 
+use crate::{BUILD, Build, is_asked};
+
 /// A call. The proved build knows it by its number, in this order.
 #[derive(Clone, Copy, Debug, PartialEq)]
 #[repr(u8)]
@@ -25,7 +27,6 @@ pub enum Call {
     FromStrTruncate,
     FromCharsTruncate,
     TryFromUtf8,
-    FromUtf8Truncate,
     FromUtf16Truncate,
     FromUtf16LossyTruncate,
     PushStrTruncate,
@@ -35,7 +36,6 @@ pub enum Call {
     ReplaceRange,
     TrimInPlace,
     Retain,
-    RetainFourth,
     SplitOff,
     Drain,
     DrainBack,
@@ -141,10 +141,6 @@ impl At {
         Some(Case { given, ..case })
     }
 
-    fn last_differs_at_end(self) -> Option<Case> {
-        Some(Case { offset: self.capacity - self.size, ..self.differs(self.size.checked_sub(1)?)? })
-    }
-
     /// With a text of the length put into one that fills half of the capacity.
     fn put(self) -> Option<Case> {
         let half = self.capacity / 2;
@@ -169,12 +165,6 @@ impl At {
     fn lines(self) -> Option<Case> {
         let case = self.put()?;
         (self.size <= case.held.len()).then_some(Case { start: 0, end: self.size, ..case })
-    }
-
-    fn surrogate(self) -> Option<Case> {
-        let mut case = self.text()?;
-        case.units.insert(case.units.len() / 2, 0xD800);
-        Some(case)
     }
 
     /// With spaces at both ends, half of all.
@@ -213,14 +203,8 @@ pub const CURVES: &[Curve] = &[
     curve("`cmp`, the first differs", Call::Cmp, |at| at.differs(0)),
     curve("`cmp`, the middle differs", Call::Cmp, |at| at.differs(at.size / 2)),
     curve("`cmp`, the last differs", Call::Cmp, |at| at.differs(at.size.checked_sub(1)?)),
-    curve("`cmp`, the last differs, at the end of the array", Call::Cmp, At::last_differs_at_end),
-    curve("`<`, equal", Call::Less, At::equal),
-    curve("`<`, the first differs", Call::Less, |at| at.differs(0)),
-    curve("`<`, the middle differs", Call::Less, |at| at.differs(at.size / 2)),
     curve("`<`, the last differs", Call::Less, |at| at.differs(at.size.checked_sub(1)?)),
     curve("`==`, equal", Call::Eq, At::equal),
-    curve("`==`, the first differs", Call::Eq, |at| at.differs(0)),
-    curve("`==`, the middle differs", Call::Eq, |at| at.differs(at.size / 2)),
     curve("`==`, the last differs", Call::Eq, |at| at.differs(at.size.checked_sub(1)?)),
     curve("`Hash`", Call::Hash, At::text),
     curve("`new` and `try_push_str`", Call::NewTryPushStr, At::text),
@@ -232,11 +216,9 @@ pub const CURVES: &[Curve] = &[
     curve("`from_chars_truncate`, mixed", Call::FromCharsTruncate, At::text),
     curve("`try_from_utf8`", Call::TryFromUtf8, At::text),
     curve("`try_from_utf8`, mixed", Call::TryFromUtf8, At::text),
-    curve("`from_utf8_truncate` of too much", Call::FromUtf8Truncate, At::too_much),
     curve("`from_utf16_truncate`", Call::FromUtf16Truncate, At::text),
     curve("`from_utf16_truncate`, mixed", Call::FromUtf16Truncate, At::text),
     curve("`from_utf16_lossy_truncate`", Call::FromUtf16LossyTruncate, At::text),
-    curve("`from_utf16_lossy_truncate` of a lone surrogate", Call::FromUtf16LossyTruncate, At::surrogate),
     curve("`clone`", Call::Clone, At::text),
     curve("`try_push_str`", Call::TryPushStr, At::put),
     curve("`push_str_truncate`", Call::PushStrTruncate, At::put),
@@ -261,10 +243,8 @@ pub const CURVES: &[Curve] = &[
     curve("`remove` in the middle, mixed", Call::Remove, At::text),
     curve("`truncate` to half", Call::Truncate, At::text),
     curve("`trim_in_place`, half of it spaces", Call::TrimInPlace, At::spaced),
-    curve("`trim_in_place`, half of it spaces, mixed", Call::TrimInPlace, At::spaced),
     curve("`retain`, one in ten dropped", Call::Retain, At::text),
     curve("`retain`, one in four dropped, mixed", Call::Retain, At::text),
-    curve("`retain`, by its number, mixed", Call::RetainFourth, At::text),
     curve("`split_off` of half", Call::SplitOff, At::text),
     curve("`drain` of a quarter, at the front", Call::Drain, At::front),
     curve("`drain` of a quarter, walked", Call::Drain, At::text),
@@ -272,7 +252,21 @@ pub const CURVES: &[Curve] = &[
     curve("`drain` of a quarter, walked from the back", Call::DrainBack, At::text),
 ];
 
-/// The curves whose titles contain one of the names, or all.
+/// The calls that are counted also in a debug build and with `checked`, where each access is tested.
+const WHERE_TESTED: [&str; 9] = [
+    "`as_str`",
+    "`==`, equal",
+    "`try_from_str`",
+    "`try_push_str`",
+    "`try_push`, mixed",
+    "window: `remove(0)`, `try_push`",
+    "`pop`",
+    "`remove` in the middle",
+    "`retain`, one in four dropped, mixed",
+];
+
+/// The curves whose titles contain one of the names, or all that this build counts.
 pub fn asked(names: &[String]) -> impl Iterator<Item = &'static Curve> {
-    CURVES.iter().filter(move |it| names.is_empty() || names.iter().any(|name| it.title.contains(name.as_str())))
+    let is_counted = |it: &&Curve| BUILD == Build::Release || WHERE_TESTED.contains(&it.title);
+    CURVES.iter().filter(is_counted).filter(move |it| is_asked(it.title, names))
 }

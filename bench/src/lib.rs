@@ -1,14 +1,17 @@
-//! What a call costs, by the crate, by its proved build, by std's `String`, by arrayvec and by arraystring 0.3.0: see README.md.
+//! What calls, whole programs and code cost by the crate, by its proved build, by std's `String` and by arrayvec. docs/speed.md has the
+//! tables, and says how they are counted.
 
 pub mod calls;
 pub mod cases;
-pub mod clock;
 pub mod count;
+pub mod programs;
 #[cfg(proved)]
 mod proved;
+pub mod rows;
 pub mod sides;
+pub mod sizes;
 pub mod tables;
-pub mod whole_programs;
+pub mod texts;
 
 use arraystring::ArrayString;
 
@@ -17,6 +20,22 @@ use sides::Limited;
 
 pub const CAPACITIES: [usize; 3] = [23, 63, 255];
 
+/// How the bench itself is built, and the strings with it.
+#[derive(Clone, Copy, PartialEq)]
+pub enum Build {
+    Release,
+    Debug,
+    Checked,
+}
+
+pub const BUILD: Build = if cfg!(debug_assertions) {
+    Build::Debug
+} else if cfg!(feature = "checked") {
+    Build::Checked
+} else {
+    Build::Release
+};
+
 /// Whose string makes a call.
 #[derive(Clone, Copy, Debug, PartialEq)]
 pub enum Side {
@@ -24,7 +43,6 @@ pub enum Side {
     Proved,
     String,
     Arrayvec,
-    Original,
 }
 
 /// The sides that are built here, ours first.
@@ -34,8 +52,6 @@ pub const SIDES: &[Side] = &[
     Side::Proved,
     Side::String,
     Side::Arrayvec,
-    #[cfg(feature = "original")]
-    Side::Original,
 ];
 
 impl Side {
@@ -45,7 +61,6 @@ impl Side {
             Side::Proved => "proved",
             Side::String => "String",
             Side::Arrayvec => "arrayvec",
-            Side::Original => "0.3.0",
         }
     }
 
@@ -72,25 +87,7 @@ impl Side {
             Side::Proved => Some(proved::answer::<N>(call, case)),
             #[cfg(not(proved))]
             Side::Proved => None,
-            #[cfg(feature = "original")]
-            Side::Original => original_answer::<N>(call, case),
-            #[cfg(not(feature = "original"))]
-            Side::Original => None,
         }
-    }
-}
-
-/// What arraystring 0.3.0 answers. Its `replace_range` does not shorten a text, so it is left out, with the lines, which call it.
-#[cfg(feature = "original")]
-fn original_answer<const N: usize>(call: Call, case: &Case) -> Option<u64> {
-    use original::ArrayString;
-    use original::typenum::{U23, U63, U255};
-
-    match (call, N) {
-        (Call::ReplaceRange | Call::Lines, _) => None,
-        (_, 23) => calls::answer::<ArrayString<U23>>(call, case, calls::make_any),
-        (_, 63) => calls::answer::<ArrayString<U63>>(call, case, calls::make_any),
-        _ => calls::answer::<ArrayString<U255>>(call, case, calls::make_any),
     }
 }
 
@@ -100,4 +97,9 @@ pub fn sides_of(capacity: usize, call: Call, case: &Case) -> Vec<Side> {
     let is_same = answers.iter().all(|(_, answer)| *answer == answers[0].1);
     assert!(is_same, "{call:?} at {capacity} of {:?}, {:?}: {answers:?}", case.held, case.given);
     answers.into_iter().map(|(side, _)| side).collect()
+}
+
+/// Whether a title contains one of the names, or there are none.
+pub fn is_asked(title: &str, names: &[String]) -> bool {
+    names.is_empty() || names.iter().any(|name| title.contains(name.as_str()))
 }

@@ -1,8 +1,8 @@
-//! The calls of the proved build, which proved/calls.txt has.
+//! The calls of the proved build, which crates/bench_calls has.
 
 use crate::cases::{Call, Case};
 
-#[link(name = "arraystring_bench", kind = "static")]
+#[link(name = "bench_calls", kind = "static")]
 unsafe extern "C" {
     /// A slice is a pointer and a length there.
     fn proved_answer(

@@ -26,7 +26,6 @@ pub trait More: Side {
     fn from_str_truncate(given: &str) -> Self;
     fn from_chars_truncate(chars: impl Iterator<Item = char>) -> Self;
     fn try_from_utf8(given: &[u8]) -> Option<Self>;
-    fn from_utf8_truncate(given: &[u8]) -> Option<Self>;
     fn from_utf16_truncate(units: &[u16]) -> Option<Self>;
     fn from_utf16_lossy_truncate(units: &[u16]) -> Self;
     fn try_insert(&mut self, index: usize, ch: char) -> bool;
@@ -40,160 +39,120 @@ pub trait More: Side {
     fn drain(&mut self, start: usize, end: usize, from_back: bool, each: impl FnMut(char)) -> bool;
 }
 
-/// A string whose calls have the names of this crate's, but for those that are told. Where `remove` of an empty text is undefined, it is
-/// refused before the call.
-macro_rules! side {
-    (
-        [$($generic:tt)*] $text:ty, index: $index:ty, tests_empty: $tests_empty:literal,
-        $push_str_truncate:ident, $insert_str_truncate:ident, $trim_in_place:ident,
-        $from_chars_truncate:ident, $from_utf8_truncate:ident, $from_utf16_truncate:ident, $from_utf16_lossy_truncate:ident
-    ) => {
-        impl<$($generic)*> Side for $text {
-            fn new() -> Self {
-                Self::new()
-            }
+impl<const N: usize> Side for ArrayString<N> {
+    fn new() -> Self {
+        Self::new()
+    }
 
-            fn as_str(&self) -> &str {
-                Self::as_str(self)
-            }
+    fn as_str(&self) -> &str {
+        Self::as_str(self)
+    }
 
-            fn size(&self) -> usize {
-                Self::len(self) as usize
-            }
+    fn size(&self) -> usize {
+        Self::len(self)
+    }
 
-            fn try_from_str(given: &str) -> Option<Self> {
-                Self::try_from_str(given).ok()
-            }
+    fn try_from_str(given: &str) -> Option<Self> {
+        Self::try_from_str(given).ok()
+    }
 
-            #[inline(always)]
-            fn try_push_str(&mut self, given: &str) -> bool {
-                Self::try_push_str(self, given).is_ok()
-            }
+    #[inline(always)]
+    fn try_push_str(&mut self, given: &str) -> bool {
+        Self::try_push_str(self, given).is_ok()
+    }
 
-            #[inline(always)]
-            fn try_push(&mut self, ch: char) -> bool {
-                Self::try_push(self, ch).is_ok()
-            }
+    #[inline(always)]
+    fn try_push(&mut self, ch: char) -> bool {
+        Self::try_push(self, ch).is_ok()
+    }
 
-            fn pop(&mut self) -> Option<char> {
-                Self::pop(self)
-            }
+    fn pop(&mut self) -> Option<char> {
+        Self::pop(self)
+    }
 
-            fn remove(&mut self, index: usize) -> Option<char> {
-                if $tests_empty && Self::is_empty(self) {
-                    return None;
-                }
-                Self::remove(self, index as $index).ok()
-            }
+    fn remove(&mut self, index: usize) -> Option<char> {
+        Self::remove(self, index).ok()
+    }
 
-            fn truncate(&mut self, size: usize) -> bool {
-                Self::truncate(self, size as $index).is_ok()
-            }
+    fn truncate(&mut self, size: usize) -> bool {
+        Self::truncate(self, size).is_ok()
+    }
 
-            fn clear(&mut self) {
-                Self::clear(self);
-            }
+    fn clear(&mut self) {
+        Self::clear(self);
+    }
 
-            fn push_str_truncate(&mut self, given: &str) {
-                let _ = Self::$push_str_truncate(self, given);
-            }
-        }
-
-        impl<$($generic)*> More for $text {
-            #[inline(always)]
-            fn from_str_truncate(given: &str) -> Self {
-                Self::from_str_truncate(given)
-            }
-
-            fn from_chars_truncate(chars: impl Iterator<Item = char>) -> Self {
-                Self::$from_chars_truncate(chars)
-            }
-
-            fn try_from_utf8(given: &[u8]) -> Option<Self> {
-                Self::try_from_utf8(given).ok()
-            }
-
-            fn from_utf8_truncate(given: &[u8]) -> Option<Self> {
-                Self::$from_utf8_truncate(given).ok()
-            }
-
-            fn from_utf16_truncate(units: &[u16]) -> Option<Self> {
-                Self::$from_utf16_truncate(units).ok()
-            }
-
-            fn from_utf16_lossy_truncate(units: &[u16]) -> Self {
-                Self::$from_utf16_lossy_truncate(units)
-            }
-
-            fn try_insert(&mut self, index: usize, ch: char) -> bool {
-                Self::try_insert(self, index as $index, ch).is_ok()
-            }
-
-            fn try_insert_str(&mut self, index: usize, given: &str) -> bool {
-                Self::try_insert_str(self, index as $index, given).is_ok()
-            }
-
-            #[inline(always)]
-            fn insert_str_truncate(&mut self, index: usize, given: &str) -> bool {
-                Self::$insert_str_truncate(self, index as $index, given).is_ok()
-            }
-
-            fn replace_range(&mut self, start: usize, end: usize, given: &str) -> bool {
-                Self::replace_range(self, start as $index..end as $index, given).is_ok()
-            }
-
-            fn trim_in_place(&mut self) {
-                Self::$trim_in_place(self);
-            }
-
-            fn retain(&mut self, keeps: impl FnMut(char) -> bool) {
-                Self::retain(self, keeps);
-            }
-
-            fn split_off(&mut self, at: usize) -> Option<Self> {
-                Self::split_off(self, at as $index).ok()
-            }
-
-            #[inline(always)]
-            fn drain(&mut self, start: usize, end: usize, from_back: bool, each: impl FnMut(char)) -> bool {
-                let Ok(drained) = Self::drain(self, start as $index..end as $index) else { return false };
-                if from_back {
-                    drained.rev().for_each(each)
-                } else {
-                    drained.for_each(each)
-                }
-                true
-            }
-        }
-    };
+    fn push_str_truncate(&mut self, given: &str) {
+        let _ = Self::push_str_truncate(self, given);
+    }
 }
 
-side!(
-    [const N: usize] ArrayString<N>, index: usize, tests_empty: false,
-    push_str_truncate, insert_str_truncate, trim_in_place,
-    from_chars_truncate, from_utf8_truncate, from_utf16_truncate, from_utf16_lossy_truncate
-);
-#[cfg(feature = "original")]
-side!(
-    [Size: original::prelude::Capacity] original::ArrayString<Size>, index: u8, tests_empty: true,
-    push_str, insert_str, trim,
-    from_chars, from_utf8, from_utf16, from_utf16_lossy
-);
+impl<const N: usize> More for ArrayString<N> {
+    #[inline(always)]
+    fn from_str_truncate(given: &str) -> Self {
+        Self::from_str_truncate(given)
+    }
+
+    fn from_chars_truncate(chars: impl Iterator<Item = char>) -> Self {
+        Self::from_chars_truncate(chars)
+    }
+
+    fn try_from_utf8(given: &[u8]) -> Option<Self> {
+        Self::try_from_utf8(given).ok()
+    }
+
+    fn from_utf16_truncate(units: &[u16]) -> Option<Self> {
+        Self::from_utf16_truncate(units).ok()
+    }
+
+    fn from_utf16_lossy_truncate(units: &[u16]) -> Self {
+        Self::from_utf16_lossy_truncate(units)
+    }
+
+    fn try_insert(&mut self, index: usize, ch: char) -> bool {
+        Self::try_insert(self, index, ch).is_ok()
+    }
+
+    fn try_insert_str(&mut self, index: usize, given: &str) -> bool {
+        Self::try_insert_str(self, index, given).is_ok()
+    }
+
+    #[inline(always)]
+    fn insert_str_truncate(&mut self, index: usize, given: &str) -> bool {
+        Self::insert_str_truncate(self, index, given).is_ok()
+    }
+
+    fn replace_range(&mut self, start: usize, end: usize, given: &str) -> bool {
+        Self::replace_range(self, start..end, given).is_ok()
+    }
+
+    fn trim_in_place(&mut self) {
+        Self::trim_in_place(self);
+    }
+
+    fn retain(&mut self, keeps: impl FnMut(char) -> bool) {
+        Self::retain(self, keeps);
+    }
+
+    fn split_off(&mut self, at: usize) -> Option<Self> {
+        Self::split_off(self, at).ok()
+    }
+
+    #[inline(always)]
+    fn drain(&mut self, start: usize, end: usize, from_back: bool, each: impl FnMut(char)) -> bool {
+        let Ok(drained) = Self::drain(self, start..end) else { return false };
+        if from_back {
+            drained.rev().for_each(each)
+        } else {
+            drained.for_each(each)
+        }
+        true
+    }
+}
 
 /// Std's `String` that holds at most `N` bytes, with that room reserved. It makes the tests that the other sides make.
-#[derive(PartialEq, Eq, PartialOrd, Ord, Hash)]
+#[derive(Clone, PartialEq, Eq, PartialOrd, Ord, Hash)]
 pub struct Limited<const N: usize>(String);
-
-impl<const N: usize> Clone for Limited<N> {
-    fn clone(&self) -> Self {
-        Limited(self.0.clone())
-    }
-
-    /// (it keeps the room)
-    fn clone_from(&mut self, other: &Self) {
-        self.0.clone_from(&other.0);
-    }
-}
 
 impl<const N: usize> Limited<N> {
     fn with(text: &str) -> Self {
@@ -306,10 +265,6 @@ impl<const N: usize> More for Limited<N> {
 
     fn try_from_utf8(given: &[u8]) -> Option<Self> {
         Self::try_from_str(str::from_utf8(given).ok()?)
-    }
-
-    fn from_utf8_truncate(given: &[u8]) -> Option<Self> {
-        Some(Self::from_str_truncate(str::from_utf8(given).ok()?))
     }
 
     fn from_utf16_truncate(units: &[u16]) -> Option<Self> {

@@ -1,106 +1,109 @@
-//! Prints tables in Markdown.
+//! Tables in Markdown, and how they are compared with those of docs/speed.md, which are the bounds.
 
-use crate::count::{Counted, Counts};
-use crate::{CAPACITIES, SIDES, Side};
+use crate::{SIDES, Side};
 
-/// Whether a count is more than another, a tenth and three instructions.
-pub fn is_more(count: f64, other: f64) -> bool {
-    count > other * 1.1 + 3.0
+/// What a side takes at each capacity or level; nothing, where it lacks the call.
+pub type Numbers = Vec<f64>;
+
+/// A title, and the numbers of each of `SIDES`.
+pub struct Row {
+    pub title: String,
+    pub cells: Vec<Numbers>,
 }
 
-/// The least count of the peers.
-fn best(counts: &[Option<f64>]) -> Option<f64> {
-    let peers = SIDES.iter().zip(counts).filter(|(side, _)| !side.is_ours());
-    peers.filter_map(|(_, count)| *count).reduce(f64::min)
+pub struct Table {
+    pub title: &'static str,
+    pub rows: Vec<Row>,
 }
 
-/// The counts of the sides as cells, bold where ours is behind the best peer. A dash is no count.
-fn cells(counts: &[Option<f64>], digits: usize, is_behind: fn(f64, f64) -> bool) -> String {
-    let cell = |(side, count): (&Side, &Option<f64>)| match (count, best(counts)) {
-        (None, _) => "–|".to_string(),
-        (Some(count), Some(best)) if side.is_ours() && is_behind(*count, best) => format!("**{count:.digits$}**|"),
-        (Some(count), _) => format!("{count:.digits$}|"),
-    };
-    SIDES.iter().zip(counts).map(cell).collect()
+/// Whether a number is more than another, a tenth and three.
+pub fn is_more(number: f64, other: f64) -> bool {
+    number > other * 1.1 + 3.0
 }
 
-fn head(title: &str, columns: impl Iterator<Item = String>) {
-    let columns: Vec<String> = columns.collect();
-    println!("\n|{title}|{}|", columns.join("|"));
-    println!("|---|{}", "---|".repeat(columns.len()));
-}
-
-/// A column for each side at each capacity.
-fn columns() -> impl Iterator<Item = String> {
-    let of = |capacity| SIDES.iter().map(move |side| format!("{capacity} {}", side.name()));
-    CAPACITIES.into_iter().flat_map(of)
-}
-
-/// A table of a row for each title, with the counts of each side at each capacity.
-pub fn by_capacity(title: &str, rows: &[Row], digits: usize, is_behind: fn(f64, f64) -> bool) {
-    head(title, columns());
-    for (title, by_capacity) in rows {
-        let none = vec![None; SIDES.len()];
-        let of = |place: usize| cells(by_capacity.get(place).unwrap_or(&none), digits, is_behind);
-        println!("|{title}|{}", (0..CAPACITIES.len()).map(of).collect::<String>());
+impl Row {
+    /// The least of the peers at one place of the cells.
+    fn best(&self, place: usize) -> Option<f64> {
+        let peers = SIDES.iter().zip(&self.cells).filter(|(side, _)| !side.is_ours());
+        peers.filter_map(|(_, numbers)| numbers.get(place).copied()).reduce(f64::min)
     }
-    let all: Vec<_> = rows.iter().flat_map(|(_, by_capacity)| by_capacity).collect();
-    tell_behind(&all, is_behind);
-}
 
-/// In how many of some cells each of our sides is behind.
-fn tell_behind(all: &[&Counts], is_behind: fn(f64, f64) -> bool) {
-    println!();
-    for (place, side) in SIDES.iter().enumerate().filter(|(_, side)| side.is_ours()) {
-        let has = all.iter().filter_map(|counts| Some((counts[place]?, best(counts)?)));
-        let (late, made) =
-            has.fold((0, 0), |(late, made), (count, best)| (late + u32::from(is_behind(count, best)), made + 1));
-        println!("Behind the best peer: the side `{}` in {late} of {made}.", side.name());
+    /// Whether each number of a side is behind the best peer.
+    fn behind(&self, numbers: &Numbers) -> Vec<bool> {
+        let is_behind = |(place, number): (usize, &f64)| self.best(place).is_some_and(|best| is_more(*number, best));
+        numbers.iter().enumerate().map(is_behind).collect()
+    }
+
+    /// Numbers as a cell, bold where ours is behind.
+    fn cell(&self, side: Side, numbers: &Numbers) -> String {
+        let cell = |(number, is_behind)| match is_behind && side.is_ours() {
+            true => format!("**{number:.0}**"),
+            false => format!("{number:.0}"),
+        };
+        let cells: Vec<String> = numbers.iter().zip(self.behind(numbers)).map(cell).collect();
+        if cells.is_empty() { "–".to_string() } else { cells.join("/") }
     }
 }
 
-fn mean(counted: &Counted, place: usize) -> Option<f64> {
-    let sum: Option<f64> = counted.by_size.values().map(|counts| counts[place]).sum();
-    sum.map(|sum| sum / counted.by_size.len() as f64)
-}
+impl Table {
+    /// The sides that have a number here.
+    fn sides(&self) -> impl Iterator<Item = (usize, Side)> {
+        let has = |(place, _): &(usize, Side)| self.rows.iter().any(|row| !row.cells[*place].is_empty());
+        SIDES.iter().copied().enumerate().filter(has)
+    }
 
-/// A title, and the counts at each capacity.
-pub type Row = (&'static str, Vec<Counts>);
-
-/// The rows of means.
-pub fn means(found: &[Counted]) -> Vec<Row> {
-    let mut rows: Vec<Row> = Vec::new();
-    for counted in found {
-        if rows.last().is_none_or(|(title, _)| *title != counted.title) {
-            rows.push((counted.title, Vec::new()));
+    /// The table, and below it at how many places each of our sides is behind.
+    pub fn text(&self) -> String {
+        let names: Vec<&str> = self.sides().map(|(_, side)| side.name()).collect();
+        let mut text = format!("|{}|{}|\n|---|{}\n", self.title, names.join("|"), "---|".repeat(names.len()));
+        for row in &self.rows {
+            let cells: Vec<String> = self.sides().map(|(place, side)| row.cell(side, &row.cells[place])).collect();
+            text += &format!("|{}|{}|\n", row.title, cells.join("|"));
         }
-        let row = &mut rows.last_mut().expect("one was pushed").1;
-        row.push((0..SIDES.len()).map(|place| mean(counted, place)).collect());
+        for (place, side) in self.sides().filter(|(_, side)| side.is_ours()) {
+            let all: Vec<bool> = self.rows.iter().flat_map(|row| row.behind(&row.cells[place])).collect();
+            let late = all.iter().filter(|is_behind| **is_behind).count();
+            text += &format!("\nBehind the best peer: the side `{}` in {late} of {}.\n", side.name(), all.len());
+        }
+        text
     }
-    rows
-}
 
-/// At how many lengths one of our sides is behind, and where it is worst.
-pub fn tell_lengths_behind(found: &[Counted]) {
-    let columns = ["side", "lengths behind", "of", "times the best peer, at worst", "at length"];
-    head("Call, capacity", columns.map(str::to_string).into_iter());
-    for (place, side) in SIDES.iter().enumerate().filter(|(_, side)| side.is_ours()) {
-        for Counted { title, capacity, by_size } in found {
-            let has_both = |(size, counts): (&usize, &Counts)| Some((*size, counts[place]?, best(counts)?));
-            let both: Vec<_> = by_size.iter().filter_map(has_both).collect();
-            let late = both.iter().filter(|(_, count, best)| is_more(*count, *best)).count();
-            let worst = both.iter().max_by(|one, other| (one.1 / one.2).total_cmp(&(other.1 / other.2)));
-            if let (1.., Some((size, count, best))) = (late, worst) {
-                println!("|{title}, {capacity}|{}|{late}|{}|{:.2}|{size}|", side.name(), both.len(), count / best);
+    /// Where ours are above the bounds, which the table of the same title on a page has; and the rows that the page has alone, if these
+    /// are all rows of the table.
+    pub fn faults(&self, page: &str, is_whole: bool) -> Vec<String> {
+        let (columns, bounds) = table_of(page, self.title);
+        let mut faults = Vec::new();
+        for row in &self.rows {
+            let bound = bounds.iter().find(|bound| bound[0] == row.title);
+            for (place, side) in self.sides().filter(|(_, side)| side.is_ours()) {
+                let column = columns.iter().position(|name| *name == side.name());
+                let cell = bound.zip(column).and_then(|(bound, column)| bound.get(column).copied()).unwrap_or("");
+                let (numbers, limits) = (&row.cells[place], numbers(cell));
+                if numbers.len() != limits.len() || numbers.iter().zip(&limits).any(|(one, most)| is_more(*one, *most))
+                {
+                    let cell_here = row.cell(side, numbers);
+                    faults.push(format!("{}, {}: {cell_here}, and the page has {cell:?}", row.title, side.name()));
+                }
             }
         }
+        let alone = bounds.iter().filter(|bound| is_whole && !self.rows.iter().any(|row| row.title == bound[0]));
+        faults.extend(alone.map(|bound| format!("{}: only the page has it", bound[0])));
+        faults
     }
 }
 
-/// What the programs take for each row, word or character.
-pub fn tell_programs(title: &str, rows: &[(&str, Counts)], digits: usize, is_behind: fn(f64, f64) -> bool) {
-    head(&format!("{title} for each of 4,000"), SIDES.iter().map(|side| side.name().to_string()));
-    for (title, counts) in rows {
-        println!("|{title}|{}", cells(counts, digits, is_behind));
-    }
+fn cells(line: &str) -> Vec<&str> {
+    line.trim_matches('|').split('|').collect()
+}
+
+/// The names of the columns and the rows of a page's table, without the line below its head.
+fn table_of<'a>(page: &'a str, title: &str) -> (Vec<&'a str>, Vec<Vec<&'a str>>) {
+    let mut lines = page.lines().skip_while(|line| cells(line)[0] != title).take_while(|line| line.starts_with('|'));
+    let columns = lines.next().map(cells).unwrap_or_default();
+    (columns, lines.skip(1).map(cells).collect())
+}
+
+/// The numbers of a cell, in which some are bold.
+fn numbers(cell: &str) -> Numbers {
+    cell.split('/').filter_map(|it| it.trim_matches('*').parse().ok()).collect()
 }

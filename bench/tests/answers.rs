@@ -1,7 +1,7 @@
 //! Each call of the bench answers, and leaves, on each side what it does on the others.
 
 use bench::cases::CURVES;
-use bench::{CAPACITIES, Side, sides_of};
+use bench::{CAPACITIES, SIDES, Side, sides_of};
 
 #[test]
 fn all_sides_answer_the_same_at_each_length() {
@@ -12,7 +12,7 @@ fn all_sides_answer_the_same_at_each_length() {
             for size in sizes {
                 let case = curve.case(capacity, size).expect("it is one of the lengths");
                 let sides = sides_of(capacity, curve.call, &case);
-                assert!(sides.contains(&Side::Crate) && sides.contains(&Side::String), "{}", curve.title);
+                assert!(SIDES.iter().all(|side| *side == Side::Arrayvec || sides.contains(side)), "{}", curve.title);
             }
         }
     }

@@ -1,26 +1,22 @@
 //! The strings that the programs are written over.
 
-use std::borrow::Borrow;
 use std::fmt::{Debug, Display, Write};
 use std::hash::Hash;
 use std::ops::Deref;
 
-/// What the programs call of a string. A text fits where a call does not say what it does otherwise.
-/// Each has the hint `inline`, so a program is compiled as if it called its string itself.
-pub trait Text: Clone + Ord + Hash + Debug + Display + Write + Borrow<str> + Deref<Target = str> {
+/// What the programs call of a string. A text fits where a call does not say what it does otherwise. Each has the hint `inline`, so a
+/// program is compiled as if it called its string itself.
+pub trait Text: Clone + Ord + Hash + Debug + Display + Write + Deref<Target = str> {
     fn empty() -> Self;
     fn of(text: &str) -> Self;
     fn push_text(&mut self, text: &str);
     fn push_char(&mut self, ch: char);
-    fn pop_char(&mut self) -> Option<char>;
     fn remove_first(&mut self) -> char;
     fn make_empty(&mut self);
 
     // (only `String` has to be told how many bytes it may have)
     /// A text, if it fits.
     fn try_of(text: &str, most: usize) -> Option<Self>;
-    /// Appends a text, and returns whether it fits.
-    fn offer_text(&mut self, text: &str, most: usize) -> bool;
     /// Appends a character, and returns whether it fits.
     fn offer_char(&mut self, ch: char, most: usize) -> bool;
     /// Appends the whole characters that fit.
@@ -28,7 +24,7 @@ pub trait Text: Clone + Ord + Hash + Debug + Display + Write + Borrow<str> + Der
 }
 
 /// The strings of a program: of at most 30, 62, 14, 255, 23 and 63 bytes.
-pub trait Side {
+pub trait Texts {
     type Name: Text;
     type City: Text;
     type Code: Text;
@@ -37,18 +33,17 @@ pub trait Side {
     type Long: Text;
 }
 
-/// A side of strings in an array. Of its calls these are told: what makes a string, what removes the first character, and what appends
-/// what fits.
+/// Strings in an array. Of their calls these are told: what makes a string, what removes the first character, and what appends what fits.
 macro_rules! in_an_array {
     (
-        $side:ident, $package:ident,
+        $texts:ident, $package:ident,
         $make:ident,
         |$removed:ident| $remove_first:expr,
         |$pushed:ident, $text:ident| $push_what_fits:expr
     ) => {
-        pub struct $side;
+        pub struct $texts;
 
-        impl Side for $side {
+        impl Texts for $texts {
             type Name = $package::ArrayString<30>;
             type City = $package::ArrayString<62>;
             type Code = $package::ArrayString<14>;
@@ -79,11 +74,6 @@ macro_rules! in_an_array {
             }
 
             #[inline]
-            fn pop_char(&mut self) -> Option<char> {
-                self.pop()
-            }
-
-            #[inline]
             fn remove_first(&mut self) -> char {
                 let $removed = self;
                 $remove_first
@@ -97,11 +87,6 @@ macro_rules! in_an_array {
             #[inline]
             fn try_of(text: &str, _: usize) -> Option<Self> {
                 Self::$make(text).ok()
-            }
-
-            #[inline]
-            fn offer_text(&mut self, text: &str, _: usize) -> bool {
-                self.try_push_str(text).is_ok()
             }
 
             #[inline]
@@ -126,7 +111,7 @@ in_an_array!(OfArrayvec, arrayvec, from, |it| it.remove(0), |it, text| it
 
 pub struct OfString;
 
-impl Side for OfString {
+impl Texts for OfString {
     type Name = String;
     type City = String;
     type Code = String;
@@ -157,11 +142,6 @@ impl Text for String {
     }
 
     #[inline]
-    fn pop_char(&mut self) -> Option<char> {
-        self.pop()
-    }
-
-    #[inline]
     fn remove_first(&mut self) -> char {
         self.remove(0)
     }
@@ -174,15 +154,6 @@ impl Text for String {
     #[inline]
     fn try_of(text: &str, most: usize) -> Option<Self> {
         (text.len() <= most).then(|| Self::from(text))
-    }
-
-    #[inline]
-    fn offer_text(&mut self, text: &str, most: usize) -> bool {
-        let fits = self.len() + text.len() <= most;
-        if fits {
-            self.push_str(text);
-        }
-        fits
     }
 
     #[inline]

@@ -1,9 +1,10 @@
-//! The calls of the proved build, each in a function of its own that is measured, as src/calls.rs has them.
+//! The calls of the proved build, each in a function of its own whose instructions the bench counts: bench/src/calls.rs has the same ones
+//! over the strings of Rust. No other crate lists this one.
 #![tactic(auto)]
 
 ghost use Rattle.std.specs.Prelude.{◌≤◌};
 
-use arraystring_base::error::{Error, OutOfBounds, Utf8, Utf16};
+use arraystring_base::error::{Error, OutOfBounds, Utf16};
 use arraystring_core::ArrayString;
 use std::cmp::Ordering;
 use std::hash::{DefaultHasher, Hash, Hasher};
@@ -124,11 +125,6 @@ fn try_from_utf8_measured<const N: usize>(given: &[u8]) -> Result<Text<N>, Error
 }
 
 #[inline(never)]
-fn from_utf8_measured<const N: usize>(given: &[u8]) -> Result<Text<N>, Utf8> {
-    Text::from_utf8(given)
-}
-
-#[inline(never)]
 fn from_utf16_measured<const N: usize>(units: &[u16]) -> Result<Text<N>, Utf16> {
     Text::from_utf16(units)
 }
@@ -159,7 +155,12 @@ fn insert_str_measured<const N: usize>(text: &mut Text<N>, index: u8, given: &st
 }
 
 #[inline(never)]
-fn replace_range_measured<const N: usize>(text: &mut Text<N>, start: u8, end: u8, given: &str) -> bool {
+fn replace_range_measured<const N: usize>(
+    text: &mut Text<N>,
+    start: u8,
+    end: u8,
+    given: &str,
+) -> bool {
     text.replace_range(start..end, given).is_ok()
 }
 
@@ -171,11 +172,6 @@ fn trim_measured<const N: usize>(text: &mut Text<N>) {
 #[inline(never)]
 fn retain_measured<const N: usize>(text: &mut Text<N>, dropped: char) {
     text.retain(|ch| ch != dropped);
-}
-
-#[inline(never)]
-fn retain_fourth_measured<const N: usize>(text: &mut Text<N>) {
-    text.retain(|ch| ch as u32 % 4 != 0);
 }
 
 #[inline(never)]
@@ -266,8 +262,13 @@ struct Case<'a> {
     end: u8,
 }
 
-/// What a call answers that makes a string or changes none: the calls have the numbers of `Call` in src/cases.rs.
-fn make_or_look<const N: usize>(call: u8, text: &mut Text<N>, other: &Text<N>, case: &Case<'_>) -> u64 {
+/// What a call answers that makes a string or changes none: the calls have the numbers of `Call` in bench/src/cases.rs.
+fn make_or_look<const N: usize>(
+    call: u8,
+    text: &mut Text<N>,
+    other: &Text<N>,
+    case: &Case<'_>,
+) -> u64 {
     match call {
         0 => {
             *text = new_try_push_str_measured(case.held);
@@ -294,8 +295,7 @@ fn make_or_look<const N: usize>(call: u8, text: &mut Text<N>, other: &Text<N>, c
             1
         }
         19 => put(text, try_from_utf8_measured(case.held.as_bytes())),
-        20 => put(text, from_utf8_measured(case.held.as_bytes())),
-        21 => put(text, from_utf16_measured(case.units)),
+        20 => put(text, from_utf16_measured(case.units)),
         _ => {
             *text = from_utf16_lossy_measured(case.units);
             1
@@ -310,14 +310,14 @@ fn add<const N: usize>(call: u8, text: &mut Text<N>, case: &Case<'_>) -> u64 {
         10 => try_push_measured(text, case.ch) as u64,
         15 => window_measured(text) as u64,
         16 => line_measured(text, case.held) as u64,
-        23 => {
+        22 => {
             push_str_measured(text, case.given);
             0
         }
-        24 => try_insert_measured(text, case.start, case.ch) as u64,
-        25 => try_insert_str_measured(text, case.start, case.given) as u64,
-        26 => insert_str_measured(text, case.start, case.given) as u64,
-        27 => replace_range_measured(text, case.start, case.end, case.given) as u64,
+        23 => try_insert_measured(text, case.start, case.ch) as u64,
+        24 => try_insert_str_measured(text, case.start, case.given) as u64,
+        25 => insert_str_measured(text, case.start, case.given) as u64,
+        26 => replace_range_measured(text, case.start, case.end, case.given) as u64,
         _ => lines_measured(text, case.given, case.end) as u64,
     }
 }
@@ -333,23 +333,19 @@ fn take<const N: usize>(call: u8, text: &mut Text<N>, case: &Case<'_>) -> u64
             Err(_) => 0,
         },
         13 => truncate_measured(text, case.start) as u64,
-        28 => {
+        27 => {
             trim_measured(text);
             0
         }
-        29 => {
+        28 => {
             retain_measured(text, case.ch);
             0
         }
-        30 => {
-            retain_fourth_measured(text);
-            0
-        }
-        31 => match split_off_measured(text, case.start) {
+        29 => match split_off_measured(text, case.start) {
             Ok(rest) => digest(rest.as_str()),
             Err(_) => 0,
         },
-        32 => drain_measured(text, case.start, case.end) as u64,
+        30 => drain_measured(text, case.start, case.end) as u64,
         _ => drain_back_measured(text, case.start, case.end) as u64,
     }
 }
@@ -374,8 +370,8 @@ fn answer<const N: usize>(call: u8, case: &Case<'_>) -> u64
     let mut text = filled::<N>(case.held, case.offset);
     let other = filled::<N>(case.given, if call == 5 { case.offset } else { 0 });
     let told = match call {
-        0..=8 | 14 | 17..=22 => make_or_look(call, &mut text, &other, case),
-        11..=13 | 28..=33 => take(call, &mut text, case),
+        0..=8 | 14 | 17..=21 => make_or_look(call, &mut text, &other, case),
+        11..=13 | 27..=31 => take(call, &mut text, case),
         _ => add(call, &mut text, case),
     };
     told.wrapping_mul(31).wrapping_add(digest(text.as_str()))
@@ -400,7 +396,15 @@ pub extern "C" fn proved_answer(
     let Some(ch) = char::from_u32(code) else {
         return 0;
     };
-    let case = Case { held, offset, given, units, ch, start, end };
+    let case = Case {
+        held,
+        offset,
+        given,
+        units,
+        ch,
+        start,
+        end,
+    };
     match capacity {
         23 => answer::<23>(call, &case),
         63 => answer::<63>(call, &case),

@@ -1,6 +1,6 @@
-//! A library of calls whose bytes of code are counted. Settings say over which string it is (`over_arrayvec`, `over_string`, or
-//! else this crate), which calls it exports (`calls`: one, three or eight), and at which capacities (`capacities`: three or
-//! eight of them, one, or none, which is the empty library). `String`, which has no capacity, has each call once.
+//! A library of calls whose bytes of code are counted. Settings say over which string it is (`over`: this crate, arrayvec or `String`),
+//! which calls it exports (`calls`: three or eight), and at how many capacities (`capacities`: one, three or eight, or none, which is
+//! the empty library). `String`, which has no capacity, has each call once.
 #![no_std]
 #![allow(dead_code, unused_imports, unused_macros, reason = "a library of few calls leaves some out")]
 
@@ -11,19 +11,19 @@ fn panic(_: &PanicInfo) -> ! {
     loop {}
 }
 
-#[cfg(not(any(over_arrayvec, over_string)))]
+#[cfg(over = "crate")]
 mod over {
-    pub use arraystring::ArrayString as Text;
-    pub type Removed = Result<char, arraystring::Error>;
+    pub use strings::ArrayString as Text;
+    pub type Removed = Result<char, strings::Error>;
 
     pub fn made<const N: usize>(given: &str) -> Option<Text<N>> {
         Text::try_from_str(given).ok()
     }
 }
 
-#[cfg(over_arrayvec)]
+#[cfg(over = "arrayvec")]
 mod over {
-    pub use arrayvec::ArrayString as Text;
+    pub use strings::ArrayString as Text;
     pub type Removed = char;
 
     pub fn made<const N: usize>(given: &str) -> Option<Text<N>> {
@@ -31,8 +31,54 @@ mod over {
     }
 }
 
+#[cfg(over = "String")]
+mod over {
+    extern crate alloc;
+
+    use alloc::string::String;
+    use core::fmt::{self, Write};
+
+    pub type Removed = char;
+
+    /// A `String` under the calls of the others, which it never refuses.
+    #[derive(PartialEq, PartialOrd)]
+    pub struct Text<const N: usize>(String);
+
+    pub fn made<const N: usize>(given: &str) -> Option<Text<N>> {
+        Some(Text(String::from(given)))
+    }
+
+    impl<const N: usize> Text<N> {
+        #[inline(always)]
+        pub fn try_push_str(&mut self, given: &str) -> fmt::Result {
+            self.0.push_str(given);
+            Ok(())
+        }
+
+        #[inline(always)]
+        pub fn try_push(&mut self, ch: char) -> fmt::Result {
+            self.0.push(ch);
+            Ok(())
+        }
+
+        #[inline(always)]
+        pub fn remove(&mut self, at: usize) -> char {
+            self.0.remove(at)
+        }
+
+        #[inline(always)]
+        pub fn pop(&mut self) -> Option<char> {
+            self.0.pop()
+        }
+
+        #[inline(always)]
+        pub fn write_fmt(&mut self, given: fmt::Arguments<'_>) -> fmt::Result {
+            self.0.write_fmt(given)
+        }
+    }
+}
+
 /// Exports the calls at each of these capacities.
-#[cfg(not(over_string))]
 macro_rules! exported {
     ($($capacity:literal)*) => {$(
         const _: () = {
@@ -45,13 +91,11 @@ macro_rules! exported {
                 text.try_push_str(given).is_ok()
             }
 
-            #[cfg(not(calls = "1"))]
             #[unsafe(export_name = concat!("try_push_", $capacity))]
             pub fn try_push(text: &mut Held, ch: char) -> bool {
                 text.try_push(ch).is_ok()
             }
 
-            #[cfg(not(calls = "1"))]
             #[unsafe(export_name = concat!("remove_", $capacity))]
             pub fn remove(text: &mut Held, at: usize) -> Removed {
                 text.remove(at)
@@ -84,6 +128,7 @@ macro_rules! exported {
             #[cfg(calls = "8")]
             #[unsafe(export_name = concat!("write_", $capacity))]
             pub fn write(text: &mut Held, given: &str) -> bool {
+                #[cfg(not(over = "String"))]
                 use core::fmt::Write;
                 write!(text, "{given}").is_ok()
             }
@@ -91,15 +136,15 @@ macro_rules! exported {
     )*};
 }
 
-#[cfg(all(capacities = "1", not(over_string)))]
+#[cfg(capacities = "1")]
 exported!(23);
-#[cfg(all(capacities = "3", not(over_string)))]
+#[cfg(capacities = "3")]
 exported!(23 63 255);
-#[cfg(all(capacities = "8", not(over_string)))]
+#[cfg(capacities = "8")]
 exported!(8 15 23 31 47 63 127 255);
 
 /// The memory of C.
-#[cfg(over_string)]
+#[cfg(over = "String")]
 mod memory {
     use core::alloc::{GlobalAlloc, Layout};
 
@@ -132,59 +177,4 @@ mod memory {
 
     #[global_allocator]
     static MEMORY: Memory = Memory;
-}
-
-#[cfg(all(over_string, not(capacities = "0")))]
-mod of_string {
-    extern crate alloc;
-
-    use alloc::string::String;
-
-    #[unsafe(no_mangle)]
-    pub fn push_str(text: &mut String, given: &str) {
-        text.push_str(given);
-    }
-
-    #[cfg(not(calls = "1"))]
-    #[unsafe(no_mangle)]
-    pub fn push(text: &mut String, ch: char) {
-        text.push(ch);
-    }
-
-    #[cfg(not(calls = "1"))]
-    #[unsafe(no_mangle)]
-    pub fn remove(text: &mut String, at: usize) -> char {
-        text.remove(at)
-    }
-
-    #[cfg(calls = "8")]
-    #[unsafe(no_mangle)]
-    pub fn pop(text: &mut String) -> Option<char> {
-        text.pop()
-    }
-
-    #[cfg(calls = "8")]
-    #[unsafe(no_mangle)]
-    pub fn from(given: &str) -> String {
-        String::from(given)
-    }
-
-    #[cfg(calls = "8")]
-    #[unsafe(no_mangle)]
-    pub fn equal(text: &String, other: &String) -> bool {
-        text == other
-    }
-
-    #[cfg(calls = "8")]
-    #[unsafe(no_mangle)]
-    pub fn less(text: &String, other: &String) -> bool {
-        text < other
-    }
-
-    #[cfg(calls = "8")]
-    #[unsafe(no_mangle)]
-    pub fn write(text: &mut String, given: &str) -> bool {
-        use core::fmt::Write;
-        write!(text, "{given}").is_ok()
-    }
 }

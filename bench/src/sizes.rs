@@ -1,0 +1,94 @@
+//! Bytes of code that calls bring: those of a shared library with them (library_of_calls.rs), minus those of the same library without
+//! a call. It runs rustc, nm and size.
+
+use std::env;
+use std::fs;
+use std::path::{Path, PathBuf};
+use std::process::Command;
+
+use crate::tables::{Numbers, Row, Table};
+use crate::{SIDES, Side, is_asked};
+
+const LEVELS: [&str; 3] = ["3", "s", "z"];
+/// How many calls a library exports, and at how many capacities.
+const LIBRARIES: [(usize, usize); 6] = [(3, 1), (3, 3), (3, 8), (8, 1), (8, 3), (8, 8)];
+
+/// What a command prints, which has to succeed.
+fn printed(command: &mut Command) -> String {
+    let output = command.output().unwrap_or_else(|error| panic!("{command:?}: {error}"));
+    assert!(output.status.success(), "{command:?}: {}", String::from_utf8_lossy(&output.stderr));
+    String::from_utf8(output.stdout).expect("it prints text")
+}
+
+/// The command that compiles a file at a level of optimisation.
+fn rustc(level: &str, file: &Path) -> Command {
+    let mut command = Command::new(env::var("RUSTC").unwrap_or("rustc".to_string()));
+    command.arg(format!("-Copt-level={level}")).args(["-Ccodegen-units=1", "-Cpanic=abort", "--cap-lints=allow"]);
+    command.arg("-Ctarget-cpu=x86-64-v2").arg(file);
+    command
+}
+
+/// The source of a crate that a library of calls is over.
+fn source(side: Side) -> Option<PathBuf> {
+    let here = Path::new(env!("CARGO_MANIFEST_DIR"));
+    match side {
+        Side::Crate => Some(here.join("../rust/arraystring/src/lib.rs")),
+        Side::Arrayvec => {
+            let found = fs::read_dir("/usr/share/cargo/registry").expect("Debian has arrayvec").flatten();
+            let folder = found.map(|it| it.path()).find(|it| it.display().to_string().contains("/arrayvec-0.7"));
+            Some(folder.expect("librust-arrayvec-dev is there").join("src/lib.rs"))
+        }
+        Side::String | Side::Proved => None,
+    }
+}
+
+/// The bytes of the code of a library, which has to export all of its calls.
+fn text_bytes(folder: &Path, level: &str, side: Side, calls: usize, capacities: usize) -> f64 {
+    let library = folder.join("calls.so");
+    let mut command = rustc(level, &Path::new(env!("CARGO_MANIFEST_DIR")).join("library_of_calls.rs"));
+    command.args(["--edition=2024", "-Clto", "--crate-type=cdylib", "-o"]).arg(&library);
+    command.arg(format!("--cfg=over=\"{}\"", side.name())).arg(format!("--cfg=calls=\"{calls}\""));
+    command.arg(format!("--cfg=capacities=\"{capacities}\""));
+    if side != Side::String {
+        command.arg("--extern").arg(format!("strings={}", folder.join("libstrings.rlib").display()));
+    }
+    printed(&mut command);
+    let symbols = printed(Command::new("nm").args(["--dynamic", "--defined-only"]).arg(&library));
+    let exported = symbols.lines().filter(|line| line.contains(" T ")).count();
+    assert_eq!(exported, calls * capacities, "a library over {} exports all of its calls", side.name());
+    let sections = printed(Command::new("size").arg("-A").arg(&library));
+    let text = sections.lines().find_map(|line| line.strip_prefix(".text ")).expect("it has code");
+    text.split_whitespace().next().and_then(|it| it.parse().ok()).expect("a section has a size")
+}
+
+/// The bytes of the calls of a side at each level. `String` is one type at all capacities.
+fn sizes(folder: &Path, level: &str, side: Side, asked: &[(usize, usize)]) -> Vec<f64> {
+    if let Some(source) = source(side) {
+        let edition = if side == Side::Crate { "2024" } else { "2018" };
+        let mut command = rustc(level, &source);
+        command.args(["--crate-type=rlib", "--crate-name=strings", "--edition", edition, "--out-dir"]).arg(folder);
+        printed(&mut command);
+    }
+    let of = |calls, capacities| text_bytes(folder, level, side, calls, capacities);
+    let empty = of(3, 0);
+    asked.iter().map(|&(calls, all)| of(calls, if side == Side::String { 1 } else { all }) - empty).collect()
+}
+
+/// The bytes of code of each library that is asked for.
+pub fn table(names: &[String]) -> Table {
+    let title = |(calls, capacities): &(usize, usize)| format!("calls: {calls}, capacities: {capacities}");
+    let asked: Vec<_> = LIBRARIES.into_iter().filter(|it| is_asked(&title(it), names)).collect();
+    let mut rows: Vec<Row> =
+        asked.iter().map(|it| Row { title: title(it), cells: vec![Numbers::new(); SIDES.len()] }).collect();
+    if !asked.is_empty() {
+        let folder = env::temp_dir().join(format!("bench-sizes-{}", std::process::id()));
+        fs::create_dir_all(&folder).expect("there is room for it");
+        for (place, side) in SIDES.iter().enumerate().filter(|(_, side)| **side != Side::Proved) {
+            for bytes in LEVELS.map(|level| sizes(&folder, level, *side, &asked)) {
+                rows.iter_mut().zip(bytes).for_each(|(row, bytes)| row.cells[place].push(bytes));
+            }
+        }
+        fs::remove_dir_all(folder).expect("it is there");
+    }
+    Table { title: "Bytes of code, at the levels 3/s/z", rows }
+}
