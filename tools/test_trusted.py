@@ -171,8 +171,8 @@ class Trusted(TreeTest):
         with self.changed((RUN, SOURCE.replace("Rows.{rest_of}", "GhostProofs.{none}").replace("rest_of", "none"))):
             self.assertEqual(self.reached(), [])
 
-    def test_libraries_are_the_crates_that_are_no_programs_no_tests_and_no_callers(self):
-        found = [it for it in crates(ROOT) if (ROOT / "crates" / it / "src/lib.rt").exists() and not re.search("test|_uses$", it)]
+    def test_libraries_are_the_crates_that_are_no_programs_no_tests_no_callers_and_no_bench(self):
+        found = [it for it in crates(ROOT) if (ROOT / "crates" / it / "src/lib.rt").exists() and not re.search("test|_uses$|^bench_", it)]
         self.assertEqual(LIBRARIES, found)
 
     def test_labels_parameters_fields_and_strings_are_no_words(self):
