@@ -294,14 +294,10 @@ def refuse_what_is_left(t):
             t.refuse(at, 'an `unsafe` without its `SAFETY` before it')
 
 
-def with_origin(path, text):
-    return f'// Made from crates/{path} by rust/generate.py: change that, and run this.\n{text}'
-
-
 def made(crates):
     """The text of each file, by its path below arraystring/src/proved."""
     sources, counted = {}, set()
-    texts = {COPY: with_origin(LIST, (crates / LIST).read_text(encoding='utf8'))}
+    texts = {COPY: (crates / LIST).read_text(encoding='utf8')}
     for crate, module in CRATES.items():
         folder = crates / crate / 'src'
         for path in sorted(folder.rglob('*.rt')):
@@ -319,7 +315,7 @@ def made(crates):
         with_arrays_last(t)
         without_examples(t)
         refuse_what_is_left(t)
-        texts[t.place] = with_origin(path.relative_to(crates), t)
+        texts[t.place] = f'// Made from crates/{path.relative_to(crates)} by rust/generate.py: change that, and run this.\n{t}'
     return texts
 
 

@@ -77,7 +77,7 @@ def made(source):
         the_list.parent.mkdir(parents=True)
         the_list.write_text('// pop', encoding='utf8')
         files = generate.made(Path(folder))
-        assert files[generate.COPY].endswith('\n// pop'), files[generate.COPY]
+        assert files[generate.COPY] == '// pop', files[generate.COPY]
         return files[Path('base/a.rs')].split('\n', 1)[1].strip()
 
 

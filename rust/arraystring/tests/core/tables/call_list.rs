@@ -1,4 +1,3 @@
-// Made from crates/arraystring_tests/src/tests/call_list.rt by rust/generate.py: change that, and run this.
 // The calls that tables make as they are, each with what it is given: one line a call. The tests in
 // Rust make theirs by a copy of this file, for which rust/generate.py has to be run.
 //
