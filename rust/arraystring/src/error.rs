@@ -96,7 +96,7 @@ part! {
     OutOfBounds, "larger than the capacity"
 }
 
-/// Implements `From` of an error, by which `?` converts it.
+/// Implements `From` of an error, by which `?` converts it: of a part into `Error`, and of an error of std into `Error` or a part.
 macro_rules! impl_from_error {
     ($($error:ty => $made:ident $(:: $case:ident)?;)*) => {$(
         impl From<$error> for $made {

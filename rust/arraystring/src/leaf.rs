@@ -6,7 +6,8 @@
 use core::mem::MaybeUninit;
 use core::{ptr, slice};
 
-/// Whether each access is tested, although the proof says of each that it is right.
+/// Whether each access is tested, although the proof says of each that it is right: in debug builds, by the feature `checked`, and where
+/// a `usize` has not the 64 bits for which that is proved.
 pub(crate) const IS_TESTED: bool = cfg!(any(debug_assertions, feature = "checked", not(target_pointer_width = "64")));
 
 /// Asserts the preconditions of a function (what its contract in Rattle `requires`), if `IS_TESTED`. Else it does nothing.
@@ -21,8 +22,8 @@ macro_rules! required {
 /// A byte of the array of a string. It has no value before one is written.
 pub(crate) type Place = MaybeUninit<u8>;
 
-/// What a place of a new array holds: no value. It is 0 where accesses are tested, because a wrong index panics there, perhaps after the
-/// size has risen and before the byte is written. The string that this leaves has a value in each place of its text.
+/// What a place of a new array holds: no value, or 0 if `IS_TESTED`. Then a wrong index panics, perhaps after the size has risen and
+/// before the byte is written, and by the 0 the string that is left after the panic has a value in each place of its text.
 pub(crate) const UNWRITTEN: Place = if IS_TESTED { Place::new(0) } else { Place::uninit() };
 
 /// A byte, or a place that was written. It is laid out as a `u8`.

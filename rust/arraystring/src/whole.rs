@@ -172,7 +172,7 @@ struct Draft<'a, const N: usize> {
     is_whole: bool,
 }
 
-/// A draft that cuts the first piece that does not fit to its leading whole characters that do, and refuses each later piece.
+/// A draft that keeps, of the first piece that is too long, the longest prefix of whole characters that fits. It refuses later pieces.
 struct Prefix<'a, const N: usize>(Draft<'a, N>);
 
 impl<'a, const N: usize> Draft<'a, N> {
