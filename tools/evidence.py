@@ -40,7 +40,7 @@ from repository import closed, crates, public_types, read, sources
 # calls bench_calls but the bench, which compares each answer with those of other strings.
 FOR_TESTS = {"test_support", "memory_tests", "bench_calls"}
 # Callers that pages quote. What a call that they make can do wrong, its own crate shows.
-EXAMPLES = {"arraystring_uses", "bounded_records_uses"}
+EXAMPLES = {"arraystring_uses", "arraystring_recipes", "bounded_records_uses"}
 # They borrow what they speak of, or call it, so that the prover has the fact. Without that they are as true.
 LAWS_THAT_BORROW = {"text_fits", "text_spelled", "left_fits", "keys_ascend"}
 # What the prover says before the values at which a goal is false; the log cuts it off somewhere behind.

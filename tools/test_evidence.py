@@ -30,7 +30,7 @@ fn twice(value: u8) -> u8 {
 ONCE, IS_ONE = "file: src/lib.rt\nold:     value + value\nnew:     value + 0\n", "Number { value: 1 }"
 FOLDER, END = "crates/numbers/must-fail", r"\Z"
 FILE, OTHER, PROGRAM = "crates/numbers/src/lib.rt", "crates/numbers/src/other.rt", "crates/program/src/main.rt"
-UNASKED = ("test_support", "memory_tests", "arraystring_uses", "bounded_records_uses")
+UNASKED = ("test_support", "memory_tests", "arraystring_uses", "arraystring_recipes", "bounded_records_uses")
 MISSING, NO_NAME = "wrong bodies of {} that are missing: {}\n".format, "numbers {}: no public function has this name\n".format
 SHOWN = """\
 impl {0} for Number {{

@@ -172,7 +172,7 @@ class Trusted(TreeTest):
             self.assertEqual(self.reached(), [])
 
     def test_libraries_are_the_crates_that_are_no_programs_no_tests_no_callers_and_no_bench(self):
-        found = [it for it in crates(ROOT) if (ROOT / "crates" / it / "src/lib.rt").exists() and not re.search("^bench|test|_uses$", it)]
+        found = [it for it in crates(ROOT) if (ROOT / "crates" / it / "src/lib.rt").exists() and not re.search("^bench|test|_(uses|recipes)$", it)]
         self.assertEqual(LIBRARIES, found)
 
     def test_labels_parameters_and_fields_are_no_words(self):

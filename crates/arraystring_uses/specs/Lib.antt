@@ -1,11 +1,2 @@
-pub mod Chains
-pub mod Commas
-pub mod Escapes
-pub mod Keyed
-pub mod Letters
 pub mod Lines
 pub mod Quotes
-pub mod Scores
-pub mod Titles
-pub mod Walks
-pub mod Words

@@ -1,0 +1,9 @@
+pub mod Chains
+pub mod Commas
+pub mod Escapes
+pub mod Keyed
+pub mod Letters
+pub mod Scores
+pub mod Titles
+pub mod Walks
+pub mod Words

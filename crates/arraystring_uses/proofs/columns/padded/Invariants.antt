@@ -1,6 +1,0 @@
-use Rattle.std.proofs.Common.{◌≡◌, ◌++◌, replicate}
-use Rattle.std.specs.Str.{chars}
-use Rattle.arraystring_uses.proofs.columns.padded.Given as goal
-
-abbrev pub invariant-loop : goal.invariant-loop
-invariant-loop g l = l.column.text ≡ chars l.text ++ replicate l.counter 0x20

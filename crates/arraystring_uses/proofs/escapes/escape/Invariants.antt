@@ -1,6 +1,0 @@
-use Rattle.std.proofs.Common.{◌≡◌, flat_map}
-use Rattle.arraystring_uses.specs.Escapes.{escaped}
-use Rattle.arraystring_uses.proofs.escapes.escape.Given as goal
-
-abbrev pub invariant-loop-ch : goal.invariant-loop-ch
-invariant-loop-ch g l = l.line.text ≡ flat_map escaped l.yielded

@@ -1,4 +1,0 @@
-use Rattle.arraystring_uses.proofs.numbers.+push_number.Given as goal
-
-abbrev pub decreases-push_number : goal.decreases-push_number
-decreases-push_number g l = l.number

@@ -1,6 +1,0 @@
-use Rattle.std.proofs.Common.{◌≡◌, ◌++◌, flat_map, take}
-use Rattle.arraystring_uses.specs.Words.{path_step}
-use Rattle.arraystring_uses.proofs.words.path.Given as goal
-
-abbrev pub invariant-loop-word : goal.invariant-loop-word
-invariant-loop-word g l = l.all.text ≡ l.initial.all.text ++ flat_map path_step (take l.word-index l.rest)
