@@ -80,3 +80,12 @@ module _ {A : Type 0} {spelled : List A → List ℕ} {one : A → List ℕ} (sp
 
   pub added-none : {new : List ℕ} → new ≡ now → cut (one x) (n - size now) ≡ [] → new ≡ old ++ cut (spelled (items ++ x ∷ [])) (n - size old)
   added-none e none = e ∙ rw (none, append-nil now) at added-cut
+
+-- the text `now` is the items, and with the item x they fit
+module _ {A : Type 0} {spelled : List A → List ℕ} {one : A → List ℕ} (spelling : IsSpelling spelled one)
+    {now : List ℕ} (items : List A) (is : now ≡ spelled items) (x : A) where
+  pub next-fits : {n : ℕ} → size (spelled (items ++ x ∷ [])) ≤ n → size now + size (one x) ≤ n
+  next-fits fits = omega (arith, ap size is, ap size (spelling.more items x), size-append (spelled items) (one x))
+
+  pub next-text : {new : List ℕ} → new ≡ now ++ one x → new ≡ spelled (items ++ x ∷ [])
+  next-text e = rw (spelling.more items x, ← is) e

@@ -1,7 +1,7 @@
 //! The calls that leave a test to the caller, of which most programs need none. They are safe, since each caller proves
-//! the precondition. Two appends and the two constructors from an iterator call the form that tests, with the proof that it
-//! refuses nothing: their callers have no error to handle, and may still pay for the test. A loop without it has a long
-//! proof, and no program has asked for one.
+//! the precondition, and none tests what that says. An append only asks whether the text has to move to the start of its
+//! array first, and never of a text that is there. So the two constructors from an iterator, which append to a new
+//! string, ask nothing in their loops.
 ghost use Rattle.std.specs.Prelude.{◌≡◌, ◌+◌, ◌≤◌, ◌∷◌, [], ◌++◌, ℕ, List, IsTrue, chars, length};
 ghost use Rattle.std.specs.Borrow.{Bor};
 ghost use Rattle.std.specs.Iterator.{IsFiniteIterable};
@@ -9,7 +9,7 @@ ghost use Rattle.arraystring_base.specs.Text.{size, width, bytes, cap, front, ba
 ghost use Rattle.arraystring_core.specs.Taken.{TakesAll, Fits, Gives, joined_texts, joined_pieces, piece_text};
 
 use crate::ArrayString;
-use arraystring_base::utils::{Steps, write_by_call};
+use arraystring_base::utils::{Steps, encode, write_by_call, write_over};
 use std::str;
 
 impl<const N: usize> ArrayString<N> {
@@ -50,9 +50,10 @@ impl<const N: usize> ArrayString<N> {
             → Gives I.into_iter_gives I.IntoIter.next_gives piece_text pieces all
             → result.text ≡ joined_texts all }
     {
-        let Ok(made) = Self::try_from_iterator(pieces) else {
-            unreachable!();
-        };
+        let mut made = Self::new();
+        for piece in pieces {
+            made.push_str_unchecked(piece);
+        }
         made
     }
 
@@ -74,9 +75,10 @@ impl<const N: usize> ArrayString<N> {
             → Gives I.into_iter_gives I.IntoIter.next_gives (λ c. c) characters all
             → result.text ≡ all }
     {
-        let Ok(made) = Self::try_from_chars(characters) else {
-            unreachable!();
-        };
+        let mut made = Self::new();
+        for ch in characters {
+            made.push_unchecked(ch);
+        }
         made
     }
 
@@ -107,9 +109,16 @@ impl<const N: usize> ArrayString<N> {
         requires { size self.old.text + width ch ≤ cap N }
         ensures { self.new.text ≡ self.old.text ++ ch ∷ [] }
     {
-        let Ok(()) = self.try_push(ch) else {
-            unreachable!();
-        };
+        let end = self.end();
+        // The room that is required is all behind a text that begins at the start of the array.
+        if self.start > 0 && !Self::has_room(end, ch) {
+            let (start, size) = (self.start as usize, self.size as usize);
+            let size = Self::compact_and_push(&mut self.array, ch, start, size);
+            self.start = 0;
+            self.size = size as u8;
+            return;
+        }
+        self.size += encode(ch, &mut self.array, end) as u8;
     }
 
     /// Appends `string`.
@@ -122,9 +131,12 @@ impl<const N: usize> ArrayString<N> {
         requires { size self.old.text + size (chars string.now) ≤ cap N }
         ensures { self.new.text ≡ self.old.text ++ chars string.now }
     {
-        let Ok(()) = self.try_push_str(string) else {
-            unreachable!();
-        };
+        let end = self.end();
+        if self.start > 0 && end + string.len() > Self::capacity() as usize {
+            return self.compact_and_push_str(string);
+        }
+        self.size += string.len() as u8;
+        write_over(&mut self.array, end, string.as_bytes());
     }
 
     /// Inserts `ch` at the byte index `index`.

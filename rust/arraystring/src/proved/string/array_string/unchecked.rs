@@ -1,11 +1,11 @@
 // Made from crates/arraystring_core/src/array_string/unchecked.rt by rust/generate.py: change that, and run this.
 //! The calls that leave a test to the caller, of which most programs need none. They are safe, since each caller proves
-//! the precondition. Two appends and the two constructors from an iterator call the form that tests, with the proof that it
-//! refuses nothing: their callers have no error to handle, and may still pay for the test. A loop without it has a long
-//! proof, and no program has asked for one.
+//! the precondition, and none tests what that says. An append only asks whether the text has to move to the start of its
+//! array first, and never of a text that is there. So the two constructors from an iterator, which append to a new
+//! string, ask nothing in their loops.
 
 use crate::proved::string::ArrayString;
-use crate::proved::base::utils::write_by_call;
+use crate::proved::base::utils::{encode, write_by_call, write_over};
 use core::str;
 
 impl<const N: usize> ArrayString<N> {
@@ -33,9 +33,10 @@ impl<const N: usize> ArrayString<N> {
     /// the precondition of its `next` must hold.
     #[inline]
     pub fn from_iterator_unchecked<'a, I: IntoIterator<Item = &'a str>>(pieces: I) -> Self {
-        let Ok(made) = Self::try_from_iterator(pieces) else {
-            unreachable!();
-        };
+        let mut made = Self::new();
+        for piece in pieces {
+            made.push_str_unchecked(piece);
+        }
         made
     }
 
@@ -47,9 +48,10 @@ impl<const N: usize> ArrayString<N> {
     /// precondition of its `next` must hold.
     #[inline]
     pub fn from_chars_unchecked<I: IntoIterator<Item = char>>(characters: I) -> Self {
-        let Ok(made) = Self::try_from_chars(characters) else {
-            unreachable!();
-        };
+        let mut made = Self::new();
+        for ch in characters {
+            made.push_unchecked(ch);
+        }
         made
     }
 
@@ -72,9 +74,16 @@ impl<const N: usize> ArrayString<N> {
     /// `ch` must fit.
     #[inline(always)]
     pub fn push_unchecked(&mut self, ch: char) {
-        let Ok(()) = self.try_push(ch) else {
-            unreachable!();
-        };
+        let end = self.end();
+        // The room that is required is all behind a text that begins at the start of the array.
+        if self.start > 0 && !Self::has_room(end, ch) {
+            let (start, size) = (self.start as usize, self.size as usize);
+            let size = Self::compact_and_push(&mut self.array, ch, start, size);
+            self.start = 0;
+            self.size = size as u8;
+            return;
+        }
+        self.size += encode(ch, &mut self.array, end) as u8;
     }
 
     /// Appends `string`.
@@ -84,9 +93,12 @@ impl<const N: usize> ArrayString<N> {
     /// All of `string` must fit.
     #[inline]
     pub fn push_str_unchecked(&mut self, string: &str) {
-        let Ok(()) = self.try_push_str(string) else {
-            unreachable!();
-        };
+        let end = self.end();
+        if self.start > 0 && end + string.len() > Self::capacity() as usize {
+            return self.compact_and_push_str(string);
+        }
+        self.size += string.len() as u8;
+        write_over(&mut self.array, end, string.as_bytes());
     }
 
     /// Inserts `ch` at the byte index `index`.
