@@ -6,7 +6,8 @@ STRING, END = "crates/arraystring_core/src/array_string", r"\Z"
 CALL = "impl<const N: usize> ArrayString<N> {{\n    /// It is so.\n    pub fn {}(&self) {{\n    }}\n\n    fn hidden(&self) {{\n    }}\n}}\n"
 LINE = "crates/arraystring_run/src/line.rt"
 COMMANDS = 'match word {\n    "pop" => Command::Pop,\n    "len" | "size" => Command::Len,\n    "get" if two => Command::Get,\n    _ => "none",\n}\n'
-ROWS, MORE = f"{uses.TESTS}/remove.rt", f"{uses.TESTS}/more.rt"
+TABLES, OTHERS = uses.TESTS
+ROWS, MORE = f"{TABLES}/remove.rt", f"{OTHERS}/more.rt"
 UPPER = "crates/arraystring"
 LEMMAS, LAWS = f"{UPPER}/proofs/HalfLemmas.antt", f"{UPPER}/proofs/RowLaws.antt"
 ODD = "\npub half-odd : (n : ℕ) → half n ≡ n\nhalf-odd n = half-odd n\n"
@@ -32,13 +33,13 @@ class Uses(TreeTest):
     def test_each_call_and_law_has_a_test_and_each_command_a_row(self):
         said = "2 calls and 2 laws have a test, 4 commands a row, and 2 lemmas and laws are named or for callers\n"
         self.assertEqual(self.told(uses), (False, said))
-        tests, trim = f"does not stand in {uses.TESTS}", (f"{STRING}/trim.rt", CALL.format("trim"))
+        tests, trim = f"does not stand in {TABLES} or {OTHERS}", (f"{STRING}/trim.rt", CALL.format("trim"))
         self.assert_finds(
             uses,
             (f"{STRING}/trim.rt: trim {tests}\n", trim),
             # (what makes the calls of tables makes each, and a comment makes none)
-            (f"pop {tests}", (ROWS, "pop ", ""), (f"{uses.TESTS}/calls.rt", "pop()\n")),
-            (f"pop {tests}", (ROWS, "pop ", ""), (f"{uses.TESTS}/call_list.rt", "pop()\n")),
+            (f"pop {tests}", (ROWS, "pop ", ""), (f"{TABLES}/calls.rt", "pop()\n")),
+            (f"pop {tests}", (ROWS, "pop ", ""), (f"{TABLES}/call_list.rt", "pop()\n")),
             (f"len {tests}", (MORE, "    text.len", "    // text.len")),
             # (a name, a text, and another column of a row are no call)
             *((f"len {tests}", (MORE, r"text\.len\(\);", it)) for it in ("let len = 1;", 'told("len");', "fn len() {}", '"len | a | len"')),

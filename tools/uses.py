@@ -3,7 +3,7 @@
 It alone sees, for example, a public call that no test makes, a lemma that is proved and that no proof cites, or a word of
 `arraystring/specs` that names `spare`.
 
-- Each public call of `ArrayString` is made by a test of `arraystring_tests`, and each law that a body calls is called by one. A test makes a
+- Each public call of `ArrayString` is made by a test of TESTS, and each law that a body calls is called by one. A test makes a
   call, or has it in the second column of a row. A comment is no test, nor are the files that make the calls of a table.
 - Each command of a script stands on the page of commands.
 - Each lemma of a file of proofs/ that callers can't cite is named by a source or a proof. `rt` proves each, also one that nothing names. A
@@ -19,7 +19,7 @@ from repository import EXAMPLES, NAME, REFERENCE, crates, inline_code, proof_fil
 CORE = "arraystring_core"
 # Which make the calls of tables.
 MAKERS = ("call_list.rt", "calls.rt")
-TESTS = "crates/arraystring_tests/src/tests"
+TESTS = ("crates/arraystring_tests/src/tests", "crates/arraystring_types_tests/src")
 SCRIPTS = "crates/arraystring_run/CALLING.md"
 
 
@@ -30,7 +30,8 @@ def names_in(root, form, *files):
 
 def tested(root):
     """What tests call, and what stands in the second columns of their rows."""
-    tests = re.sub("//.*", "", "".join(read(it) for it in sorted((root / TESTS).glob("*.rt")) if it.name not in MAKERS))
+    files = [it for folder in TESTS for it in sorted((root / folder).glob("*.rt")) if it.name not in MAKERS]
+    tests = re.sub("//.*", "", "".join(map(read, files)))
     columns = " ".join(line.split("|")[1] for line in tests.splitlines() if line.count("|") > 1)
     return {*re.findall(r"(?<!fn )\b(\w+)(?:::<[^()\n]*>)?\(", tests), *re.findall(r"\w+", columns)}
 
@@ -53,7 +54,7 @@ def main(arguments, root):
     commands = names_in(root, r'"(\w+)"(?= =>| \|| if)', "crates/arraystring_run/src/line.rt")
     rows = set(re.findall(r"\w+", " ".join(inline_code(read(root / SCRIPTS)))))
     faults = [f"{path}: {name} does not stand in {place}"
-              for names, place, has in ((calls | laws, TESTS, tested(root)), (commands, SCRIPTS, rows))
+              for names, place, has in ((calls | laws, " or ".join(TESTS), tested(root)), (commands, SCRIPTS, rows))
               for name, path in names.items() if name not in has]
     folders = [root / "crates" / it for it in crates(root)]
     files = [file for it in folders for file in [*it.glob("src/**/*.rt"), *it.glob("specs/**/*.antt"), *proof_files(it)]]

@@ -1,7 +1,6 @@
 //! Iterators over what was taken out, and what is left of it, on values worked out by hand.
 ghost use Rattle.std.specs.Prelude.{◌≤◌};
 
-use super::printing::{debug_is, debug_is_that_of, derived};
 use super::table::{agree, hash_of, number, returned, string};
 use arraystring::{ArrayString, Drain};
 use std::process::Abort;
@@ -88,17 +87,13 @@ fn steps_from_both_ends(rt: HostRuntime) {
 }
 
 /// Iterates over all of a text by one choice of ends: the back if the choice has a bit. What is left is
-/// compared after each step. It is also printed if the front is chosen first and then the back, because
-/// these choices leave each part that any choice leaves.
-fn walk_by(rt: &(impl Abort + AllocGlobal), text: &str, choice: u32, is_printed: bool) {
+/// compared after each step.
+fn walk_by(rt: &impl Abort, text: &str, choice: u32) {
     let mut drain = string::<23>(text).drain(..).unwrap_or_default();
     let mut wanted = text.chars();
     let mut choice = choice;
     for _ in text.chars() {
         agree(rt, text, drain.as_str(), wanted.as_str());
-        if is_printed {
-            debug_is_that_of(rt, &drain, &derived::Drain(wanted.as_str()));
-        }
         if choice & 1 == 0 {
             agree(rt, text, drain.next(), wanted.next());
         } else {
@@ -107,28 +102,17 @@ fn walk_by(rt: &(impl Abort + AllocGlobal), text: &str, choice: u32, is_printed:
         choice >>= 1;
     }
     agree(rt, text, drain.as_str(), "");
-    if is_printed {
-        debug_is_that_of(rt, &drain, &derived::Drain(""));
-    }
     agree(rt, text, drain.next(), None);
     agree(rt, text, drain.next_back(), None);
 }
 
-/// Iterates over texts in several ways. The columns are how many ways, and the text. A choice takes from the
-/// front first and then from the back if its bits are the highest ones, so that it lacks a power of 2 of
-/// the number of ways.
-fn check_walks(rt: &(impl Abort + AllocGlobal), table: &str) {
-    let mut printed = 0u32;
+/// Iterates over texts in several ways. The columns are how many ways, and the text.
+fn check_walks(rt: &impl Abort, table: &str) {
     for row in rows(table) {
-        let ways = number(rt, row, 0) as u32;
-        for choice in 0..ways {
-            let is_printed = ways.wrapping_sub(choice).is_power_of_two();
-            printed = printed.wrapping_add(is_printed as u32);
-            walk_by(rt, column(row, 1), choice, is_printed);
+        for choice in 0..number(rt, row, 0) as u32 {
+            walk_by(rt, column(row, 1), choice);
         }
     }
-    // A text of `n` characters has `n + 1` such choices: from 1 to 7 of them.
-    agree(rt, "how many are printed", printed, 28);
 }
 
 #[test]
@@ -185,7 +169,7 @@ fn check_comparisons(rt: &(impl Abort + AllocGlobal), table: &str) {
 }
 
 #[test]
-fn what_is_left_is_compared_and_printed(rt: HostRuntime) {
+fn what_is_left_is_compared(rt: HostRuntime) {
     check_comparisons(
         &rt,
         "
@@ -196,8 +180,4 @@ fn what_is_left_is_compared_and_printed(rt: HostRuntime) {
         [a]        | cmp | | [ab]        | Less
         ",
     );
-    let wanted = "Drain(\"\")|Drain(\n    \"\",\n)|Drain(\"\")|Drain(\"\")|Drain(\"\")";
-    debug_is(&rt, &Drain::<5>::default(), wanted);
-    let wanted = "Drain(\"bc\")|Drain(\n    \"bc\",\n)|Drain(\"bc\")|Drain(\"bc\")|Drain(\"bc\")";
-    debug_is(&rt, &left("a[bc]"), wanted);
 }

@@ -8,12 +8,6 @@ use std::hash::{DefaultHasher, Hash, Hasher};
 use std::process::Abort;
 use test_support::table::column;
 
-/// 255 letters that are not all the same.
-pub(crate) const MANY_LETTERS: &str =
-    "abcdeabcdeabcdeabcdeabcdeabcdeabcdeabcdeabcdeabcdeabcdeabcdeabcdeabcdeabcdeabcdeabcde\
-    abcdeabcdeabcdeabcdeabcdeabcdeabcdeabcdeabcdeabcdeabcdeabcdeabcdeabcdeabcdeabcdeabcde\
-    abcdeabcdeabcdeabcdeabcdeabcdeabcdeabcdeabcdeabcdeabcdeabcdeabcdeabcdeabcdeabcdeabcde";
-
 /// A string of `text`, or of its longest prefix of whole characters that fits.
 pub(crate) fn string<const N: usize>(text: &str) -> ArrayString<N>
     ensures { result.text ≡ cut (chars text.now) (cap N) }

@@ -4,11 +4,11 @@
 ghost use Rattle.std.specs.Prelude.{◌≤◌};
 
 use super::calls::check_blocks;
-use super::table::{MANY_LETTERS, agree, hash_of};
+use super::table::{agree, hash_of};
 use arraystring::{ArrayString, CacheString};
 use std::cmp::Ordering;
 use std::process::Abort;
-use test_support::table::{LETTERS, column, rows};
+use test_support::table::{LETTERS, MANY_LETTERS, column, rows};
 
 #[test]
 fn orders_and_additions(rt: HostRuntime) {

@@ -3,7 +3,7 @@ ghost use Rattle.std.specs.Prelude.{◌≡◌, IfOk, nat_eq};
 ghost use Rattle.std.specs.Cmp.Lexicographic.{pointwise, slice_cmp};
 ghost use Rattle.std.specs.Ordering.{nat_cmp};
 
-use super::table::{agree, hash_of};
+use super::asserts::{agree, hash_of};
 use arraystring::error::{Error, OutOfBounds, Utf8, Utf16};
 use arraystring::{ArrayString, CacheString};
 use std::alloc::AllocError;

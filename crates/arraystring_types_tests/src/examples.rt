@@ -1,6 +1,6 @@
 //! A name that is greeted, and an edit or two of each kind. The tests of the Rust crate run the examples of
 //! the doc comments.
-use super::table::agree;
+use super::asserts::agree;
 use arraystring::error::{Utf8, Utf16};
 use arraystring::{ArrayString, Error};
 

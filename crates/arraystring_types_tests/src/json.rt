@@ -1,5 +1,5 @@
 //! Strings to JSON values and back, which are cut, or are read whole or refused, worked out by hand.
-use super::table::agree;
+use super::asserts::agree;
 use arraystring::integration::{NotText, ValueError};
 use arraystring::{ArrayString, CacheString};
 use serde_json::Value;

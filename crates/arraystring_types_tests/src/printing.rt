@@ -1,12 +1,13 @@
 //! How values are printed; for debugging, as Rust's derived forms print the same fields.
 ghost use Rattle.std.specs.Prelude.{◌≤◌};
 
-use super::table::{MANY_LETTERS, agree, string};
-use arraystring::ArrayString;
+use super::asserts::agree;
 use arraystring::prelude::*;
+use arraystring::{ArrayString, Drain};
 use std::fmt::{Debug, Display};
 use std::process::Abort;
 use test_support::printing::first_debug_difference;
+use test_support::table::MANY_LETTERS;
 
 /// Asserts that a value is printed as a text, in each form that could pad or cut it, at a width.
 fn display_at<T: Display>(rt: &(impl Abort + AllocGlobal), value: &T, wanted: &str, width: usize) {
@@ -106,7 +107,7 @@ fn texts_are_printed_as_they_are(rt: HostRuntime) {
 fn shows<const N: usize>(rt: &(impl Abort + AllocGlobal), text: &str, at_each_width: bool)
     requires { N ≤ 300 }
 {
-    let mut string: ArrayString<N> = string(text);
+    let mut string = ArrayString::<N>::from(text);
     let (array, size) = (text, text.len());
     let wanted = derived::ArrayString { array, size };
     if at_each_width {
@@ -195,4 +196,50 @@ fn cached_strings_are_printed_for_debugging(rt: HostRuntime) {
         CacheString(ArrayString { array: \"aé€🤔\", size:           10 })|\
         CacheString(ArrayString { array: \"aé€🤔\", size:           10 })";
     debug_is(&rt, &CacheString::from_str_truncate("aé€🤔"), wanted);
+}
+
+/// Asserts how each part of a text is printed that a drain can leave: what is left after so many steps
+/// from the front, and then after each step from the back. Returns how many there are.
+fn shows_parts(rt: &(impl Abort + AllocGlobal), text: &str, steps: usize) -> usize {
+    let mut drain = ArrayString::<23>::from(text).drain(..).unwrap_or_default();
+    let mut wanted = text.chars();
+    let mut count = 1usize;
+    for _ in 0..steps {
+        drain.next();
+        wanted.next();
+    }
+    debug_is_that_of(rt, &drain, &derived::Drain(wanted.as_str()));
+    for _ in steps..text.chars().count() {
+        drain.next_back();
+        wanted.next_back();
+        debug_is_that_of(rt, &drain, &derived::Drain(wanted.as_str()));
+        count = count.wrapping_add(1);
+    }
+    count
+}
+
+#[test]
+fn drains_are_printed_for_debugging(rt: HostRuntime) {
+    // A text of `n` characters has `n + 1` parts that begin at its start, and one fewer at each next character.
+    for (text, wanted) in [
+        ("", 1usize),
+        ("a", 3),
+        ("aé", 6),
+        ("aé€", 10),
+        ("aé€🤔", 15),
+        ("aé€🤔b", 21),
+        ("aé€🤔bé", 28),
+    ] {
+        let mut count = 0usize;
+        for steps in 0..text.chars().count().wrapping_add(1) {
+            count = count.wrapping_add(shows_parts(&rt, text, steps));
+        }
+        agree(&rt, text, count, wanted);
+    }
+    let wanted = "Drain(\"\")|Drain(\n    \"\",\n)|Drain(\"\")|Drain(\"\")|Drain(\"\")";
+    debug_is(&rt, &Drain::<5>::default(), wanted);
+    let wanted = "Drain(\"bc\")|Drain(\n    \"bc\",\n)|Drain(\"bc\")|Drain(\"bc\")|Drain(\"bc\")";
+    let mut drain = ArrayString::<8>::from("abc").drain(..).unwrap_or_default();
+    drain.next();
+    debug_is(&rt, &drain, wanted);
 }

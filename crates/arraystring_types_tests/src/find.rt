@@ -1,7 +1,7 @@
 //! Where a character first or last stands in a text, by std's `find`, `split_once`, `rfind` and
 //! `rsplit_once`: each character of one to four bytes, at each boundary, before and behind each text, and
 //! not at all. The laws of it are called, and change nothing.
-use super::table::agree;
+use super::asserts::agree;
 use arraystring::ArrayString;
 use arraystring::laws::{
     found_first, found_last, left_given, split_first, split_last, text_spelled,

@@ -1,6 +1,6 @@
 //! Each value of a public type whose `==` is derived is equal to itself alone: each case, and each field
 //! that alone differs. Characters and numbers that differ are also some of one low byte, or of two.
-use super::table::agree;
+use super::asserts::agree;
 use arraystring::Error;
 use arraystring::error::{OutOfBounds, Utf8, Utf16};
 use arraystring::integration::{NotText, ValueError};

@@ -1,5 +1,5 @@
 //! The paths by which callers reach the crate, and the traits of the types at those paths.
-use super::table::agree;
+use super::asserts::agree;
 use arraystring::drain::Drain;
 use arraystring::error::{OutOfBounds, Utf8, Utf16};
 use arraystring::integration::{NotText, ValueError};

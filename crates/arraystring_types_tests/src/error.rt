@@ -1,6 +1,6 @@
 //! Refusals: how they are printed and hashed, and how they become an `Error` or a `ValueError`.
+use super::asserts::{agree, hash_of};
 use super::printing::{debug_is_that_of, display_is};
-use super::table::{agree, hash_of};
 use arraystring::error::{Error, OutOfBounds, Utf8, Utf16};
 use arraystring::integration::{NotText, ValueError};
 use std::fmt::{Debug, Display};

@@ -2,7 +2,7 @@ use Rattle.std.proofs.Common.{map, ap, ◌∙◌, rules, ◌≡◌}
 use Rattle.std.proofs.iter.Yields.{copies, fronts}
 use Rattle.arraystring.specs.Taken.{piece_text}
 use Rattle.arraystring.proofs.TakenLaws.{slice-gives, pieces-fit}
-use Rattle.arraystring_tests.proofs.tests.cache_string.of_pieces_that_fit.Goals as goal
+use Rattle.arraystring_types_tests.proofs.cache_string.of_pieces_that_fit.Goals as goal
 
 pub from_iterator_unchecked-requires : goal.from_iterator_unchecked-requires
 from_iterator_unchecked-requires c κs =

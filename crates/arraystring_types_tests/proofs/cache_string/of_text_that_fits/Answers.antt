@@ -3,7 +3,7 @@ use Rattle.std.proofs.iter.TextItems.{spells}
 use Rattle.arraystring.specs.Text.{IsWellFormed}
 use Rattle.arraystring.proofs.TextLaws.{size-borrowed, utf8-well_formed}
 use Rattle.arraystring.proofs.TakenLaws.{text-gives, chars-fit}
-use Rattle.arraystring_tests.proofs.tests.cache_string.of_text_that_fits.Goals as goal
+use Rattle.arraystring_types_tests.proofs.cache_string.of_text_that_fits.Goals as goal
 
 pub from_str_unchecked-requires : goal.from_str_unchecked-requires
 from_str_unchecked-requires c =
