@@ -1,9 +1,11 @@
 pub mod Chains
 pub mod Commas
 pub mod Escapes
+pub mod Fills
 pub mod Keyed
 pub mod Letters
 pub mod Lines
+pub mod Markup
 pub mod Quotes
 pub mod Scores
 pub mod Titles

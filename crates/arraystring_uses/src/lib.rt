@@ -2,19 +2,25 @@
 #![tactic(auto)]
 
 pub mod borrowed;
+#[cfg(test)]
+mod bound_tests;
 pub mod chains;
 pub mod columns;
 pub mod commas;
+pub mod counts;
 pub mod cursor;
 pub mod edges;
 pub mod entry;
 pub mod escapes;
 pub mod fields;
+pub mod fills;
 pub mod greeting;
+pub mod headings;
 pub mod json;
 pub mod keyed;
 pub mod letters;
 pub mod log_line;
+pub mod markup;
 pub mod member;
 pub mod numbers;
 pub mod packet;
