@@ -3,13 +3,25 @@ use crate::counts::count_of;
 use crate::fills::{filled_up, plain_start};
 use crate::headings::heading;
 use crate::markup::{hyphened, markup, markup_of_name};
-use arraystring::ArrayString;
+use arraystring::{ArrayString, Error};
 use std::fmt::Debug;
 use std::process::Abort;
 
 /// Asserts that two values are equal.
 fn agree<T: PartialEq + Debug + Drop>(rt: &impl Abort, gave: T, wanted: T) {
     assert_eq!(rt; gave, wanted);
+}
+
+/// Asserts that what was made is `wanted`, or did not fit.
+fn check_made<const N: usize>(
+    rt: &impl Abort,
+    made: Result<ArrayString<N>, Error>,
+    wanted: Option<&str>,
+) {
+    match made {
+        Ok(text) => agree(rt, Some(text.as_str()), wanted),
+        Err(error) => agree(rt, (error, None), (Error::OutOfBounds, wanted)),
+    }
 }
 
 #[test]
@@ -36,8 +48,7 @@ fn a_column_is_filled_up(rt: HostRuntime) {
         ("abc", '🤔', 1, None),
         ("abcdef", '🤔', 0, Some("abcdef")),
     ] {
-        let made = filled_up::<6>(text, fill, count).ok();
-        agree(&rt, made.as_ref().map(ArrayString::as_str), wanted);
+        check_made(&rt, filled_up::<6>(text, fill, count), wanted);
     }
 }
 
@@ -62,8 +73,7 @@ fn a_text_stands_in_html(rt: HostRuntime) {
         ("&&", Some("&amp;&amp;")),
         ("&&>", None),
     ] {
-        let made = markup::<12>(text).ok();
-        agree(&rt, made.as_ref().map(ArrayString::as_str), wanted);
+        check_made(&rt, markup::<12>(text), wanted);
     }
     let name = ArrayString::from_str_truncate("&&&&&&&&&&&&&&&&&&&&");
     agree(&rt, markup_of_name(&name).len(), 100);
@@ -78,8 +88,7 @@ fn hyphens_stand_between_characters(rt: HostRuntime) {
         ("abcd", Some("a-b-c-d")),
         ("abcde", None),
     ] {
-        let made = hyphened::<7>(text).ok();
-        agree(&rt, made.as_ref().map(ArrayString::as_str), wanted);
+        check_made(&rt, hyphened::<7>(text), wanted);
     }
 }
 
