@@ -7,7 +7,8 @@ use Rattle.std.proofs.Common.{◌≡◌, ◌↔◌, ℕ, ◌+◌, ◌-◌, ◌<�
 use Rattle.std.proofs.lemmas.Bool.Decides.{nat_tests}
 use Rattle.std.proofs.lemmas.List.{append-nil}
 use Rattle.std.specs.Prelude.{nat_lt}
-use Rattle.arraystring_base.specs.Text.{size, cut, front, back, boundary}
+use Rattle.arraystring_base.specs.Text.{size, width, cut, front, back, boundary}
+use Rattle.arraystring_base.proofs.TextLaws.{width-bounds}
 use Rattle.arraystring_base.proofs.CutLaws.{cut-all, cut-fits, cut-past_part}
 use Rattle.arraystring_base.proofs.BoundaryLaws.{boundary-within, front-start, back-start, boundary-is}
 use Rattle.arraystring_base.specs.declared.error.Error.{Error}
@@ -130,3 +131,12 @@ module _ {t : List ℕ} (i : ℕ) (given : List ℕ) (n : ℕ) {new : List ℕ} 
   pub insertion_of_cut-inside : i ≤ size t → boundary t i ≡ false → Makes (insertion_of_cut t i given n) t result new
       → (result ≡ Err Utf8) × (new ≡ t)
   insertion_of_cut-inside within b m = edit-refuses {cause = Inside} (grind (arith, nat_tests, inside-so t i within b)) m
+
+-- a text that fills the room, or does not fit, hides all that follows, as `cut-past` says of one that does not fit
+pub cut-full : (p q : List ℕ) (n : ℕ) → n ≤ size p → cut (p ++ q) n ≡ cut p n
+cut-full [] [] n le = refl
+cut-full [] (c ∷ q) n le = grind (arith, nat_tests, width-bounds c)
+cut-full (c ∷ p) q n le =
+    let rest : width c ≤ n → cut (p ++ q) (n - width c) ≡ cut p (n - width c) =
+    λ fits. cut-full p q (n - width c) (omega arith) in
+    grind (arith, nat_tests, rest)

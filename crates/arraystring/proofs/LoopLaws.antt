@@ -1,5 +1,5 @@
 -- Laws of a loop that makes a text: it appends a piece for each item of an iterator or of a slice, or one character many times.
-use Rattle.std.proofs.Common.{◌≡◌, ℕ, ◌+◌, ◌*◌, ◌<◌, ◌≤◌, List, [], ◌∷◌, ◌++◌, ap, subst, sym, refl, ◌∙◌, arith, map, flat_map, length, take, get_or, replicate, zero, suc, add-one, Option, Some, None, IsUtf8, MatchOption, append_assoc, chars}
+use Rattle.std.proofs.Common.{◌≡◌, ℕ, ◌+◌, ◌*◌, ◌<◌, ◌≤◌, List, [], ◌∷◌, ◌++◌, ap, subst, sym, refl, ◌∙◌, arith, map, flat_map, length, length-append, take, get_or, replicate, zero, suc, add-one, Option, Some, None, IsUtf8, MatchOption, append_assoc, chars}
 use Rattle.std.proofs.lemmas.Iterator.{YieldsList}
 use Rattle.std.proofs.lemmas.Grind.{flat_map-append}
 use Rattle.std.proofs.lemmas.List.{append-nil}
@@ -135,3 +135,37 @@ pieces-push piece xs x = flat_map-append piece xs (x ∷ []) ∙ ap (λ l. flat_
 pub size-replicate : (n c : ℕ) → size (replicate n c) ≡ n * width c
 size-replicate zero c = omega arith
 size-replicate (suc n) c = omega (arith, size-replicate n c)
+
+-- when a character is left, those that a loop has taken and this one are no larger than the text, and no more than its characters; when
+-- none is left, they are the text
+taken-turn : (s t : Chars) (xs : List ℕ) → IsUtf8 s.rest.now → Yields spells s xs t
+    → MatchOption (slice_get (chars t.rest.now) 0) (xs ≡ chars s.rest.now)
+    (λ x. (size xs + width x ≤ size (chars s.rest.now)) × (length xs + 1 ≤ length (chars s.rest.now)))
+taken-turn s t xs u y = go (chars t.rest.now) (chars-left s t xs u y)
+  where
+    go : (left : List ℕ) → chars s.rest.now ≡ xs ++ left
+        → MatchOption (slice_get left 0) (xs ≡ chars s.rest.now)
+        (λ x. (size xs + width x ≤ size (chars s.rest.now)) × (length xs + 1 ≤ length (chars s.rest.now)))
+    go [] is = sym (append-nil xs) ∙ sym is
+    go (x ∷ left) is =
+        (omega (arith, ap size is, size-append xs (x ∷ left)), omega (arith, ap length is, length-append xs (x ∷ left)))
+
+-- the characters that a loop has taken and the next one are no more than those of the text, and no larger, in a form that `grind` finds: it
+-- looks for the size of those so far, for what is left, and for the text
+pub taken-size : (xs : List ℕ) → (size xs ≡ size xs)
+    × ((t : Chars) → (chars t.rest.now ≡ chars t.rest.now)
+    × ((s : Chars) → IsUtf8 s.rest.now → Yields spells s xs t
+    → MatchOption (slice_get (chars t.rest.now) 0) (xs ≡ chars s.rest.now)
+    (λ x. (size xs + width x ≤ size (chars s.rest.now)) × (length xs + 1 ≤ length (chars s.rest.now)))))
+taken-size xs = (refl, λ t. (refl, λ s u y. taken-turn s t xs u y))
+
+-- a character more times takes its width more
+replicate-less : (n m c : ℕ) → n < m → size (replicate n c) + width c ≤ size (replicate m c)
+replicate-less n zero c lt = absurd (omega arith)
+replicate-less zero (suc m) c lt = omega arith
+replicate-less (suc n) (suc m) c lt = omega (arith, replicate-less n m c (omega arith))
+
+-- a character more times takes its width more, in a form that `grind` finds: it looks for the character so many times, and for it more times
+pub replicate-more : (n c : ℕ) → (replicate n c ≡ replicate n c)
+    × ((m : ℕ) → n < m → (replicate m c ≡ replicate m c) × (size (replicate n c) + width c ≤ size (replicate m c)))
+replicate-more n c = (refl, λ m lt. (refl, replicate-less n m c lt))

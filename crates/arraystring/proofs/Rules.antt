@@ -6,20 +6,20 @@ use Rattle.std.proofs.lemmas.Bool.Decides.{nat_tests}
 use Rattle.std.proofs.lemmas.Fmt.{decimal_digit, decimal_step}
 use Rattle.std.proofs.lemmas.List.{take_all, append-nil, reverse-append}
 use Rattle.arraystring_base.proofs.TextLaws.{size-append, size-is, size-borrowed, empty-size, width-bounds, width-is}
-use Rattle.arraystring_base.proofs.CutLaws.{cut-all, cut-fits, cut-past, cut-past_part}
+use Rattle.arraystring_base.proofs.CutLaws.{cut-all, cut-fits, cut-past_part}
 use Rattle.arraystring_base.proofs.BoundaryLaws.{front-start, back-start}
-use Rattle.arraystring.proofs.AdditionLaws.{addition-made, addition-refused, addition_of_cut-makes, addition_of_cut-cuts, addition-char_cuts}
+use Rattle.arraystring.proofs.AdditionLaws.{addition-made, addition-refused, addition_of_cut-makes, addition_of_cut-cuts, addition-char_cuts, cut-full}
 use Rattle.arraystring.proofs.BoundaryLaws.{front-fits, boundary-start, boundary-at_end, boundary-behind_given, boundary-behind_char, boundary-before_char, boundary-after_char, part-start, part-end, part_in-front}
 use Rattle.arraystring.proofs.CharacterLaws.{width-one, width-low, chars-ascii, size-repeated, first-boundary}
-use Rattle.arraystring.proofs.LoopLaws.{taken-item, taken-with, taken-chars, pieces-push}
+use Rattle.arraystring.proofs.LoopLaws.{taken-item, taken-with, taken-chars, taken-size, pieces-push, replicate-more}
 use Rattle.arraystring.proofs.SplitLaws.{joined-found}
 use Rattle.arraystring.proofs.RemovalLaws.{popping-made, popped-take, popped-length, removal-made}
 use Rattle.arraystring.proofs.ChainLaws.{map_pieces, filter_pieces, kept_pieces, gives-chars, gives-mapped, gives-kept}
 use Rattle.arraystring.proofs.DigitLaws.{bytes-ascii, bytes-decimal, size-decimal, size-signed}
 use Rattle.arraystring.proofs.PlaceLaws.{place-within, removed-place, cut-place, end-place}
 use Rattle.arraystring.proofs.PopLaws.{last-split}
-use Rattle.arraystring.proofs.SizeLaws.{size-map, size-filter, size-reverse, size-pieces}
-use Rattle.arraystring.proofs.TracedLaws.{memory-push, traced-push, traced-chars, traced-item}
+use Rattle.arraystring.proofs.SizeLaws.{size-map, size-filter, size-reverse, size-pieces, length-low}
+use Rattle.arraystring.proofs.TracedLaws.{memory-push, traced-push, traced-rest, traced-item}
 use Rattle.arraystring.proofs.WalkLaws.{walked-on, walked-out}
 use Rattle.arraystring.proofs.FieldLaws.{fields-found, fields-none, fields-count}
 use Rattle.arraystring.proofs.KeyedLaws.{ordered-put, hashed-put, ordered-out, hashed-out}
@@ -57,8 +57,8 @@ pub ruleset firsts = (first-boundary, front-start, back-start)
 -- sizes of texts and of characters
 pub ruleset sizes = (size-append, size-is, size-borrowed, empty-size, width-bounds)
 
--- literals of ASCII, and one such character many times
-pub ruleset literals = (chars-ascii, width-one, size-repeated)
+-- literals of ASCII, and one character many times
+pub ruleset literals = (chars-ascii, width-one, size-repeated, replicate-more)
 
 -- the digits of a number, from the first to the last
 pub ruleset numbers = (decimal_digit, decimal_step)
@@ -70,19 +70,19 @@ pub ruleset slices = (taken-item)
 pub ruleset takes = (taken-with)
 
 -- a loop over the characters of a text, or over a slice, which appends a piece for each and remembers something of those so far
-pub ruleset traces = (memory-push, traced-push, traced-chars, traced-item)
+pub ruleset traces = (memory-push, traced-push, traced-rest, traced-item)
 
 -- a loop over the characters of a text, which appends a piece for each
 pub ruleset characters = (taken-chars, pieces-push)
 
 -- pieces one after the other, of which what fits is kept: by `push_str`, or a character by `try_push`
-pub ruleset cut_pieces = (addition-char_cuts, cut-past, cut-past_part, cut-all)
+pub ruleset cut_pieces = (addition-char_cuts, cut-full, cut-past_part, cut-all)
 
 -- a text that is put together at a character, and split there again
 pub ruleset joins = (joined-found)
 
 -- what most callers want: appends, whole or cut, literals, loops over slices and characters, removals, splits, insertions at index 0
-pub ruleset texts = (addition-made, addition-refused, size-append, append_assoc, addition_of_cut-makes, addition_of_cut-cuts, cut-all, cut-fits, chars-ascii, size-repeated, size-borrowed, width-low, taken-item, taken-chars, pieces-push, boundary-at_end, popping-made, removal-made, front-start, back-start)
+pub ruleset texts = (addition-made, addition-refused, size-append, append_assoc, addition_of_cut-makes, addition_of_cut-cuts, cut-all, cut-fits, chars-ascii, size-repeated, replicate-more, size-borrowed, width-low, taken-item, taken-chars, pieces-push, boundary-at_end, popping-made, removal-made, front-start, back-start)
 
 -- a text that is taken apart from its end, by `while let Some(last) = text.pop()`
 pub ruleset backwards = (last-split, reverse-append, append-nil, size-reverse)
@@ -96,8 +96,8 @@ pub ruleset chains = (map_pieces, filter_pieces, kept_pieces)
 -- what `chars()` gives, with `map` and `filter` behind it, to `from_chars` and `try_from_chars`
 pub ruleset given = (gives-chars, gives-mapped, gives-kept)
 
--- sizes of what `map`, `filter`, `reverse` and pieces make of a text
-pub ruleset widths = (size-map, size-filter, size-reverse, size-pieces, width-low)
+-- sizes of what `map`, `filter`, `reverse` and pieces make of a text, and how many characters a loop has taken
+pub ruleset widths = (size-map, size-filter, size-reverse, size-pieces, width-low, length-low, taken-size)
 
 -- texts of ASCII, as `is_ascii` finds them
 pub ruleset ascii = (bytes-ascii)

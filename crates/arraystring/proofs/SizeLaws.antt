@@ -1,9 +1,9 @@
 -- Laws of the sizes of texts that are made of another text, character by character.
-use Rattle.std.proofs.Common.{◌≡◌, ℕ, ◌+◌, ◌≤◌, Bool, List, [], ◌∷◌, ◌++◌, map, flat_map, reverse, refl, ap, arith}
+use Rattle.std.proofs.Common.{◌≡◌, ℕ, ◌≤◌, Bool, List, [], ◌∷◌, map, flat_map, length, reverse, refl, ap, arith}
 use Rattle.std.proofs.lemmas.List.{reverse-append}
 use Rattle.std.specs.List.{filter}
 use Rattle.arraystring_base.specs.Text.{size, width}
-use Rattle.arraystring_base.proofs.TextLaws.{size-append}
+use Rattle.arraystring_base.proofs.TextLaws.{size-append, width-bounds}
 
 -- a `map` that keeps the width of each character keeps the size
 pub size-map : (f : ℕ → ℕ) → ((c : ℕ) → width (f c) ≡ width c) → (t : List ℕ) → size (map f t) ≡ size t
@@ -24,3 +24,8 @@ size-reverse (c ∷ t) = omega (arith, ap size (reverse-append (c ∷ []) t), si
 pub size-pieces : (piece : ℕ → List ℕ) → ((c : ℕ) → size (piece c) ≤ width c) → (t : List ℕ) → size (flat_map piece t) ≤ size t
 size-pieces piece low [] = omega arith
 size-pieces piece low (c ∷ t) = omega (arith, low c, size-append (piece c) (flat_map piece t), size-pieces piece low t)
+
+-- a text has no more characters than bytes
+pub length-low : (t : List ℕ) → length t ≤ size t
+length-low [] = omega arith
+length-low (c ∷ t) = omega (arith, width-bounds c, length-low t)

@@ -1,5 +1,5 @@
 -- Laws of a loop that makes a text, and remembers something of the items so far (specs/Loops).
-use Rattle.std.proofs.Common.{◌≡◌, ℕ, ◌+◌, ◌<◌, ◌≤◌, List, [], ◌∷◌, ◌++◌, ap, sym, refl, ◌∙◌, arith, length, take, get_or, zero, suc, add-one, IsUtf8, MatchOption, append_assoc, chars}
+use Rattle.std.proofs.Common.{◌≡◌, ℕ, ◌+◌, ◌<◌, ◌≤◌, List, [], ◌∷◌, ◌++◌, ap, sym, refl, ◌∙◌, arith, length, take, get_or, zero, suc, add-one, Option, Some, None, IsUtf8, MatchOption, append_assoc, chars}
 use Rattle.std.proofs.lemmas.List.{append-nil}
 use Rattle.std.proofs.iter.TextItems.{spells}
 use Rattle.std.specs.List.{slice_get}
@@ -32,30 +32,34 @@ module _ {S X : Type 0} (next : S → X → S) where
         traced-append s xs (x ∷ [])
         ∙ ap (λ l. flat_map_with_memory next piece s xs ++ l) (append-nil (piece (memory next s xs) x))
 
-    -- the pieces so far and the next one are no larger than all
-    traced-fits : (s : S) (xs left : List X) (x : X)
-        → size (flat_map_with_memory next piece s xs) + size (piece (memory next s xs) x) ≤ size (flat_map_with_memory next piece s (xs ++ x ∷ left))
-    traced-fits s xs left x =
-        let at = memory next s xs in
-        omega (
-          arith,
-          ap size (traced-append s xs (x ∷ left)),
-          size-append (flat_map_with_memory next piece s xs) (piece at x ++ flat_map_with_memory next piece (next at x) left),
-          size-append (piece at x) (flat_map_with_memory next piece (next at x) left),
-        )
-
--- when a character is left, the pieces so far and its own are no larger than all; when none is left, the pieces so far are all
-traced-turn : {S : Type 0} (next : S → ℕ → S) (piece : S → ℕ → List ℕ) (m : S) (s t : Chars) (xs : List ℕ) → IsUtf8 s.rest.now
+-- when a character is left, the pieces so far, its own and more are all; when none is left, the pieces so far are all
+traced-left : {S : Type 0} (next : S → ℕ → S) (piece : S → ℕ → List ℕ) (m : S) (s t : Chars) (xs : List ℕ) → IsUtf8 s.rest.now
     → Yields spells s xs t
     → MatchOption (slice_get (chars t.rest.now) 0) (flat_map_with_memory next piece m xs ≡ flat_map_with_memory next piece m (chars s.rest.now))
-    (λ x. size (flat_map_with_memory next piece m xs) + size (piece (memory next m xs) x) ≤ size (flat_map_with_memory next piece m (chars s.rest.now)))
-traced-turn next piece m s t xs u y = go (chars t.rest.now) (chars-left s t xs u y)
+    (λ x. (size (flat_map_with_memory next piece m xs) + size (piece (memory next m xs) x) ≤ size (flat_map_with_memory next piece m (chars s.rest.now)))
+    × ((more : List ℕ) × (flat_map_with_memory next piece m (chars s.rest.now)
+    ≡ (flat_map_with_memory next piece m xs ++ piece (memory next m xs) x) ++ more)))
+traced-left next piece m s t xs u y = go (chars t.rest.now) (chars-left s t xs u y)
   where
     go : (left : List ℕ) → chars s.rest.now ≡ xs ++ left
         → MatchOption (slice_get left 0) (flat_map_with_memory next piece m xs ≡ flat_map_with_memory next piece m (chars s.rest.now))
-        (λ x. size (flat_map_with_memory next piece m xs) + size (piece (memory next m xs) x) ≤ size (flat_map_with_memory next piece m (chars s.rest.now)))
+        (λ x. (size (flat_map_with_memory next piece m xs) + size (piece (memory next m xs) x) ≤ size (flat_map_with_memory next piece m (chars s.rest.now)))
+        × ((more : List ℕ) × (flat_map_with_memory next piece m (chars s.rest.now)
+        ≡ (flat_map_with_memory next piece m xs ++ piece (memory next m xs) x) ++ more)))
     go [] is = ap (flat_map_with_memory next piece m) (sym (append-nil xs) ∙ sym is)
-    go (x ∷ left) is = rw is (traced-fits next piece m xs left x)
+    go (x ∷ left) is =
+        let at = memory next m xs in
+        let so_far = flat_map_with_memory next piece m xs in
+        let rest = flat_map_with_memory next piece (next at x) left in
+        let whole = ap (flat_map_with_memory next piece m) is ∙ traced-append next piece m xs (x ∷ left) ∙ sym (append_assoc so_far (piece at x) rest) in (
+          omega (arith, ap size whole, size-append (so_far ++ piece at x) rest, size-append so_far (piece at x)),
+          (rest, whole),
+        )
+
+-- the first of two facts
+first_part : {A : Type 0} (N : Type 0) (P Q : A → Type 0) (o : Option A) → MatchOption o N (λ x. P x × Q x) → MatchOption o N P
+first_part N P Q None h = h
+first_part N P Q (Some x) h = h.0
 
 -- in the form that `grind` finds: it looks for the pieces so far, for what is left, and for the text
 pub traced-chars : {S : Type 0} (next : S → ℕ → S) (piece : S → ℕ → List ℕ) (m : S) (xs : List ℕ)
@@ -64,7 +68,7 @@ pub traced-chars : {S : Type 0} (next : S → ℕ → S) (piece : S → ℕ → 
     × ((s : Chars) → IsUtf8 s.rest.now → Yields spells s xs t
     → MatchOption (slice_get (chars t.rest.now) 0) (flat_map_with_memory next piece m xs ≡ flat_map_with_memory next piece m (chars s.rest.now))
     (λ x. size (flat_map_with_memory next piece m xs) + size (piece (memory next m xs) x) ≤ size (flat_map_with_memory next piece m (chars s.rest.now)))))
-traced-chars next piece m xs = (refl, λ t. (refl, λ s u y. traced-turn next piece m s t xs u y))
+traced-chars next piece m xs = (refl, λ t. (refl, λ s u y. first_part _ _ _ (slice_get (chars t.rest.now) 0) (traced-left next piece m s t xs u y)))
 
 -- a slice, of which the loop has taken the items before `i`
 module _ {S A : Type 0} (next : S → A → S) (piece : S → A → List ℕ) where
@@ -101,3 +105,14 @@ pub traced-item : {S A : Type 0} (next : S → A → S) (piece : S → A → Lis
     × (size (flat_map_with_memory next piece m (take i xs)) + size (piece (memory next m (take i xs)) (get_or xs i past))
     ≤ size (flat_map_with_memory next piece m xs)))
 traced-item next piece m xs i below = (refl, λ past. rw (add-one i) (traced-next next piece m xs i below past))
+
+-- `traced-chars` with the rest that is left, which a loop wants that cuts
+pub traced-rest : {S : Type 0} (next : S → ℕ → S) (piece : S → ℕ → List ℕ) (m : S) (xs : List ℕ)
+    → (flat_map_with_memory next piece m xs ≡ flat_map_with_memory next piece m xs)
+    × ((t : Chars) → (chars t.rest.now ≡ chars t.rest.now)
+    × ((s : Chars) → IsUtf8 s.rest.now → Yields spells s xs t
+    → MatchOption (slice_get (chars t.rest.now) 0) (flat_map_with_memory next piece m xs ≡ flat_map_with_memory next piece m (chars s.rest.now))
+    (λ x. (size (flat_map_with_memory next piece m xs) + size (piece (memory next m xs) x) ≤ size (flat_map_with_memory next piece m (chars s.rest.now)))
+    × ((more : List ℕ) × (flat_map_with_memory next piece m (chars s.rest.now)
+    ≡ (flat_map_with_memory next piece m xs ++ piece (memory next m xs) x) ++ more)))))
+traced-rest next piece m xs = (refl, λ t. (refl, λ s u y. traced-left next piece m s t xs u y))

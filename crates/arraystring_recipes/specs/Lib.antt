@@ -1,8 +1,10 @@
 pub mod Chains
 pub mod Commas
 pub mod Escapes
+pub mod Fills
 pub mod Keyed
 pub mod Letters
+pub mod Markup
 pub mod Scores
 pub mod Titles
 pub mod Walks
