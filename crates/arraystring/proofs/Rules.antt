@@ -6,7 +6,7 @@ use Rattle.std.proofs.lemmas.Bool.Decides.{nat_tests}
 use Rattle.std.proofs.lemmas.Fmt.{decimal_digit, decimal_step}
 use Rattle.std.proofs.lemmas.List.{take_all, append-nil, reverse-append}
 use Rattle.arraystring_base.proofs.TextLaws.{size-append, size-is, size-borrowed, empty-size, width-bounds, width-is}
-use Rattle.arraystring_base.proofs.CutLaws.{cut-all, cut-fits, cut-past_part}
+use Rattle.arraystring_base.proofs.CutLaws.{cut-all, cut-fits, cut-past, cut-past_part}
 use Rattle.arraystring_base.proofs.BoundaryLaws.{front-start, back-start}
 use Rattle.arraystring.proofs.AdditionLaws.{addition-made, addition-refused, addition_of_cut-makes, addition_of_cut-cuts, addition-char_cuts, cut-full}
 use Rattle.arraystring.proofs.BoundaryLaws.{front-fits, boundary-start, boundary-at_end, boundary-behind_given, boundary-behind_char, boundary-before_char, boundary-after_char, part-start, part-end, part_in-front}
@@ -76,7 +76,10 @@ pub ruleset traces = (memory-push, traced-push, traced-rest, traced-item)
 pub ruleset characters = (taken-chars, pieces-push)
 
 -- pieces one after the other, of which what fits is kept: by `push_str`, or a character by `try_push`
-pub ruleset cut_pieces = (addition-char_cuts, cut-full, cut-past_part, cut-all)
+pub ruleset cut_pieces = (addition-char_cuts, cut-past, cut-past_part, cut-all)
+
+-- a line that is full, or has no room for what comes next
+pub ruleset full_lines = (cut-full)
 
 -- a text that is put together at a character, and split there again
 pub ruleset joins = (joined-found)

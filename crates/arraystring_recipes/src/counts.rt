@@ -5,7 +5,7 @@ ghost use Rattle.std.specs.List.{filter};
 use arraystring::ArrayString;
 
 /// Returns how often `wanted` stands in `text`.
-#[tactic(auto, using(arraystring::proofs::Rules::characters, arraystring::proofs::Rules::chains, arraystring::proofs::Rules::widths))]
+#[tactic(auto, using(arraystring::proofs::Rules::texts, arraystring::proofs::Rules::chains, arraystring::proofs::Rules::widths))]
 pub fn count_of(text: &ArrayString<40>, wanted: char) -> u8
     ensures { result ≡ length (filter (λ c. c == wanted) text.now.text) }
 {

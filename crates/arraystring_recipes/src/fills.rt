@@ -33,7 +33,7 @@ fn plain(ch: char) -> char
 }
 
 /// Returns `text` with `?` in place of each character that is not of ASCII, or the longest prefix of that which fits.
-#[tactic(auto, using(arraystring::proofs::Rules::literals, arraystring::proofs::Rules::characters, arraystring::proofs::Rules::chains, arraystring::proofs::Rules::cut_pieces, arraystring::proofs::Rules::sizes))]
+#[tactic(auto, using(arraystring::proofs::Rules::literals, arraystring::proofs::Rules::characters, arraystring::proofs::Rules::chains, arraystring::proofs::Rules::cut_pieces, arraystring::proofs::Rules::full_lines, arraystring::proofs::Rules::sizes))]
 pub fn plain_start<const N: usize>(text: &str) -> ArrayString<N>
     ensures { result.text ≡ cut (map plain (chars text.now)) (cap N) }
 {
