@@ -5,7 +5,7 @@ use Rattle.std.specs.Bool.{nat_eq}
 use Rattle.std.specs.Cmp.Lexicographic.{slice_cmp, bytes_decides, pointwise}
 use Rattle.std.proofs.lemmas.Bool.{cases_Bool}
 use Rattle.arraystring_base.specs.Text.{size, bytes}
-use Rattle.arraystring_base.proofs.TextLaws.{bytes-chars, pointwise-bytes, size-borrowed}
+use Rattle.arraystring_base.proofs.TextLaws.{bytes-chars, bytes_same, pointwise-bytes, size-borrowed}
 use Rattle.arraystring_base.proofs.OrderLaws.{order-bytes}
 
 -- two texts are equal if and only if their characters are
@@ -32,3 +32,13 @@ borrowed-order a b = (
 -- it has as many bytes as its characters take
 pub borrowed-length : (bs : List ℕ) → (chars bs ≡ chars bs) × (IsUtf8 bs → size (chars bs) ≡ length bs)
 borrowed-length bs = (refl, λ u. size-borrowed u)
+
+-- the UTF-8 of two texts is the same if and only if the texts are
+pub borrowed-bytes : (a b : List ℕ) → (pointwise nat_eq (bytes a) (bytes b) ≡ pointwise nat_eq (bytes a) (bytes b))
+    × (((pointwise nat_eq (bytes a) (bytes b) ≡ true) × (a ≡ b)) ⊎ ((pointwise nat_eq (bytes a) (bytes b) ≡ false) × (a ≢ b)))
+borrowed-bytes a b = (refl, go (cases_Bool (pointwise nat_eq (bytes a) (bytes b))))
+  where
+    go : (pointwise nat_eq (bytes a) (bytes b) ≡ true) ⊎ (pointwise nat_eq (bytes a) (bytes b) ≡ false)
+        → ((pointwise nat_eq (bytes a) (bytes b) ≡ true) × (a ≡ b)) ⊎ ((pointwise nat_eq (bytes a) (bytes b) ≡ false) × (a ≢ b))
+    go (inl y) = inl (y, bytes_same ((bytes_decides (bytes a) (bytes b)).0 y))
+    go (inr n) = inr (n, λ e. absurd (cc (n, (bytes_decides (bytes a) (bytes b)).1 (ap bytes e))))

@@ -3,7 +3,8 @@ use Rattle.std.proofs.Common.{◌≡◌, ℕ, ◌+◌, ◌*◌, ◌<◌, ◌≤�
 use Rattle.std.proofs.lemmas.Iterator.{YieldsList}
 use Rattle.std.proofs.lemmas.Grind.{flat_map-append}
 use Rattle.std.proofs.lemmas.List.{append-nil}
-use Rattle.std.proofs.lemmas.Str.{chars_past_char, IsUtf8-past_char}
+use Rattle.std.proofs.lemmas.Str.{chars_from_encodes, chars_past_char, IsUtf8-past_char}
+use Rattle.std.specs.Str.{encode_utf8_all}
 use Rattle.std.proofs.lemmas.List.Folds.{flat_map-map}
 use Rattle.std.proofs.iter.Yields.{gives_left, gives_Drains}
 use Rattle.std.proofs.iter.TextItems.{spells}
@@ -11,7 +12,7 @@ use Rattle.std.specs.List.{slice_get}
 use Rattle.std.specs.declared.str.Chars.{Chars}
 use Rattle.std.specs.Iterator.{AlwaysYields, Yields}
 use Rattle.arraystring_base.specs.Text.{size, width}
-use Rattle.arraystring_base.proofs.TextLaws.{size-append}
+use Rattle.arraystring_base.proofs.TextLaws.{size-append, size-borrowed, width-bounds}
 
 -- an iterator that gives `all`, of which the loop has taken the items `xs`; `v` reads an item
 module _ {S A B : Type 0} {steps : S → Option A → S → Type 0} {v : A → B} {s t : S} {all : List B} where
@@ -169,3 +170,35 @@ replicate-less (suc n) (suc m) c lt = omega (arith, replicate-less n m c (omega 
 pub replicate-more : (n c : ℕ) → (replicate n c ≡ replicate n c)
     × ((m : ℕ) → n < m → (replicate m c ≡ replicate m c) × (size (replicate n c) + width c ≤ size (replicate m c)))
 replicate-more n c = (refl, λ m lt. (refl, replicate-less n m c lt))
+
+-- a text has no more characters than bytes
+length-size : (t : List ℕ) → length t ≤ size t
+length-size [] = omega arith
+length-size (c ∷ t) = omega (arith, width-bounds c, length-size t)
+
+-- when a character is left, fewer were taken than the text has bytes; when none is left, all were taken
+walked-turn : (s t : Chars) (xs : List ℕ) → IsUtf8 s.rest.now → Yields spells s xs t
+    → MatchOption (slice_get (chars t.rest.now) 0) (xs ≡ chars s.rest.now)
+    (λ x. (length xs < size (chars s.rest.now)) × (length xs < length s.rest.now))
+walked-turn s t xs u y = go (chars t.rest.now) (chars-left s t xs u y)
+  where
+    go : (left : List ℕ) → chars s.rest.now ≡ xs ++ left
+        → MatchOption (slice_get left 0) (xs ≡ chars s.rest.now)
+        (λ x. (length xs < size (chars s.rest.now)) × (length xs < length s.rest.now))
+    go [] is = sym (is ∙ append-nil xs)
+    go (x ∷ left) is =
+        let below : length xs < size (chars s.rest.now) =
+        omega (arith, ap size is, size-append xs (x ∷ left), length-size xs, width-bounds x) in
+        (below, omega (arith, below, size-borrowed u))
+
+-- in the form that `grind` finds, for a loop that makes no text: it looks for what is left
+pub walked-chars : (t : Chars) → (chars t.rest.now ≡ chars t.rest.now)
+    × ((s : Chars) (xs : List ℕ) → IsUtf8 s.rest.now → Yields spells s xs t
+    → MatchOption (slice_get (chars t.rest.now) 0) (xs ≡ chars s.rest.now)
+    (λ x. (length xs < size (chars s.rest.now)) × (length xs < length s.rest.now)))
+walked-chars t = (refl, λ s xs u y. walked-turn s t xs u y)
+
+-- in the form that `grind` finds, for `text.chars().count()`: it looks for the bytes of what was counted, and for the text
+pub counted-chars : (cs : List ℕ) → (encode_utf8_all cs ≡ encode_utf8_all cs)
+    × ((bs : List ℕ) → (chars bs ≡ chars bs) × (IsUtf8 bs → encode_utf8_all cs ≡ bs → cs ≡ chars bs))
+counted-chars cs = (refl, λ bs. (refl, λ u e. chars_from_encodes cs bs u e))

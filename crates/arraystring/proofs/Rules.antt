@@ -5,13 +5,14 @@ use Rattle.std.proofs.Common.{append_assoc}
 use Rattle.std.proofs.lemmas.Bool.Decides.{nat_tests}
 use Rattle.std.proofs.lemmas.Fmt.{decimal_digit, decimal_step}
 use Rattle.std.proofs.lemmas.List.{take_all, append-nil, reverse-append}
+use Rattle.std.proofs.lemmas.List.Sums.{length-filter, count_by-le-length}
 use Rattle.arraystring_base.proofs.TextLaws.{size-append, size-is, size-borrowed, empty-size, width-bounds, width-is}
 use Rattle.arraystring_base.proofs.CutLaws.{cut-all, cut-fits, cut-past, cut-past_part}
 use Rattle.arraystring_base.proofs.BoundaryLaws.{front-start, back-start}
 use Rattle.arraystring.proofs.AdditionLaws.{addition-made, addition-refused, addition_of_cut-makes, addition_of_cut-cuts, addition-char_cuts, cut-full}
 use Rattle.arraystring.proofs.BoundaryLaws.{front-fits, boundary-start, boundary-at_end, boundary-behind_given, boundary-behind_char, boundary-before_char, boundary-after_char, part-start, part-end, part_in-front}
 use Rattle.arraystring.proofs.CharacterLaws.{width-one, width-low, chars-ascii, size-repeated, first-boundary}
-use Rattle.arraystring.proofs.LoopLaws.{taken-item, taken-with, taken-chars, taken-size, pieces-push, replicate-more}
+use Rattle.arraystring.proofs.LoopLaws.{taken-item, taken-with, taken-chars, taken-size, pieces-push, replicate-more, walked-chars, counted-chars}
 use Rattle.arraystring.proofs.SplitLaws.{joined-found}
 use Rattle.arraystring.proofs.RemovalLaws.{popping-made, popped-take, popped-length, removal-made}
 use Rattle.arraystring.proofs.ChainLaws.{map_pieces, filter_pieces, kept_pieces, gives-chars, gives-mapped, gives-kept}
@@ -23,8 +24,8 @@ use Rattle.arraystring.proofs.TracedLaws.{memory-push, traced-push, traced-rest,
 use Rattle.arraystring.proofs.WalkLaws.{walked-on, walked-out}
 use Rattle.arraystring.proofs.FieldLaws.{fields-found, fields-none, fields-count}
 use Rattle.arraystring.proofs.KeyedLaws.{ordered-put, hashed-put, ordered-out, hashed-out}
-use Rattle.arraystring.proofs.BorrowedLaws.{borrowed-same, borrowed-order, borrowed-length}
-use Rattle.arraystring.proofs.PrefixLaws.{prefix-found, prefix-bytes}
+use Rattle.arraystring.proofs.BorrowedLaws.{borrowed-same, borrowed-order, borrowed-length, borrowed-bytes}
+use Rattle.arraystring.proofs.PrefixLaws.{prefix-found, prefix-bytes, text-found, text-bytes}
 use Rattle.arraystring.proofs.ReadBackLaws.{number-read, signed-read}
 
 -- appends, each whole or refused, one after the other
@@ -55,7 +56,7 @@ pub ruleset at_start = (front-start, back-start, empty-size)
 pub ruleset firsts = (first-boundary, front-start, back-start)
 
 -- sizes of texts and of characters
-pub ruleset sizes = (size-append, size-is, size-borrowed, empty-size, width-bounds)
+pub ruleset sizes = (size-append, size-is, size-borrowed, empty-size, width-bounds, width-is)
 
 -- literals of ASCII, and one character many times
 pub ruleset literals = (chars-ascii, width-one, size-repeated, replicate-more)
@@ -85,7 +86,7 @@ pub ruleset full_lines = (cut-full)
 pub ruleset joins = (joined-found)
 
 -- what most callers want: appends, whole or cut, literals, loops over slices and characters, removals, splits, insertions at index 0
-pub ruleset texts = (addition-made, addition-refused, size-append, append_assoc, addition_of_cut-makes, addition_of_cut-cuts, cut-all, cut-fits, chars-ascii, size-repeated, replicate-more, size-borrowed, width-low, taken-item, taken-chars, pieces-push, boundary-at_end, popping-made, removal-made, front-start, back-start)
+pub ruleset texts = (addition-made, addition-refused, size-append, append_assoc, addition_of_cut-makes, addition_of_cut-cuts, cut-all, cut-fits, chars-ascii, size-repeated, replicate-more, size-borrowed, width-low, taken-item, taken-chars, pieces-push, boundary-at_end, popping-made, removal-made, front-start, back-start, counted-chars)
 
 -- a text that is taken apart from its end, by `while let Some(last) = text.pop()`
 pub ruleset backwards = (last-split, reverse-append, append-nil, size-reverse)
@@ -118,10 +119,13 @@ pub ruleset fields = (fields-found, fields-none, fields-count)
 pub ruleset keyed = (ordered-put, hashed-put, ordered-out, hashed-out)
 
 -- texts that std compares, orders and measures by their bytes
-pub ruleset borrowed = (borrowed-same, borrowed-order, borrowed-length)
+pub ruleset borrowed = (borrowed-same, borrowed-order, borrowed-length, borrowed-bytes)
 
 -- a number that `parse` reads back from its digits
 pub ruleset read_back = (number-read, signed-read)
 
--- what stands behind a text that `strip_prefix` takes off
-pub ruleset prefixes = (prefix-found, prefix-bytes)
+-- what stands behind a text that `strip_prefix` takes off, and round one that `find` or `split_once` finds
+pub ruleset prefixes = (prefix-found, prefix-bytes, text-found, text-bytes)
+
+-- a loop that takes the characters of a text and makes no other one, as one that counts them
+pub ruleset counts = (walked-chars, counted-chars, length-filter, count_by-le-length)

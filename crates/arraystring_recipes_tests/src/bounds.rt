@@ -81,10 +81,6 @@ fn characters_are_counted(rt: HostRuntime) {
         ("éaé", 'é', 2),
         ("abc", 'd', 0),
     ] {
-        agree(
-            &rt,
-            count_of(&ArrayString::from_str_truncate(text), wanted),
-            count,
-        );
+        agree(&rt, count_of(text, wanted), count);
     }
 }
