@@ -14,11 +14,11 @@ use std::process::Abort;
 use test_support::memory::{ScarceMemory, TIMES};
 use test_support::scripts::{EXAMPLE, EXAMPLE_OUTPUT};
 
-/// The example with a bad line before it, which is met once there is memory for the input.
+/// The example behind a bad line. This line is met as soon as there is memory for the input.
 const BAD_FIRST: &str = "Len\npush_str ABCD🤔\ntry_insert 1 A\ntry_insert_str 2 B\ndrain_back 4 10\n\
     get 0 9\nremove 9\nas_str\n";
 
-/// The example with a bad line behind it, which is met once there is memory for the commands too.
+/// The example before a bad line. This line is met only when there is memory for the commands, too.
 const BAD_LAST: &str = "push_str ABCD🤔\ntry_insert 1 A\ntry_insert_str 2 B\ndrain_back 4 10\n\
     get 0 9\nremove 9\nas_str\nLen\n";
 
@@ -29,7 +29,7 @@ fn text_of<const N: usize>(text: &str) -> ArrayString<N> {
     string
 }
 
-/// Takes all memory. It is `None` where a test ends without it.
+/// Takes all memory. Returns `None` where it cannot all be taken, and the test then ends.
 pub(super) fn all_memory(rt: &(impl Abort + Env + Eprint + AllocGlobal)) -> Option<ScarceMemory> {
     ScarceMemory::take(rt).expect(rt, "all memory is taken")
 }
@@ -88,8 +88,8 @@ fn serve_runs_out(
     runs_out
 }
 
-/// With ever more memory, from none up, `serve` reports each growth that is refused, one after the
-/// other: that of the input, those of the commands, that of the replies. The bad lines tell which.
+/// With ever more memory, from none up, `serve` reports each growth that is refused: first that of the input, then
+/// those of the commands, and then that of the replies. Whether a bad line is met tells which of them it was.
 #[test]
 fn want_of_memory_is_served(rt: HostRuntime) {
     let (mut output, mut errors) = (bytes(&rt, 1000), bytes(&rt, 1000));
@@ -241,8 +241,7 @@ fn each_refused_growth_is_reported(rt: HostRuntime) {
     drop(scarce);
 }
 
-/// A reader and a writer that look, at each call, whether there is memory of `size` bytes. No byte is
-/// read.
+/// A reader that gives no byte, and a writer. Each looks at each call whether there is memory of `size` bytes.
 #[derive(Drop)]
 struct MemoryProbe {
     alloc: Global,

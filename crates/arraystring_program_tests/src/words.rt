@@ -62,7 +62,7 @@ fn words_with_more_are_refused(rt: HostRuntime) {
     agree(&rt, "places", count, 24 * (6 + 6 + 4));
 }
 
-/// Each part of a word but the whole.
+/// Each part of a word, except the whole word, names no capacity.
 #[test]
 fn parts_of_words_are_refused(rt: HostRuntime) {
     let mut count = 0u32;
@@ -104,7 +104,7 @@ fn respelled(
     given
 }
 
-/// Any of a word's letters large, and each letter another of the 128 of ASCII.
+/// A word names no capacity if any of its letters are in upper case, or if one letter is another character of ASCII.
 #[test]
 fn words_in_other_letters_are_refused(rt: HostRuntime) {
     let (mut large_ones, mut others) = (0u32, 0u32);
@@ -131,7 +131,7 @@ fn words_in_other_letters_are_refused(rt: HostRuntime) {
     agree(&rt, "other letters", others, 127 * (5 + 5 + 3));
 }
 
-/// No word at all.
+/// Without a word the program names no capacity, too.
 #[test]
 fn no_word_is_refused(rt: HostRuntime) {
     names_none(&rt, "no word", None);

@@ -135,10 +135,10 @@ fn words_are_put_together(rt: HostRuntime) {
     let (on_lines, in_a_path) = ("ab\ncd\nefg\n", "ab/cd/efg");
     check_words(&rt, &["ab", "cd", "efg"], Some(on_lines), Some(in_a_path));
     check_words(&rt, &["01234567"], Some("01234567\n"), Some("01234567"));
-    // The end of the last line is a byte too much.
+    // The last line feed does not fit, but in a path there is none.
     check_words(&rt, &["ab", "cd", "🤔"], None, Some("ab/cd/🤔"));
     check_words(&rt, &["0123456789"], None, Some("0123456789"));
-    // The last word is, too.
+    // The last word, or the `/` before it, does not fit either.
     check_words(&rt, &["ab", "cd", "🤔a"], None, None);
     check_words(&rt, &["0123456789", ""], None, None);
     check_words(&rt, &["0123456789a"], None, None);
@@ -150,7 +150,7 @@ fn both_are_added_or_neither(rt: HostRuntime) {
         ("", "", true, "0123456789"),
         ("abcdefg", "hijklmn", true, "0123456789abcdefghijklmn"),
         ("abcdefg", "hijklé", true, "0123456789abcdefghijklé"),
-        // A byte too much, at the end of the second and of the first.
+        // The last byte of the second word does not fit, and then that of the first.
         ("abcdefg", "hijklmé", false, "0123456789"),
         ("abcdefghijklmné", "", false, "0123456789"),
         ("", "abcdefghijklmno", false, "0123456789"),
@@ -337,7 +337,7 @@ fn fields_are_quoted(rt: HostRuntime) {
         ("é\"€", Some("\"é\"\"€\"")),
         ("a\"\"b", Some("\"a\"\"\"\"b\"")),
         ("01234567", Some("\"01234567\"")),
-        // A byte too much: of the last quote, of the character and of the quote that is doubled.
+        // One byte does not fit: of the last quote, of the character, and of the quote that is doubled.
         ("012345678", None),
         ("0123456€", None),
         ("0123456\"", None),
@@ -424,7 +424,7 @@ fn a_text_stands_for_a_character(rt: HostRuntime) {
         ("a-b-c", "", "abc"),
         ("a-b-c", "é", "aébéc"),
         ("---", "€", "€€€"),
-        // A part of what stands for it, and none of it.
+        // Nothing of what stands for the last `-` fits, and then a part of it.
         ("---", "ab€", "ab€ab€"),
         ("----", "abc", "abcabcabca"),
         ("01234567-ab", "€", "01234567"),
@@ -446,7 +446,7 @@ fn an_entry_is_added_whole_or_not_at_all(rt: HostRuntime) {
         ("name", "é", true, "01name=é"),
         ("name", "anne", true, "01name=anne"),
         ("name", "an€", true, "01name=an€"),
-        // A byte too much: of the value, of the sign and of the key.
+        // One byte does not fit: of the value, of the sign, and of the key.
         ("name", "abc€", false, "01"),
         ("0123456789", "", false, "01"),
         ("0123456789a", "", false, "01"),
@@ -686,7 +686,7 @@ fn as_many_words_as_fit(rt: HostRuntime) {
     for (words, wanted, count) in [
         (["", "", ""], "   ", 3),
         (["ab", "cdé", "f"], "ab cdé f ", 3),
-        // The space of the last word is a byte too much, and so is the word; none is cut.
+        // A word whose space does not fit is left out, and so is one that does not fit itself: no word is cut.
         (["ab", "cdé", "fg"], "ab cdé ", 2),
         (["ab", "0123456", ""], "ab ", 1),
         (["0123456789", "", ""], "", 0),

@@ -250,7 +250,7 @@ fn put<const N: usize, E: Drop>(text: &mut Text<N>, made: Result<Text<N>, E>) ->
     1
 }
 
-/// What a call is made on.
+/// The strings on which a call is made, and what it is given.
 #[derive(Drop)]
 struct Case<'a> {
     held: &'a str,

@@ -60,7 +60,7 @@ fn check_row<const N: usize>(rt: &impl Abort, row: &str)
     agree(rt, row, of_pieces(&[text]), (cut, whole.ok()));
 }
 
-/// Asserts what is next.
+/// Asserts which item the iterator that was borrowed gives next.
 pub(super) fn next<'a>(rt: &impl Abort, row: &'a str, ch: Option<char>, piece: Option<&'a str>) {
     agree(rt, row, ch, column(row, 4).chars().next());
     agree(rt, row, piece.unwrap_or("None"), column(row, 5));

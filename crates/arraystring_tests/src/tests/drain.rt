@@ -7,7 +7,7 @@ use arraystring::{ArrayString, Drain};
 use std::process::Abort;
 use test_support::table::{column, rows};
 
-/// What `[ ]` has in it of a text, taken out of it.
+/// The drain of the part of a text that stands between `[` and `]`.
 fn taken_out<const N: usize>(written: &str) -> Drain<N> {
     let (before, rest) = written.split_once('[').unwrap_or_default();
     let (inside, after) = rest.split_once(']').unwrap_or_default();
@@ -61,7 +61,7 @@ fn steps_from_both_ends(rt: HostRuntime) {
                  | next      |      |
         ",
     );
-    // Nothing was taken out.
+    // drains of an empty part
     check_drains::<4>(
         &rt,
         "
@@ -78,7 +78,7 @@ fn steps_from_both_ends(rt: HostRuntime) {
            | next_back |      |
         ",
     );
-    // A copy keeps what it had.
+    // a copy keeps its characters when the drain itself gives some
     let mut drain = taken_out::<23>("[A🤔B]");
     let mut copy = drain;
     agree(&rt, "the front", drain.next(), Some('A'));
@@ -87,9 +87,9 @@ fn steps_from_both_ends(rt: HostRuntime) {
     agree(&rt, "what is left of the copy", copy.as_str(), "A🤔");
 }
 
-/// Iterates over all of a text by one choice of ends: the back if the choice has a bit. What is left is
-/// compared after each step. It is also printed if the front is chosen first and then the back, because
-/// these choices leave each part that any choice leaves.
+/// Iterates over all of a text. Bit `n` of `choice` says from which end step `n` takes: 0 is the front, and 1 the back.
+/// What is left is compared at each step. It is also printed if all steps from the front come before those from the
+/// back, because these choices leave each part that any choice leaves.
 fn walk_by(rt: &(impl Abort + AllocGlobal), text: &str, choice: u32, is_printed: bool) {
     let mut drain = string::<23>(text).drain(..).unwrap_or_default();
     let mut wanted = text.chars();
@@ -114,9 +114,9 @@ fn walk_by(rt: &(impl Abort + AllocGlobal), text: &str, choice: u32, is_printed:
     agree(rt, text, drain.next_back(), None);
 }
 
-/// Iterates over texts in several ways. The columns are how many ways, and the text. A choice takes from the
-/// front first and then from the back if its bits are the highest ones, so that it lacks a power of 2 of
-/// the number of ways.
+/// Iterates over each text by each choice of ends. The columns are the number of choices, and the text. In a choice
+/// that takes from the front first and then from the back, the bits that are 1 are the highest. So it is the number of
+/// choices less a power of 2.
 fn check_walks(rt: &(impl Abort + AllocGlobal), table: &str) {
     let mut printed = 0u32;
     for row in rows(table) {
@@ -127,7 +127,7 @@ fn check_walks(rt: &(impl Abort + AllocGlobal), table: &str) {
             walk_by(rt, column(row, 1), choice, is_printed);
         }
     }
-    // A text of `n` characters has `n + 1` such choices: from 1 to 7 of them.
+    // A text of `n` characters has `n + 1` choices that are printed, which are 1 to 7 here.
     agree(rt, "how many are printed", printed, 28);
 }
 
