@@ -40,7 +40,7 @@ fn leave(rt: &(impl Abort + AllocGlobal), scarce: &mut ScarceMemory, left: usize
     taken_again.expect(rt, "the rest is taken again");
 }
 
-/// Leaves a little more memory than the time before.
+/// Leaves a little more memory than the call before.
 fn leave_more(rt: &(impl Abort + AllocGlobal), scarce: &mut ScarceMemory) {
     let taken_again = scarce.leave_more(rt.alloc());
     taken_again.expect(rt, "the rest is taken again");
@@ -315,7 +315,7 @@ fn no_memory_is_taken_before_the_first_read(rt: HostRuntime) {
     drop(scarce);
 }
 
-/// With ever more memory, from none up, a refused growth of `run` leaves the text.
+/// With ever more memory, from none up, `run` leaves the text as it was each time that its list of replies is refused.
 #[test]
 fn want_of_memory_leaves_the_text(rt: HostRuntime) {
     let commands = [Command::TryPush('c'); 100];
@@ -379,13 +379,14 @@ fn want_of_memory_leaves_both_texts(rt: HostRuntime) {
     agree(&rt, "the second text", second.as_str(), "abcc");
 }
 
-/// How many bytes the lists of replies have together, but for less than two replies.
+/// How many bytes the replies of a run take, or of a run on two strings together. There are as many commands as fit
+/// into this number.
 const LISTS: usize = 50000;
 
-/// How much more memory than that is enough, and how much less is not.
+/// With so much more memory than that a run has enough, and with so much less it has too little.
 const MARGIN: usize = 4000;
 
-/// As many commands as there are replies of `size` bytes in `LISTS` bytes.
+/// As many commands as replies of `size` bytes fit into `LISTS` bytes.
 fn commands_for<'a>(commands: &'a [Command<'a>], size: usize) -> &'a [Command<'a>] {
     let count = LISTS.checked_div(size).unwrap_or(0);
     commands.get(..count).unwrap_or(&[])
@@ -420,8 +421,8 @@ fn are_made<const N: usize, const M: usize>(
     }
 }
 
-/// For how many of the runs there is memory: at three capacities, and at two pairs of capacities. A reply
-/// has `SIZES` bytes at 23, 63 and 255.
+/// Makes a run at each of three capacities, and at two pairs of them, and returns for how many of the five there was
+/// memory.
 fn count_made(alloc: Global, commands: &[Command<'_>]) -> u32 {
     let [small, cache, max] = SIZES;
     let made = [

@@ -185,8 +185,8 @@ fn writes(
     same(rt, "errors", word, &errors, reported);
 }
 
-/// The writer takes little at a time, and is interrupted before each write. Of the longest output it
-/// takes more.
+/// The writer takes a few bytes at a time, or a few hundred of the longest output, and is interrupted before each
+/// write.
 #[test]
 fn short_and_interrupted_writes_are_joined(rt: HostRuntime) {
     for count in COUNTS {
@@ -259,7 +259,7 @@ fn fails_after_each(rt: &(impl Abort + AllocGlobal), word: &str, kind: Option<Er
     assert_eq!(rt; served, 8 + 36 + 70 + 81 + 93 + 104 + 19 + 81);
 }
 
-/// What the writer took before it failed is all that it had room for.
+/// A writer that failed has taken all bytes that it had room for.
 #[test]
 fn a_failed_write_is_reported(rt: HostRuntime) {
     for word in WORDS {

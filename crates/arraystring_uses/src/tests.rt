@@ -1,5 +1,5 @@
-//! Uses on values worked out by hand, which show what a clause means. What a clause says of all values has no
-//! other test. Uses of `edges` only make one call, which has tests of its own.
+//! Uses on values worked out by hand, which show what a clause means. They are few, because the clause is proved of all
+//! values. The uses in `edges` have no test here, because each only makes one call, which has tests of its own.
 use crate::chains::{compact, digits_in, digits_of, snake, snake_again, try_compact, try_snake};
 use crate::columns::{ascii_width, bytes_shown, padded};
 use crate::commas::with_commas;

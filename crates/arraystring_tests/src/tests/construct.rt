@@ -200,8 +200,8 @@ fn cut_pieces<const N: usize>(rt: &impl Abort, pieces: &[&str], wanted: &str)
 
 #[test]
 fn what_is_made_of_bytes_and_of_slices(rt: HostRuntime) {
-    // A lone continuation byte, an overlong form, a surrogate, what is past the last scalar value, a
-    // character cut short, and a fault past the first byte, which all bytes are judged by.
+    // A lone continuation byte, an overlong form, a surrogate, what is past the last scalar value, a character cut
+    // short, and a fault behind the first byte. All bytes are judged, also those that do not fit.
     let faults = b"\x00\x9F\x92\x96\
         \x61\x61\xC0\x80\
         \xC1\xBF\x61\x61\

@@ -117,7 +117,7 @@ fn check_places(rt: &impl Abort, c: char) -> u32 {
 fn each_character_at_each_place(rt: HostRuntime) {
     let mut count = 0u32;
     for c in FOUND.chars() {
-        // 9 texts before it, and 9 and 5 after it.
+        // Before `c` stand 9 texts, and behind it for each of them 9 prefixes of the neighbours and 5 ends of `FOUND`.
         agree(&rt, "places", check_places(&rt, c), 9 * (9 + 5));
         count = count.wrapping_add(1);
     }
