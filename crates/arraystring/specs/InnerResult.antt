@@ -1,4 +1,4 @@
--- What a contract sees of a `CacheString`.
+-- How contracts name what a constructor of `CacheString` returns.
 use Rattle.std.specs.Prelude.{Result, Ok, Err}
 use Rattle.arraystring_core.specs.Stored.{Stored}
 use Rattle.arraystring.specs.declared.cache_string.CacheString.{CacheString}

@@ -1,4 +1,4 @@
--- What a loop makes that remembers something of the items so far, and what a test keeps that does.
+-- What a loop makes, and what a test keeps, that remembers something of the items before.
 use Rattle.std.specs.Prelude.{List, [], ◌∷◌, ◌++◌, ℕ, Bool, if◌then◌else◌}
 
 module _ {S X : Type 0} (next : S → X → S) where

@@ -10,7 +10,7 @@ use serde_json::Value;
 use std::alloc::{AllocError, Global};
 
 impl CacheString {
-    /// Returns the text as a JSON string, which `alloc` allocates. `from_value` returns the text again.
+    /// Returns the text as a JSON string, which takes memory from `alloc`. `from_value` returns the text again.
     ///
     /// # Errors
     ///

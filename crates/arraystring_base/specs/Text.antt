@@ -1,4 +1,5 @@
--- Texts, which are lists of characters, and their UTF-8 (Unicode Standard, section 3.9). Numbers have no upper bound here.
+-- Texts, which are lists of characters, and their UTF-8 (Unicode Standard, section 3.9). Numbers are natural numbers here, so that no
+-- sum overflows. A name in parentheses is a law, which proves what the comment says.
 use Rattle.std.specs.Prelude.{◌≡◌, ℕ, ◌+◌, ◌-◌, ◌/◌, ◌%◌, ◌<◌, ◌≤◌, ◌⊎◌, ◌==◌, ⊤, Bool, min, List, [], ◌∷◌, ◌++◌, if◌then◌else◌, nat_lt, nat_le}
 
 -- a Unicode scalar value: any code point but a surrogate (3.9)
@@ -40,7 +41,7 @@ bytes (c ∷ cs) = utf8 c ++ bytes cs
 abbrev pub IsWellFormed : List ℕ → Type 0
 IsWellFormed bs = (t : List ℕ) × (IsText t × (bytes t ≡ bs))
 
--- the capacity of an array of N bytes: a length is kept in one byte
+-- the capacity of an array of N bytes: N, but at most 255, because a length is kept in one byte
 abbrev pub cap : ℕ → ℕ
 cap n = min n 255
 

@@ -1,5 +1,5 @@
--- UTF-16 (Unicode Standard, sections 3.8 and 3.9): how units are read, where a reading stops, and the units of a text. Numbers
--- have no upper bound here.
+-- UTF-16 (Unicode Standard, sections 3.8 and 3.9): how units are read, where a reading stops, and the units of a text. Numbers are
+-- natural numbers here, so that no sum overflows.
 use Rattle.std.specs.Prelude.{◌≡◌, ℕ, ◌+◌, ◌-◌, ◌/◌, ◌%◌, ◌<◌, ◌≤◌, List, [], ◌∷◌, ◌++◌, map, nat_lt, nat_le, if◌then◌else◌}
 use Rattle.std.specs.List.{All}
 use Rattle.arraystring_base.specs.Text.{IsScalarValue, width, size}
@@ -44,22 +44,22 @@ abbrev pub NoPairApart : List Unit16 → Type 0
 NoPairApart items =
     (before after : List Unit16) (high low : ℕ) → items ≡ before ++ Lone high ∷ Lone low ∷ after → IsHigh high → IsLow low → ⊥
 
--- the items are a reading of the units: the items' units, joined, are these, and no pair is read as two lone surrogates (3.9);
--- units below 10000 have one reading (`only_reading`), those of a text its characters (`text_reading`)
+-- the items are a reading of the units: the items' units, joined, are these, and no pair is read as two lone surrogates (3.9); units
+-- below 0x10000 have exactly one reading (`only_reading`), and that of the units of a text is its characters (`text_reading`)
 pub record IsReading (units : List ℕ) (items : List Unit16) : Type 0 where
   pub each_unit : All (λ unit. unit < 0x1_0000) units
   pub each_item : All IsItem items
   pub joined : units ≡ joined_units items
   pub apart : NoPairApart items
 
--- where the taking of items ends: the prefix of characters that fits, and what comes after it, which is nothing (`End`), a lone
--- surrogate (`Fault`), or a character (`Full`)
+-- where items stop if their characters are taken as long as they fit: the characters that were taken, and by its case what comes right
+-- after them: nothing (`End`), a lone surrogate (`Fault`), or a character that no longer fits (`Full`)
 pub data Stop : Type 0 where
   End : List ℕ → Stop
   Fault : List ℕ → Stop
   Full : List ℕ → Stop
 
--- the items stop so at n bytes: they begin with the prefix, which fits, and a character after it would no longer fit
+-- this is where the items stop at n bytes: they begin with the prefix, which fits, and a character right after it does not fit
 abbrev pub StopsAt : List Unit16 → ℕ → Stop → Type 0
 StopsAt items n (End prefix) = (items ≡ map Char prefix) × (size prefix ≤ n)
 StopsAt items n (Fault prefix) =

@@ -104,7 +104,7 @@ pub fn text_from(text: &str, start: usize) -> &str
 }
 
 /// Moves `len` bytes by `shift`, for what runs seldom. (In Rust this is one `memmove` at any length, because the tests
-/// of the length are more code than its call. Here a call would be dearer than what it spares.)
+/// of the length are more code than its call. Here it is inlined, because a call would cost more than the tests.)
 #[inline(always)]
 pub(crate) fn move_bytes<const N: usize>(array: &mut [u8; N], from: usize, to: usize, len: usize)
     requires source { from + len ≤ N }

@@ -1,5 +1,5 @@
-//! Boundaries, cuts and moves of bytes, under the paths of the Rust crate. Sizes and indices count bytes of
-//! UTF-8.
+//! Boundaries, cuts and moves of bytes, under the paths that arraystring 0.3.0 has for them. Sizes and indices count
+//! bytes of UTF-8.
 ghost use Rattle.std.specs.Prelude.{◌≤◌, ◌↔◌, IsOk};
 
 use crate::error::OutOfBounds;

@@ -4,7 +4,8 @@ use Rattle.arraystring_base.specs.Text.{size, boundary}
 use Rattle.arraystring_base.specs.declared.error.Error.{Error}
 use Rattle.arraystring_base.specs.declared.error.Error.TheVariants as error
 
--- why an edit is refused: an index that is not in the text, a result that does not fit, an index inside a character
+-- why an edit is refused: an index that is not in the text (`Past`), a result that does not fit (`Room`), or an index inside a
+-- character (`Inside`)
 pub data Cause : Type 0 where
   Past : Cause
   Room : Cause

@@ -5,22 +5,22 @@ use Rattle.arraystring_base.specs.declared.error.Error.{Error}
 use Rattle.arraystring_core.specs.Stored.{Stored}
 use Rattle.arraystring_core.specs.Edits.{first_of, last_of, all_but_last}
 
--- what a contract sees of a `Drain`: the characters that are left (`left_fits`), and what no public clause names: those that were
--- given from the front, and numbers
+-- the characters that are left (`left_fits`); and what no public clause names: the characters that were given from the front, and the
+-- numbers that `Stored` also has, from which the fields of a `Drain` can be computed
 pub record Drained : Type 0 where
   pub left : List ℕ
   pub yielded : List ℕ
   pub spare : List ℕ
 
--- the part of `removed` from the boundary i on is left
+-- a drain of the removed string of which the part before the boundary i was given from the front, so that the part from i on is left
 abbrev pub drain_from : Stored → ℕ → Drained
 drain_from removed i = record { left = back removed.text i; yielded = front removed.text i; spare = removed.spare }
 
--- the removed text, put together again from what was given of it and what is left
+-- the string of which a drain is left: its text is what was given from the front, and then what is left
 abbrev pub removed_of : Drained → Stored
 removed_of d = record { text = d.yielded ++ d.left; spare = d.spare }
 
--- the result of `drain` as `Makes` takes it: by the characters that are left
+-- the result of `drain` in the form that `Makes` has: by the characters that are left
 abbrev pub with_left : Result Drained Error → Result (List ℕ) Error
 with_left (Ok d) = Ok d.left
 with_left (Err e) = Err e
@@ -46,7 +46,7 @@ abbrev pub from_back : Option ℕ → Walked → Walked
 from_back None w = w
 from_back (Some c) w = record { fronts = w.fronts; left = w.left; backs = c ∷ w.backs }
 
--- t walked by one end after the other: each gives its character, if there is one, and leaves the others (`walks`)
+-- the walk that takes a character of t from each of these ends in turn, as long as there is one (`walks`)
 abbrev pub walk_of : List End → List ℕ → Walked
 walk_of [] t = record { fronts = []; left = t; backs = [] }
 walk_of (Front ∷ ends) t = from_front (first_of t) (walk_of ends (drop 1 t))

@@ -8,7 +8,7 @@ use Rattle.arraystring_base.specs.declared.error.Error.{Error}
 use Rattle.arraystring_base.specs.declared.error.Error.TheVariants as error
 use Rattle.arraystring_base.specs.declared.error.OutOfBounds.{OutOfBounds}
 use Rattle.arraystring_base.specs.declared.error.Utf8.{Utf8}
--- paths that callers name
+-- callers import these words from here
 pub use Rattle.arraystring_core.specs.Causes.{Cause, Past, Room, Inside, error_of, Test, past_text, past_text as past, reversed_range, reversed_range as crossed, at_end, inside_character, inside_character as inside, no_room, first_cause}
 pub use Rattle.arraystring_core.specs.Held.{NoneHolds, FirstHolds}
 pub use Rattle.arraystring_core.specs.Parts.{first_of, last_of, all_but_last, without_leading, without_trailing, part, part_in}
@@ -39,27 +39,27 @@ pub record Makes {A : Type 0} (edit : Edit A) (t : List ℕ) (result : Result A 
   pub ok : OnOk result (new ≡ edit.after)
   pub err : OnErr result (new ≡ t)
 
--- a result as `Makes` takes it, of a call that has `OutOfBounds` as its one error
+-- the result, in the form that `Makes` has, of a call whose one error is `OutOfBounds`
 abbrev pub from_out_of_bounds : {A : Type 0} → Result A OutOfBounds → Result A Error
 from_out_of_bounds (Ok value) = Ok value
 from_out_of_bounds (Err e) = Err error.OutOfBounds
 
--- a result as `Makes` takes it, of `write_str`, whose one error is that of std's `fmt`: it says that the text does not fit
+-- the result, in the form that `Makes` has, of `write_str`, whose one error is that of std's `fmt`: it says that the text does not fit
 abbrev pub from_fmt_error : {A : Type 0} → Result A FmtError → Result A Error
 from_fmt_error (Ok value) = Ok value
 from_fmt_error (Err e) = Err error.OutOfBounds
 
--- a result as `Makes` takes it, of a call that has `Utf8` as its one error
+-- the result, in the form that `Makes` has, of a call whose one error is `Utf8`
 abbrev pub from_utf8_error : {A : Type 0} → Result A Utf8 → Result A Error
 from_utf8_error (Ok value) = Ok value
 from_utf8_error (Err e) = Err error.Utf8
 
--- a result as `Makes` takes it, of a call that returns a string: by its text
+-- the result, in the form that `Makes` has, of a call that returns a string: by the text of the string
 abbrev pub with_text : Result Stored Error → Result (List ℕ) Error
 with_text (Ok s) = Ok s.text
 with_text (Err e) = Err e
 
--- the table
+-- the table of edits, of which each definition below is a row
 
 -- all of `given` is put at the end
 abbrev pub addition : List ℕ → List ℕ → ℕ → Edit (Unit {0})
@@ -97,8 +97,8 @@ truncation t i = record { tests = inside_character t i ∷ []; result = tt; afte
 abbrev pub trimming : (ℕ → Bool) → List ℕ → Edit (Unit {0})
 trimming passes t = record { tests = []; result = tt; after = without_leading passes (without_trailing passes t) }
 
--- the character that begins at i is taken out and returned; the last 0 stands where none begins, and is returned by no call, since
--- `at_end` holds there
+-- the character that begins at i is taken out and returned; the last 0 of `result` is for an index at which none begins, and no call
+-- returns it, because `at_end` holds there
 abbrev pub removal : List ℕ → ℕ → Edit ℕ
 removal t i = record {
   tests = at_end t i ∷ inside_character t i ∷ [];
@@ -130,7 +130,7 @@ draining t start end = record {
   after = front t start ++ back t end;
 }
 
--- the part between two boundaries is replaced by `given`; the size of the text after is to fit
+-- the part between two boundaries is replaced by `given`; the text that this leaves has to fit
 abbrev pub replacement : List ℕ → ℕ → ℕ → List ℕ → ℕ → Edit (Unit {0})
 replacement t start end given n = record {
   tests = reversed_range start end ∷ past_text t end ∷ no_room (size t - (end - start) + size given) n ∷ inside_character t start ∷ inside_character t end ∷ [];

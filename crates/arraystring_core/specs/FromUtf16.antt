@@ -21,7 +21,8 @@ GivesPrefix (End prefix) result = IsOkAnd result (λ string. string.text ≡ pre
 GivesPrefix (Fault prefix) result = IsErr result
 GivesPrefix (Full prefix) result = IsOkAnd result (λ string. string.text ≡ prefix)
 
--- the stop of a prefix, of which the item after it decides the kind: none, a lone surrogate, or a character, which did not fit
+-- where items stop after a prefix: the item that comes next decides the case, and is none, a lone surrogate, or a character that did
+-- not fit
 abbrev pub stop_by_next : Option Unit16 → List ℕ → Stop
 stop_by_next None prefix = End prefix
 stop_by_next (Some (Lone unit)) prefix = Fault prefix

@@ -3,7 +3,8 @@ use Rattle.std.specs.Prelude.{◌≡◌, ℕ, ◌+◌, ◌≤◌, List, ◌∷�
 use Rattle.arraystring_base.specs.Text.{bytes, cap, boundary}
 use Rattle.arraystring_core.specs.Stored.{Stored}
 
--- the n bytes of the array from `start` on are the text; the spare numbers are the start and the bytes around them
+-- the string whose text is the n bytes of the array from `start` on; its spare numbers are `start`, and then the bytes before the text
+-- and behind it
 abbrev pub string_in : List ℕ → ℕ → ℕ → Stored
 string_in array start n = record {
   text = chars (take n (drop start array));
@@ -22,10 +23,10 @@ pub record IsDrained (array_size : ℕ) (array : List ℕ) (start n i : ℕ) : T
   pub in_array : IsStored array_size array start n
   pub at : IsTrue (boundary (string_in array start n).text i)
 
--- the start offset of a string, read back from what a contract sees of it
+-- the start offset of a string, computed from what a contract sees of it
 abbrev pub start_of : Stored → ℕ
 start_of v = slice_index v.spare 0
 
--- its array, put together again from that
+-- the array of a string, put together from what a contract sees of it
 abbrev pub array_of : Stored → List ℕ
 array_of v = take (start_of v) (drop 1 v.spare) ++ (bytes v.text ++ drop (start_of v) (drop 1 v.spare))

@@ -1,7 +1,8 @@
 -- What a contract sees of an `ArrayString`.
 use Rattle.std.specs.Prelude.{ℕ, List, []}
 
--- the characters of the text, and the numbers that lie outside of it, which no public clause names
+-- the characters of the text; and numbers that stand for all else that a string has, so that its fields can be computed from this
+-- record. No public clause names the numbers
 pub record Stored : Type 0 where
   pub text : List ℕ
   pub spare : List ℕ

@@ -12,11 +12,11 @@ use std::alloc::{AllocError, Global};
 use std::error::Error;
 use std::fmt;
 
-/// A JSON value that is no string. No printed form is padded to a width in the format.
+/// A JSON value that is no string. A width in the format does not pad what is printed.
 #[derive(Clone, Copy, PartialEq, Eq)]
 pub struct NotText;
 
-/// The name alone.
+/// Prints `NotText`.
 impl fmt::Display for NotText {
     ghost output = { λ _. Some (codes "NotText") };
 
@@ -27,7 +27,7 @@ impl fmt::Display for NotText {
     }
 }
 
-/// The name alone.
+/// Prints `NotText`.
 impl fmt::Debug for NotText {
     ghost debug_output = { λ _. Some (codes "NotText") };
 
@@ -59,7 +59,7 @@ impl ValueError {
     }
 }
 
-/// The name alone, which is not padded to a width in the format.
+/// Prints the name of the variant. A width in the format does not pad it.
 impl fmt::Display for ValueError {
     ghost output = { λ error. Some (value_error_name error) };
 
@@ -72,7 +72,7 @@ impl fmt::Display for ValueError {
 
 impl Error for ValueError {}
 
-/// The variant of the same name.
+/// Converts to the variant of the same name.
 impl From<NotText> for ValueError {
     ghost from_gives = { λ _ error. error ≡ cases.NotText };
 
@@ -81,7 +81,7 @@ impl From<NotText> for ValueError {
     }
 }
 
-/// The variant of the same name.
+/// Converts to the variant of the same name.
 impl From<OutOfBounds> for ValueError {
     ghost from_gives = { λ _ error. error ≡ cases.OutOfBounds };
 

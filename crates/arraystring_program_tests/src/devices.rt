@@ -38,7 +38,8 @@ fn reads_on(rt: &impl Abort, alloc: Global, step: usize, reads: usize, faults: u
     agree(rt, "the output", output.as_slice(), OUTPUT.as_bytes());
 }
 
-/// Interrupted before each byte, the first too, and before the end, once and from there on.
+/// Whatever the size of a read, the read before each byte of the script, and the one at its end, is interrupted up to
+/// ten times in a row: only this read, or this one and each later one.
 #[test]
 fn short_and_interrupted_reads_are_joined(rt: HostRuntime) {
     for step in 1..=SCRIPT.len() {
@@ -66,7 +67,8 @@ fn writes<const N: usize>(
     agree(rt, "the output", output.taken.as_slice(), wanted);
 }
 
-/// What a writer took before it failed is all that it had room for, and nothing comes after it.
+/// A writer that fails, or takes nothing, before any byte of the output took all bytes before that one, and nothing
+/// comes after them.
 #[test]
 fn a_failed_write_is_reported(rt: HostRuntime) {
     let (script, whole) = (SCRIPT.as_bytes(), OUTPUT.as_bytes());
@@ -111,9 +113,10 @@ fn writes_on(rt: &impl Abort, alloc: Global, step: usize, room: usize, faults: u
     writes::<23>(rt, alloc, output, SCRIPT.as_bytes(), Ok(()), wanted);
 }
 
-/// Interrupted before each byte, once and from there on.
+/// Whatever the size of a write, the write before each byte of the output is interrupted up to ten times in a row: only
+/// this write, or this one and each later one.
 #[test]
-fn short_and_interrupted_writes_are_gone_on_with(rt: HostRuntime) {
+fn short_and_interrupted_writes_are_joined(rt: HostRuntime) {
     for step in 1..=OUTPUT.len() {
         for room in 0..OUTPUT.len() {
             for faults in 0..=10u8 {
@@ -124,10 +127,10 @@ fn short_and_interrupted_writes_are_gone_on_with(rt: HostRuntime) {
     }
 }
 
-/// Up to 255 interruptions in a row, before the first byte, the second, the last and the end. Once only there, and
-/// once also before each byte after it.
+/// Reads and writes are interrupted up to 255 times in a row: before the first byte, the second and the last, and a
+/// read at the end, too. At last each read, or each write, is interrupted as often.
 #[test]
-fn long_interruptions_are_gone_on_with(rt: HostRuntime) {
+fn long_interruptions_are_waited_out(rt: HostRuntime) {
     for faults in 0..=255u8 {
         for reads in [0, 1, SCRIPT.len().saturating_sub(1), SCRIPT.len()] {
             reads_on(&rt, rt.alloc(), 1, reads, faults, 0);
@@ -167,9 +170,9 @@ fn a_failed_flush_is_reported(rt: HostRuntime) {
     fails_to_flush(&rt, rt.alloc(), SCRIPT, OUTPUT);
 }
 
-/// More reads than two bytes count: a byte at each, with and without an interruption before it.
+/// A script is read byte by byte, by more reads than two bytes can count, with and without an interruption before each.
 #[test]
-fn any_number_of_reads_is_gone_on_with(rt: HostRuntime) {
+fn any_number_of_reads_is_joined(rt: HostRuntime) {
     let script = "len\n".repeat(rt.alloc(), 17500).expect(&rt, "memory");
     for again in 0..=1u8 {
         let mut input = FakeReader::new(script.as_bytes(), 1, 0, ErrorKind::Interrupted);
@@ -178,7 +181,7 @@ fn any_number_of_reads_is_gone_on_with(rt: HostRuntime) {
         let mut output = Vec::new(rt.alloc());
         let played = play::<23, FakeReader, Vec<u8>>(rt.alloc(), &mut input, &mut output);
         agree(&rt, "what is returned", played, Ok(()));
-        // 17,500 times `number 0`, and then `final `, a line each
+        // 17,500 lines `number 0`, and a line `final `
         agree(&rt, "the output", output.len(), 157507);
     }
 }
@@ -240,8 +243,8 @@ fn reports(rt: &impl Abort, alloc: Global, word: &str, script: &str, status: u8,
     }
 }
 
-/// A fault of `errors` changes nothing but the line itself, whichever it is: for another word, for a bad
-/// line, however large its number, and for a write that fails.
+/// If the writer of errors fails, only the line that it should have is cut, and the status is the same: after a word
+/// that names no capacity, after a bad line, however large its number, and after a write that fails.
 #[test]
 fn a_failed_line_is_let_go(rt: HostRuntime) {
     let usage = "usage: arraystring_run small or cache or max\n";

@@ -56,7 +56,7 @@ const KINDS: [ErrorKind; 42] = [
     ErrorKind::Uncategorized,
 ];
 
-/// Each kind has a place of its own, and no place is left.
+/// The list has each kind: the kinds are numbered from 0 on in its order, and the last kind has the last number.
 #[test]
 fn no_kind_is_left_out(rt: HostRuntime) {
     for (place, kind) in KINDS.into_iter().enumerate() {

@@ -14,11 +14,11 @@ use std::process::Abort;
 use test_support::memory::{ScarceMemory, TIMES};
 use test_support::scripts::{EXAMPLE, EXAMPLE_OUTPUT};
 
-/// The example with a bad line before it, which is met once there is memory for the input.
+/// The example behind a bad line. This line is met as soon as there is memory for the input.
 const BAD_FIRST: &str = "Len\npush_str ABCD🤔\ntry_insert 1 A\ntry_insert_str 2 B\ndrain_back 4 10\n\
     get 0 9\nremove 9\nas_str\n";
 
-/// The example with a bad line behind it, which is met once there is memory for the commands too.
+/// The example before a bad line. This line is met only when there is memory for the commands, too.
 const BAD_LAST: &str = "push_str ABCD🤔\ntry_insert 1 A\ntry_insert_str 2 B\ndrain_back 4 10\n\
     get 0 9\nremove 9\nas_str\nLen\n";
 
@@ -29,7 +29,7 @@ fn text_of<const N: usize>(text: &str) -> ArrayString<N> {
     string
 }
 
-/// Takes all memory. It is `None` where a test ends without it.
+/// Takes all memory. Returns `None` where it cannot all be taken, and the test then ends.
 pub(super) fn all_memory(rt: &(impl Abort + Env + Eprint + AllocGlobal)) -> Option<ScarceMemory> {
     ScarceMemory::take(rt).expect(rt, "all memory is taken")
 }
@@ -40,7 +40,7 @@ fn leave(rt: &(impl Abort + AllocGlobal), scarce: &mut ScarceMemory, left: usize
     taken_again.expect(rt, "the rest is taken again");
 }
 
-/// Leaves a little more memory than the time before.
+/// Leaves a little more memory than the call before.
 fn leave_more(rt: &(impl Abort + AllocGlobal), scarce: &mut ScarceMemory) {
     let taken_again = scarce.leave_more(rt.alloc());
     taken_again.expect(rt, "the rest is taken again");
@@ -88,8 +88,8 @@ fn serve_runs_out(
     runs_out
 }
 
-/// With ever more memory, from none up, `serve` reports each growth that is refused, one after the
-/// other: that of the input, those of the commands, that of the replies. The bad lines tell which.
+/// With ever more memory, from none up, `serve` reports each growth that is refused: first that of the input, then
+/// those of the commands, and then that of the replies. Whether a bad line is met tells which of them it was.
 #[test]
 fn want_of_memory_is_served(rt: HostRuntime) {
     let (mut output, mut errors) = (bytes(&rt, 1000), bytes(&rt, 1000));
@@ -241,8 +241,7 @@ fn each_refused_growth_is_reported(rt: HostRuntime) {
     drop(scarce);
 }
 
-/// A reader and a writer that look, at each call, whether there is memory of `size` bytes. No byte is
-/// read.
+/// A reader that gives no byte, and a writer. Each looks at each call whether there is memory of `size` bytes.
 #[derive(Drop)]
 struct MemoryProbe {
     alloc: Global,
@@ -316,7 +315,7 @@ fn no_memory_is_taken_before_the_first_read(rt: HostRuntime) {
     drop(scarce);
 }
 
-/// With ever more memory, from none up, a refused growth of `run` leaves the text.
+/// With ever more memory, from none up, `run` leaves the text as it was each time that its list of replies is refused.
 #[test]
 fn want_of_memory_leaves_the_text(rt: HostRuntime) {
     let commands = [Command::TryPush('c'); 100];
@@ -380,13 +379,14 @@ fn want_of_memory_leaves_both_texts(rt: HostRuntime) {
     agree(&rt, "the second text", second.as_str(), "abcc");
 }
 
-/// How many bytes the lists of replies have together, but for less than two replies.
+/// How many bytes the replies of a run take, or of a run on two strings together. There are as many commands as fit
+/// into this number.
 const LISTS: usize = 50000;
 
-/// How much more memory than that is enough, and how much less is not.
+/// With so much more memory than that a run has enough, and with so much less it has too little.
 const MARGIN: usize = 4000;
 
-/// As many commands as there are replies of `size` bytes in `LISTS` bytes.
+/// As many commands as replies of `size` bytes fit into `LISTS` bytes.
 fn commands_for<'a>(commands: &'a [Command<'a>], size: usize) -> &'a [Command<'a>] {
     let count = LISTS.checked_div(size).unwrap_or(0);
     commands.get(..count).unwrap_or(&[])
@@ -421,8 +421,8 @@ fn are_made<const N: usize, const M: usize>(
     }
 }
 
-/// For how many of the runs there is memory: at three capacities, and at two pairs of capacities. A reply
-/// has `SIZES` bytes at 23, 63 and 255.
+/// Makes a run at each of three capacities, and at two pairs of them, and returns for how many of the five there was
+/// memory.
 fn count_made(alloc: Global, commands: &[Command<'_>]) -> u32 {
     let [small, cache, max] = SIZES;
     let made = [

@@ -65,8 +65,8 @@ fn the_only_argument_is_the_word(rt: HostRuntime) {
     assert_eq!(rt; word.map(|word| word.len()), Some(255));
 }
 
-/// A first argument of each length that fits is the word if it is the only one. No second is let
-/// pass, of whatever length.
+/// A first argument of each length that fits is the word if it is the only one. With a second argument of any length,
+/// there is no word.
 #[test]
 fn arguments_of_each_length(rt: HostRuntime) {
     let letters = "a".repeat(rt.alloc(), 256).expect(&rt, "memory");
@@ -80,7 +80,7 @@ fn arguments_of_each_length(rt: HostRuntime) {
     }
 }
 
-/// Asserts that what a word gave is what it wants.
+/// Asserts that what the program did with a word is what is wanted.
 fn same(rt: &impl Abort, what: &str, word: &str, gave: &[u8], wanted: &[u8]) {
     assert_eq!(rt; gave, wanted, "the {what} at {word}");
 }
@@ -185,10 +185,10 @@ fn writes(
     same(rt, "errors", word, &errors, reported);
 }
 
-/// The writer takes little at a time, and is interrupted before each write. Of the longest output it
-/// takes more.
+/// The writer takes a few bytes at a time, or a few hundred of the longest output, and is interrupted before each
+/// write.
 #[test]
-fn short_and_interrupted_writes_are_gone_on_with(rt: HostRuntime) {
+fn short_and_interrupted_writes_are_joined(rt: HostRuntime) {
     for count in COUNTS {
         let (script, wanted) = script_of(&rt, count);
         let most = if count == MANY { 100usize } else { 1 };
@@ -206,7 +206,7 @@ fn short_and_interrupted_writes_are_gone_on_with(rt: HostRuntime) {
     }
 }
 
-/// All is written, but the flush of the writer fails.
+/// All bytes are written, but the flush of the writer fails.
 #[test]
 fn a_failed_flush_is_reported(rt: HostRuntime) {
     for count in COUNTS {
@@ -259,7 +259,7 @@ fn fails_after_each(rt: &(impl Abort + AllocGlobal), word: &str, kind: Option<Er
     assert_eq!(rt; served, 8 + 36 + 70 + 81 + 93 + 104 + 19 + 81);
 }
 
-/// What the writer took before it failed is all that it had room for.
+/// A writer that failed has taken all bytes that it had room for.
 #[test]
 fn a_failed_write_is_reported(rt: HostRuntime) {
     for word in WORDS {

@@ -1,4 +1,4 @@
-//! Asserts.
+//! What the tests of this crate assert by.
 use std::fmt::Debug;
 use std::process::Abort;
 

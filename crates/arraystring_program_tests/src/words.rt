@@ -62,7 +62,7 @@ fn words_with_more_are_refused(rt: HostRuntime) {
     agree(&rt, "places", count, 24 * (6 + 6 + 4));
 }
 
-/// Each part of a word but the whole.
+/// Each part of a word, except the whole word, names no capacity.
 #[test]
 fn parts_of_words_are_refused(rt: HostRuntime) {
     let mut count = 0u32;
@@ -80,8 +80,8 @@ fn parts_of_words_are_refused(rt: HostRuntime) {
     agree(&rt, "parts", count, 20 + 20 + 9);
 }
 
-/// A word with other letters: of `large` those in upper case whose bits are set, and at a place another
-/// letter.
+/// A word with other letters: a letter is in upper case if its bit in `large` is 1, and `other` has a place and the
+/// letter that stands there instead.
 fn respelled(
     rt: &(impl Abort + AllocGlobal),
     word: &str,
@@ -104,7 +104,7 @@ fn respelled(
     given
 }
 
-/// Any of a word's letters large, and each letter another of the 128 of ASCII.
+/// A word names no capacity if any of its letters are in upper case, or if one letter is another character of ASCII.
 #[test]
 fn words_in_other_letters_are_refused(rt: HostRuntime) {
     let (mut large_ones, mut others) = (0u32, 0u32);
@@ -126,12 +126,13 @@ fn words_in_other_letters_are_refused(rt: HostRuntime) {
             }
         }
     }
-    // Of the 256 choices that leave each letter as it is are 8, 8 and 32.
+    // Of the 256 values of `large` those leave the word as it is whose lowest bits are 0, one for each letter: 8 of a
+    // word of five letters, and 32 of one of three.
     agree(&rt, "large letters", large_ones, 248 + 248 + 224);
     agree(&rt, "other letters", others, 127 * (5 + 5 + 3));
 }
 
-/// No word at all.
+/// Without a word the program names no capacity, too.
 #[test]
 fn no_word_is_refused(rt: HostRuntime) {
     names_none(&rt, "no word", None);

@@ -2,7 +2,7 @@
 use Rattle.std.specs.Prelude.{ℕ, List, [], ◌∷◌, if◌then◌else◌, ◌==◌, codes}
 use Rattle.std.specs.List.{flat_map}
 
--- a character of the text: its escape if it is a line end, a tab or a backslash
+-- what a character of the text becomes: its escape if it is a line end, a tab or a backslash, and else itself
 unfoldable pub escaped : ℕ → List ℕ
 escaped c =
     if c == 0x0A then codes "\\n"

@@ -1,4 +1,4 @@
--- What a contract sees of a table of points: texts of names, and points.
+-- A table of points under names, as contracts see it: by the texts of the names.
 use Rattle.std.specs.Prelude.{ℕ, List, Option, map}
 use Rattle.std.specs.BTreeMap.{BTreeMap, get_by, keys}
 use Rattle.std.specs.Ordering.{nat_cmp}

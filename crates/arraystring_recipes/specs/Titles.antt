@@ -1,4 +1,4 @@
--- Texts that a loop makes which remembers something of the characters so far.
+-- Texts that are made by a loop which remembers something of the characters before.
 use Rattle.std.specs.Prelude.{ℕ, List, [], ◌∷◌, Bool, true, not, Option, Some, None, if◌then◌else◌, ◌==◌}
 use Rattle.std.specs.Char.{to_ascii_uppercase}
 use Rattle.arraystring.specs.Loops.{flat_map_with_memory, filter_with_memory}
@@ -15,11 +15,11 @@ title_piece at_start c = (if at_start then to_ascii_uppercase c else c) ∷ []
 abbrev pub title : List ℕ → List ℕ
 title t = flat_map_with_memory ends_word title_piece true t
 
--- the last character is remembered
+-- what is remembered behind a character: this character
 abbrev pub last_seen : Option ℕ → ℕ → Option ℕ
 last_seen last c = Some c
 
--- whether a character is another than the last one, or the first
+-- whether a character differs from the one before it, or is the first
 abbrev pub is_new : Option ℕ → ℕ → Bool
 is_new None c = true
 is_new (Some last) c = not (last == c)

@@ -2,7 +2,7 @@
 use Rattle.std.specs.Prelude.{ℕ, List, [], ◌∷◌, if◌then◌else◌, ◌==◌, map}
 use Rattle.std.specs.Char.{to_ascii_lowercase}
 
--- the characters that two texts begin with, both
+-- the longest prefix that two texts have in common
 abbrev pub common : List ℕ → List ℕ → List ℕ
 common [] u = []
 common (c ∷ t) [] = []

@@ -15,7 +15,7 @@ pub fn is_text<const N: usize>(string: &ArrayString<N>, text: &str) -> bool
     string.as_str() == text
 }
 
-/// Whether a string has the text of a literal.
+/// Whether a string has the text `GET`.
 #[tactic(auto, using(arraystring::proofs::Rules::borrowed, arraystring::proofs::Rules::literals))]
 pub fn is_get<const N: usize>(string: &ArrayString<N>) -> bool
     ensures { IsTrue result ↔ (string.now.text ≡ codes "GET") }

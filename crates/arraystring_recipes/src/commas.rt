@@ -24,7 +24,7 @@ pub fn with_commas<const N: usize>(text: &str) -> Result<ArrayString<N>, Error>
     Ok(line)
 }
 
-/// Appends the character at an index of the text, after its comma if it has one.
+/// Appends the character at an index of the text, behind a comma if it is a fourth one.
 #[tactic(auto, using(arraystring::proofs::Rules::texts))]
 fn push_piece<const N: usize>(
     line: &mut ArrayString<N>,

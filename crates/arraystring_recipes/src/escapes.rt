@@ -8,8 +8,8 @@ ghost use Rattle.arraystring_recipes.specs.Escapes.{escaped, escapes};
 use arraystring::laws::text_fits;
 use arraystring::{ArrayString, Error};
 
-/// Appends a character: its escape if it is a line end, a tab or a backslash. The definition of the piece has
-/// three tests, and the attribute opens it.
+/// Appends a character, or its escape if it is a line end, a tab or a backslash. The attribute unfolds the definition
+/// of the escapes, because the check does not do so by itself.
 #[tactic(auto, using(arraystring::proofs::Rules::literals), unfolding(crate::specs::Escapes::escaped))]
 fn push_escaped<const N: usize>(line: &mut ArrayString<N>, ch: char) -> Result<(), Error>
     ensures { Makes (addition line.old.text (escaped ch) (cap N))

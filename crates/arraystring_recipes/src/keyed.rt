@@ -45,7 +45,7 @@ pub fn read_ordered(numbers: &BTreeMap<Name, u32>, name: &Name) -> Option<u32>
 ///
 /// # Precondition
 ///
-/// There must be one number more for the count.
+/// The count under `name` must be below 2^32 - 1.
 #[tactic(auto, using(arraystring::proofs::Rules::keyed))]
 pub fn count_ordered(counts: &mut BTreeMap<Name, u32>, name: Name) -> Result<(), AllocError>
     requires { unwrap_or (ordered_under counts.old name.text) 0 + 1 < 2 ^ 32 }
@@ -108,7 +108,7 @@ pub fn read_hashed(numbers: &HashMap<Name, u32>, name: &Name) -> Option<u32>
 ///
 /// # Precondition
 ///
-/// There must be one number more for the count.
+/// The count under `name` must be below 2^32 - 1.
 #[tactic(auto, using(arraystring::proofs::Rules::keyed))]
 pub fn count_hashed(counts: &mut HashMap<Name, u32>, name: Name) -> Result<(), AllocError>
     requires { unwrap_or (hashed_under counts.old name.text) 0 + 1 < 2 ^ 32 }

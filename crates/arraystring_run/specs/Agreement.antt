@@ -4,12 +4,12 @@ use Rattle.arraystring_run.specs.Runs.{ReplyView}
 use Rattle.arraystring_run.specs.declared.commands.Command.{Command}
 use Rattle.arraystring_run.specs.declared.commands.Command.TheVariants as command
 
--- the commands before the first tight one
+-- the commands before this position, and all of them if there is none; it is that of the first tight command (`is_tight` of Runs)
 abbrev pub commands_before : List Command → Option ℕ → List Command
 commands_before cs None = cs
 commands_before cs (Some k) = take k cs
 
--- two replies to a command are the same; those to `Capacity` are set aside
+-- two replies to a command are the same, but those to `Capacity` may be any
 abbrev pub Agrees : Command → ReplyView → ReplyView → Type 0
 Agrees command.Capacity r s = ⊤
 Agrees _ r s = r ≡ s

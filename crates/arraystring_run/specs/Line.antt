@@ -60,7 +60,7 @@ abbrev pub AreDigits : List ℕ → Type 0
 AreDigits [] = ⊤
 AreDigits (b ∷ bs) = (0x30 ≤ b) × (b ≤ 0x39) × AreDigits bs
 
--- the number that the digits write after those of n
+-- the number that is written as the digits of n and then these
 abbrev pub value_after : ℕ → List ℕ → ℕ
 value_after n [] = n
 value_after n (b ∷ bs) = value_after (n * 10 + (b - 0x30)) bs
@@ -83,7 +83,7 @@ IsSpelled bs (Text given) = IsWellFormed given × (bs ≡ given)
 abbrev pub space : ℕ
 space = 0x20
 
--- the bytes spell each argument after one space, and nothing else
+-- the bytes are the arguments, each spelled behind one space, and nothing else
 abbrev pub AreSpelled : List ℕ → List Argument → Type 0
 AreSpelled bs [] = bs ≡ []
 AreSpelled bs (a ∷ rest) =

@@ -13,16 +13,19 @@ abbrev pub IfBadLine : PlayFault → (ℕ → Type 0) → Type 0
 IfBadLine (BadLine k) P = P k
 IfBadLine _ P = ⊤
 
--- the input is the lines of some commands, and the writer's bytes grew by the printed lines of their run
+-- the input is the lines of some commands, and the printed lines of their run were appended; both options are the writer's bytes,
+-- before and after, if its contract tells them
 abbrev pub IsPlayed : List ℕ → ℕ → Option (List ℕ) → Option (List ℕ) → Type 0
 IsPlayed input n old new = (cs : List Command) × AreLinesOf (lines input) cs × Appends old new (run_printed cs n)
 
--- the input is the lines of some commands, and a prefix of the printed lines of their run was appended
+-- the same, but only a prefix of the printed lines was appended, which may be none or all of them; both options are the writer's bytes,
+-- before and after
 abbrev pub IsPartPlayed : List ℕ → ℕ → Option (List ℕ) → Option (List ℕ) → Type 0
 IsPartPlayed input n old new = (cs : List Command) × AreLinesOf (lines input) cs × AppendsPrefix old new (run_printed cs n)
 
--- what the result `played` of `play` says of a script and of the output, at the capacity n: that the script was played; which line is
--- bad; that a fault other than `Write` wrote nothing; and that `Write` wrote a prefix
+-- what the result `played` of `play` at the capacity n says of the script `given` and of the writer's bytes before and after, each if
+-- the contract of its stream tells it: that the script was played; which line is bad; that after a fault other than `Write` the writer
+-- is as before (`SameOutput`); and that after `Write` a prefix was appended
 pub record IsOutcome (n : ℕ) (given old new : Option (List ℕ)) (SameOutput : Type 0) (played : Result (Unit {0}) PlayFault)
     : Type 0 where
   pub whole : OnOk played (IfSome given (λ input. IsPlayed input n old new))

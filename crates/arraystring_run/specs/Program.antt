@@ -24,7 +24,7 @@ bytes_of Small = 23
 bytes_of Cache = 63
 bytes_of Max = 255
 
--- the exit status of a script that was played, or not (CALLING.md, The program)
+-- the exit status after a script was played, or was not (CALLING.md, The program)
 abbrev pub status_of : {A : Type 0} → Result A PlayFault → ℕ
 status_of (Ok _) = 0
 status_of (Err (BadLine k)) = 2
@@ -43,7 +43,7 @@ fault_line Memory = with_newline (codes "out of memory")
 fault_line Read = with_newline (codes "read failed")
 fault_line Write = with_newline (codes "write failed")
 
--- what is said of a script that was played, or not
+-- what a program prints on its errors after a script was played, or was not
 abbrev pub report_of : {A : Type 0} → Result A PlayFault → List ℕ
 report_of (Ok _) = []
 report_of (Err e) = fault_line e
@@ -54,12 +54,12 @@ pub record IsOutcomeAt (named : Option ℕ) (given old new : Option (List ℕ)) 
   pub none_named : named ≡ None → (played ≡ None) × SameInput × SameOutput
   pub outcome : IfSome named (λ n. IsSomeAnd played (IsOutcome n given old new SameOutput))
 
--- the exit status of a program
+-- the exit status of a program, which plays no script if its word names no capacity
 abbrev pub status_at : Option (Result (Unit {0}) PlayFault) → ℕ
 status_at None = 2
 status_at (Some played) = status_of played
 
--- what a program says on its errors
+-- what a program prints on its errors, which plays no script if its word names no capacity
 abbrev pub report_at : Option (Result (Unit {0}) PlayFault) → List ℕ
 report_at None = usage_line
 report_at (Some played) = report_of played

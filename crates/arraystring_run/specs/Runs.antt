@@ -65,7 +65,7 @@ text_or_none (Some t) = Text t
 abbrev pub without : ℕ → List ℕ → List ℕ
 without c t = filter (λ d. not (d == c)) t
 
--- the end of a range through the byte `last`
+-- the end of a range that includes the byte at `last`: the next index, but at most 255
 abbrev pub end_through : ℕ → ℕ
 end_through last = min (last + 1) 255
 
@@ -112,7 +112,7 @@ is_made row = is_none (first_cause row.tests)
 abbrev pub adds_less : List ℕ → List ℕ → ℕ → Bool
 adds_less t given n = nat_lt (size (cut given (n - size t))) (size given)
 
--- whether a command is refused for `Room`, or adds less than all of what it is given
+-- whether a command is tight on t at the capacity n: it is refused for `Room`, or adds less than all of what it is given
 abbrev pub is_tight : Command → List ℕ → ℕ → Bool
 is_tight (command.TryPush c) t n = lacks_room (addition t (c ∷ []) n)
 is_tight (command.TryPushStr given) t n = lacks_room (addition t (chars given.now) n)
@@ -134,22 +134,23 @@ after [] t n = record { replies = []; text = t }
 after (c ∷ cs) t n =
     let rest = after cs (effect c t n).text n in record { replies = (effect c t n).reply ∷ rest.replies; text = rest.text }
 
--- the position of the first tight command, if the first command is at k
+-- the position of the first tight command of a run on the text t at the capacity n, if the first command has the position k
 abbrev pub first_tight_from : ℕ → List Command → List ℕ → ℕ → Option ℕ
 first_tight_from k [] t n = None
 first_tight_from k (c ∷ cs) t n = if is_tight c t n then Some k else first_tight_from (k + 1) cs (effect c t n).text n
 
--- the first position, or else the next
+-- the first of two positions, or the next if there is no first
 abbrev pub earlier_of : Option ℕ → Option ℕ → Option ℕ
 earlier_of None next = next
 earlier_of (Some k) next = Some k
 
--- no command is tight on the text that those before it leave
+-- no command of a run on the text t at the capacity n is tight on the text that the commands before it leave
 abbrev pub NoneTight : List Command → List ℕ → ℕ → Type 0
 NoneTight cs t n = (before : List Command) (c : Command) (later : List Command) → cs ≡ before ++ c ∷ later
     → is_tight c (after before t n).text n ≡ false
 
--- the command at position k is tight on the text that those before it leave, and none of these is tight
+-- of a run on the text t at the capacity n the command at position k, counted from 0, is tight on the text that the commands before it
+-- leave, and none of these is tight
 abbrev pub IsFirstTight : List Command → List ℕ → ℕ → ℕ → Type 0
 IsFirstTight cs t n k = (before : List Command) × (c : Command) × (later : List Command) × (cs ≡ before ++ c ∷ later)
     × (k ≡ length before) × (is_tight c (after before t n).text n ≡ true) × NoneTight before t n

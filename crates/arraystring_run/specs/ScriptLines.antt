@@ -26,7 +26,7 @@ abbrev pub AreOneLine : List (List ℕ) → Type 0
 AreOneLine [] = ⊤
 AreOneLine (line ∷ rest) = IsOneLine line × AreOneLine rest
 
--- b is the first byte of the first line
+-- the lines with the byte b put in front of the first; if there is no line, b alone is one
 abbrev pub first_byte : ℕ → List (List ℕ) → List (List ℕ)
 first_byte b [] = (b ∷ []) ∷ []
 first_byte b (line ∷ rest) = (b ∷ line) ∷ rest

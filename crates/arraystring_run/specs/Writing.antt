@@ -9,7 +9,8 @@ pub record AppendsPrefix (old new : Option (List ℕ)) (bs : List ℕ) : Type 0 
   pub whole : bs ≡ done ++ later
   pub appended : Appends old new done
 
--- bs was put behind the bytes that waited: of all these the first ones were appended to the output, and the others wait now
+-- bs was put behind the bytes that waited: of all these the first were appended to the output, whose bytes are `old` before and `new`
+-- after, and the others wait now (`waits`)
 pub record IsPassed (old new : Option (List ℕ)) (waited waits bs : List ℕ) : Type 0 where
   pub done : List ℕ
   pub whole : waited ++ bs ≡ done ++ waits

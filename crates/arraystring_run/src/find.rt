@@ -1,4 +1,4 @@
-//! Where a byte first is.
+//! Finds where a byte first stands.
 ghost use Rattle.std.specs.Prelude.{◌≡◌, ◌≢◌, ◌+◌, ◌<◌, ◌≤◌, ℕ, length, slice_index};
 
 use std::simd::Simd;

@@ -38,7 +38,7 @@ pub(crate) fn write_all_replies<const N: usize, O: Write>(
     output.flush()
 }
 
-/// Lets the line of a reply wait.
+/// Puts the line of a reply behind the bytes that wait to be written.
 fn put_reply<const N: usize, O: Write>(
     waiting: &mut Waiting,
     output: &mut O,
@@ -61,7 +61,7 @@ fn put_reply<const N: usize, O: Write>(
     }
 }
 
-/// Lets a line of a word and a short value wait.
+/// Puts a line of a word and a short value behind the bytes that wait to be written.
 fn put_line_of<D: Display + Drop, O: Write>(
     waiting: &mut Waiting,
     output: &mut O,
@@ -107,7 +107,7 @@ fn line_of<D: Display + Drop>(word: &str, value: D) -> Result<ArrayString<30>, f
     Ok(line)
 }
 
-/// Lets a line of a word and a text wait.
+/// Puts a line of a word and a text behind the bytes that wait to be written.
 #[inline(always)]
 fn put_text_line<O: Write>(
     waiting: &mut Waiting,

@@ -173,7 +173,8 @@ pub fn run_both<const N: usize, const M: usize>(
     ))
 }
 
-/// The first tight position, given whether the one at `position` is tight.
+/// The first tight position, if `first` is that of the commands before `position`, and `is_tight` says whether the one
+/// there is tight.
 fn earlier_position(first: Option<usize>, is_tight: bool, position: usize) -> Option<usize>
     ensures { result ≡ earlier_of first (if is_tight then Some position else None) }
 {

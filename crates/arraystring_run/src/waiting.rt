@@ -14,9 +14,9 @@ const BUFFER: usize = 8192;
 /// Bytes that wait to be written. In contracts they are the list of these bytes.
 #[derive(Drop)]
 pub(crate) struct Waiting {
-    /// The first `count` bytes wait.
+    /// The array, of which the first `count` bytes wait.
     bytes: [u8; BUFFER],
-    /// At most `BUFFER`.
+    /// How many bytes wait, which is at most `BUFFER`.
     count: usize,
 }
 
@@ -31,7 +31,7 @@ impl Model for Waiting {
 }
 
 impl Waiting {
-    /// Returns room for bytes, of which none wait.
+    /// Returns an array in which no byte waits.
     #[inline(always)]
     pub(crate) fn new() -> Self
         ensures { result ≡ [] }
@@ -42,7 +42,8 @@ impl Waiting {
         }
     }
 
-    /// Lets a text wait. Only if there is not enough room, what waits is written first, in a whole block.
+    /// Puts a text behind the bytes that wait. Only if there is not enough room for all of it, the array is filled and
+    /// written as one block, so that a script takes few writes.
     #[inline(always)]
     pub(crate) fn put<O: Write>(&mut self, output: &mut O, text: &str) -> io::Result<()>
         ensures whole { OnOk result

@@ -1,5 +1,5 @@
-//! Writing to a device: what a write leaves is written again. If a write fails, what was written is a
-//! prefix of what was to be.
+//! Writing to a device: what a write did not take is given to the next. If a write fails, what was written is a prefix
+//! of what was to be.
 ghost use Rattle.std.specs.Prelude.{◌≡◌, ◌++◌, ℕ, List, IfOk, OnOk, OnErr};
 ghost use Rattle.std.specs.Io.{WritesAtMost};
 ghost use Rattle.std.specs.Io.KnownBytes.{Appends, Keeps, WriteAppends};

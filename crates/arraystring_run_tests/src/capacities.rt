@@ -23,7 +23,7 @@ fn filling_script(rt: &(impl Abort + AllocGlobal)) -> String {
     ).expect(rt, "memory for a script")
 }
 
-/// What is printed of that script if `fit` bytes fit.
+/// What is printed of that script on a string whose capacity is `fit` bytes.
 fn filling_printed(rt: &(impl Abort + AllocGlobal), fit: u8) -> String {
     let kept = filled(rt, fit);
     let (popped, pushed) = if fit == 0 {
@@ -36,7 +36,7 @@ fn filling_printed(rt: &(impl Abort + AllocGlobal), fit: u8) -> String {
     ).expect(rt, "memory for an output")
 }
 
-/// Letters, the last of them another, that fill `fit` bytes.
+/// `fit` bytes of letters, of which the last is another one.
 fn filled(rt: &(impl Abort + AllocGlobal), fit: u8) -> String {
     let mut text = letters(rt, usize::from(fit));
     if text.pop().is_some() {
@@ -96,7 +96,7 @@ const COMMANDS: [Command<'static>; 7] = [
     Command::Capacity,
 ];
 
-/// Plays the script at a capacity of which `fit` bytes fit.
+/// Plays the script on a string whose capacity is `fit` bytes.
 fn plays_at<const N: usize>(rt: &(impl Abort + AllocGlobal), fit: u8) {
     let script = filling_script(rt);
     let mut input = script.as_bytes();
@@ -162,7 +162,7 @@ fn full_texts_at_each_word(rt: HostRuntime) {
     }
 }
 
-/// Larger arrays, round the powers of 2 and between them.
+/// Larger arrays, whose sizes are near the powers of 2 and between them.
 #[test]
 fn scripts_at_larger_capacities(rt: HostRuntime) {
     plays_at::<511>(&rt, 255);

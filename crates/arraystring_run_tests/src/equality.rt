@@ -1,5 +1,5 @@
-//! Each reply and each fault of a script is equal to itself alone: each case, and each field that alone
-//! differs. Characters and numbers that differ are also some of one low byte, or of two or four.
+//! Each reply and each fault of a script is equal to itself alone: each case, and each field that alone differs. Some
+//! of the characters and numbers that differ have the same lowest byte, or the same lowest two or four.
 use super::runs::text_of;
 use super::table::agree;
 use arraystring::error::Error;
@@ -31,7 +31,7 @@ fn each_reply_is_equal_to_itself_alone(rt: HostRuntime) {
         Reply::Refused(Error::OutOfBounds),
     ];
     agree(&rt, "replies", first_mistaken(&replies), None);
-    // what lies behind the text makes no other reply
+    // bytes of the array behind the text make no other reply
     let mut popped = text_of("abc");
     let _ = popped.pop();
     let (reply, other) = (Reply::<5>::Text(popped), Reply::Text(text_of("ab")));

@@ -21,7 +21,7 @@ fn second_line(rt: &(impl Abort + AllocGlobal), line: &str) -> String {
     format!(in rt.alloc(); "len\n{line}\nlen\n").expect(rt, "memory for a script")
 }
 
-/// Each is the second line of a script.
+/// Good and bad lines, each as the second line of a script.
 #[test]
 fn bad_lines_are_reported(rt: HostRuntime) {
     let bad = "| | len|len |pop |pop x|len\r|capacity 1|as_str |clear |trim x|Pop|Push_str x|push|\

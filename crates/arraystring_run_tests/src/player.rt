@@ -68,7 +68,8 @@ fn characters_are_printed_in_utf8(rt: HostRuntime) {
     plays(&rt, rt.alloc(), script.as_bytes(), Ok(()), wanted);
 }
 
-/// More than a thousand lines, 64 KiB, a hundred reads and a thousand bytes of capacity.
+/// A script of more than a thousand lines and 64 KiB, which takes more than a hundred reads, on a string whose `N` is
+/// above a thousand.
 #[test]
 fn long_scripts_are_played(rt: HostRuntime) {
     let mut script = Vec::new(rt.alloc());
@@ -112,7 +113,7 @@ fn long_lines_are_played(rt: HostRuntime) {
     }
 }
 
-/// Scripts of 3 MiB and a little more of lines of a size each, and then a bad one behind.
+/// Scripts of a little more than 3 MiB, whose lines all have one size, alone and with a bad line behind.
 #[test]
 fn scripts_of_three_mebibytes_are_played(rt: HostRuntime) {
     let letters = "a".repeat(rt.alloc(), 100000).expect(&rt, "memory");

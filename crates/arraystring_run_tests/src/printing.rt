@@ -5,11 +5,11 @@ use arraystring::error::Error;
 use arraystring_run::{PlayFault, Reply};
 use std::fmt::Debug;
 use std::process::Abort;
-use test_support::printing::{Alone, first_debug_difference};
+use test_support::printing::{Unquoted, first_debug_difference};
 
 /// Types whose derived `Debug` prints what the `Debug` of replies and faults has to print.
 mod derived {
-    use super::Alone;
+    use super::Unquoted;
 
     #[derive(Debug, Drop)]
     pub(super) struct ArrayString<'a> {
@@ -25,7 +25,7 @@ mod derived {
         Text(ArrayString<'a>),
         NoText,
         Number(u8),
-        Refused(Alone<'a>),
+        Refused(Unquoted<'a>),
     }
 
     #[derive(Debug, Drop)]
@@ -69,7 +69,7 @@ fn replies_are_printed_as_derived(rt: HostRuntime) {
         (Error::Utf16, "Error::Utf16"),
         (Error::OutOfBounds, "Error::OutOfBounds"),
     ] {
-        let wanted = derived::Reply::Refused(Alone(name));
+        let wanted = derived::Reply::Refused(Unquoted(name));
         debug_is_that_of(&rt, &Reply::<5>::Refused(refusal), &wanted);
     }
 }

@@ -183,7 +183,7 @@ fn commands_of<'a>(rt: &(impl Abort + AllocGlobal), lines: &'a str) -> Vec<Comma
 
 #[test]
 fn each_command_by_itself(rt: HostRuntime) {
-    // An index is judged.
+    // commands whose index is past the text, inside a character, or good
     check_table::<23>(
         &rt,
         "
@@ -210,7 +210,7 @@ fn each_command_by_itself(rt: HostRuntime) {
               | split_off 6          | refused Utf8        | ABCD🤔   |
         ",
     );
-    // A range is judged.
+    // commands whose range is reversed, past the text, inside a character, or good
     check_table::<23>(
         &rt,
         "
@@ -237,7 +237,7 @@ fn each_command_by_itself(rt: HostRuntime) {
               | get 0 9                 | no text             | ABCD🤔    |
         ",
     );
-    // A whole text is changed.
+    // commands that change the whole text
     check_table::<9>(
         &rt,
         "
@@ -295,7 +295,7 @@ fn each_on_what_the_one_before_left(rt: HostRuntime) {
          | try_push_str ; push_str ; push_str x; try_push x; pop; len; capacity | done, done, done, refused OutOfBounds, no char, number 0, number 0 |  | 2
         ",
     );
-    // No command leaves the text.
+    // runs of no command
     check_table::<4>(
         &rt,
         "

@@ -180,7 +180,7 @@ fn cloned(string: &CacheString) -> Result<CacheString, AllocError>
     string.clone()
 }
 
-/// What a caller can say of `==` and of the order.
+/// A caller can prove what `==` and `cmp` return.
 fn is_same_text(left: &CacheString, right: &CacheString) -> bool
     ensures { result ≡ pointwise nat_eq left.now.0.text right.now.0.text }
 {

@@ -1,5 +1,5 @@
-//! Each value of a public type whose `==` is derived is equal to itself alone: each case, and each field
-//! that alone differs. Characters and numbers that differ are also some of one low byte, or of two.
+//! Each value of a public type whose `==` is derived is equal to itself alone: each case, and each field that alone
+//! differs. Some of the characters and numbers that differ have the same lowest byte, or the same lowest two.
 use super::asserts::agree;
 use arraystring::Error;
 use arraystring::error::{OutOfBounds, Utf8, Utf16};

@@ -6,7 +6,7 @@ use arraystring::integration::{NotText, ValueError};
 use std::fmt::{Debug, Display};
 use std::process::Abort;
 use std::str;
-use test_support::printing::Alone;
+use test_support::printing::Unquoted;
 
 /// Asserts that a refusal is printed as its name, and for debugging as `debug`, in each form at each
 /// width.
@@ -17,7 +17,7 @@ fn prints<T: Display + Debug>(
     debug: &str,
 ) {
     display_is(rt, refusal, name);
-    debug_is_that_of(rt, refusal, &Alone(debug));
+    debug_is_that_of(rt, refusal, &Unquoted(debug));
 }
 
 /// Asserts that a refusal becomes this case of `Error`, and how both are printed and hashed.

@@ -12,8 +12,9 @@ use std::process::Abort;
 /// The characters that are looked for, of one to four bytes.
 const FOUND: &str = "=é€🤔";
 
-/// Characters that differ from those in their last byte alone, as `<` is 3C and `=` is 3D, each twice.
-const OTHERS: &str = "<è₭🤕<è₭🤕";
+/// The neighbours of these characters, each twice: they differ from them in the last byte alone, as `<` is 3C and `=`
+/// is 3D.
+const NEIGHBOURS: &str = "<è₭🤕<è₭🤕";
 
 /// Asserts that `c` is found behind `before`, in which it is not.
 fn check_found(rt: &impl Abort, c: char, before: &str, after: &str) {
@@ -83,17 +84,17 @@ fn check_not_found(rt: &impl Abort, c: char, text: &str) {
     agree(rt, text, last_parts, None);
 }
 
-/// Looks for `c` behind each text before it, and with each text after it: none, one in which it is
-/// again, and so on. Looks for the last `c` with these texts swapped. Returns how often.
+/// Looks for `c` between each two texts: before it a prefix of the neighbours, and behind it such a prefix or an end of
+/// `FOUND`, which may have `c` again. Looks for the last `c` with both texts swapped. Returns the number of such pairs.
 fn check_places(rt: &impl Abort, c: char) -> u32 {
     let mut count = 0u32;
-    for at in 0..=OTHERS.len() {
-        let Some(before) = OTHERS.get(..at) else {
+    for at in 0..=NEIGHBOURS.len() {
+        let Some(before) = NEIGHBOURS.get(..at) else {
             continue;
         };
         check_not_found(rt, c, before);
-        for end in 0..=OTHERS.len() {
-            let Some(after) = OTHERS.get(..end) else {
+        for end in 0..=NEIGHBOURS.len() {
+            let Some(after) = NEIGHBOURS.get(..end) else {
                 continue;
             };
             check_found(rt, c, before, after);
@@ -116,7 +117,7 @@ fn check_places(rt: &impl Abort, c: char) -> u32 {
 fn each_character_at_each_place(rt: HostRuntime) {
     let mut count = 0u32;
     for c in FOUND.chars() {
-        // 9 texts before it, and 9 and 5 after it.
+        // Before `c` stand 9 texts, and behind it for each of them 9 prefixes of the neighbours and 5 ends of `FOUND`.
         agree(&rt, "places", check_places(&rt, c), 9 * (9 + 5));
         count = count.wrapping_add(1);
     }

@@ -90,7 +90,8 @@ fn texts_of_each_size_are_read_back(rt: HostRuntime) {
             }
         }
     }
-    // Of the letters all, of the others those that begin and end at one of the four boundaries in ten.
+    // Each text of letters counts. Of the others four of the ten starts are a boundary, and from each of these 121 of the
+    // 301 sizes end at one.
     agree(&rt, "texts", count, 10 * 301 + 4 * 121);
 }
 
@@ -173,7 +174,8 @@ fn texts_of_each_size_are_whole_or_refused(rt: HostRuntime) {
             }
         }
     }
-    // Of the letters all, of the others those that begin and end at one of the four boundaries in ten.
+    // Each text of letters counts. Of the others four of the ten starts are a boundary, and from each of these 121 of the
+    // 301 sizes end at one.
     agree(&rt, "texts", count, 10 * 301 + 4 * 121);
 }
 

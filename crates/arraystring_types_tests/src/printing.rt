@@ -30,7 +30,8 @@ pub(crate) fn display_is<T: Display>(rt: &(impl Abort + AllocGlobal), value: &T,
     }
 }
 
-/// Asserts that a value is printed as a text, at the widths within 2 of its size, and at each hundredth.
+/// Asserts that a value is printed as a text, at the widths within 2 of its size, at each hundredth, and at three
+/// more. These are others for each size, so that texts of all sizes together are printed at each width below 300.
 fn display_is_near<T: Display>(rt: &(impl Abort + AllocGlobal), value: &T, wanted: &str) {
     for more in 0..5usize {
         let width = wanted.len().saturating_add(more).saturating_sub(2);
@@ -38,6 +39,10 @@ fn display_is_near<T: Display>(rt: &(impl Abort + AllocGlobal), value: &T, wante
     }
     for hundreds in 0..3usize {
         display_at(rt, value, wanted, hundreds * 100);
+    }
+    for more in 0..3usize {
+        let width = wanted.len().wrapping_mul(3).wrapping_add(more) % 300;
+        display_at(rt, value, wanted, width);
     }
 }
 
@@ -137,8 +142,8 @@ fn shows_cached(rt: &(impl Abort + AllocGlobal), text: &str, at_each_width: bool
     }
 }
 
-/// Texts of each size are printed: the longest of each capacity, and those whose size is the least or the
-/// greatest of so many digits, at each width.
+/// Texts of each size are printed at some widths. The longest of each capacity here, and those whose size is
+/// the least or the greatest number of as many digits, are printed at each width.
 #[test]
 fn texts_of_many_sizes_are_printed(rt: HostRuntime) {
     for size in 0..=255usize {

@@ -77,13 +77,13 @@ fn each_type_has_its_traits(rt: HostRuntime) {
     is_iterator_of_both_ends::<Drain<5>>();
     is_iterator::<Units<'static>>();
 
-    // What is at hand is the default: nothing is refused, and nothing is left.
+    // the default of each type: an error of the only case, and nothing that is left
     agree(&rt, "a drain", Drain::<5>::default().next(), None);
     let string = ArrayString::<5>::default();
     agree(&rt, "a string", string.as_str(), "");
 }
 
-/// It takes two values of one type alone.
+/// Compiles only if both values have one type.
 #[test]
 fn each_path_names_the_same(rt: HostRuntime) {
     let small = ArrayString::<23>::new();

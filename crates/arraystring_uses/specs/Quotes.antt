@@ -2,7 +2,7 @@
 use Rattle.std.specs.Prelude.{ℕ, List, [], ◌∷◌, ◌++◌, if◌then◌else◌, ◌==◌}
 use Rattle.std.specs.List.{flat_map}
 
--- a character of the field, a quote twice
+-- what a character of the field becomes: two quotes if it is a quote, and else itself
 abbrev pub doubled : ℕ → List ℕ
 doubled c = if c == 0x22 then 0x22 ∷ 0x22 ∷ [] else c ∷ []
 

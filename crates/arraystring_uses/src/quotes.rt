@@ -27,7 +27,7 @@ pub fn quoted<const N: usize>(field: &str) -> Result<ArrayString<N>, Error>
     Ok(line)
 }
 
-/// Appends a character, a quote twice.
+/// Appends a character, or two quotes if it is a quote.
 #[tactic(auto, using(arraystring::proofs::Rules::texts))]
 fn push_doubled<const N: usize>(line: &mut ArrayString<N>, ch: char) -> Result<(), Error>
     ensures { Makes (addition line.old.text (doubled ch) (cap N))

@@ -22,8 +22,9 @@ pub fn push_and_pop(alloc: Global, line: &mut ArrayString<23>, text: &str) -> Re
     Ok(())
 }
 
-/// Executes the commands on two empty strings. Returns whether none of them is tight on the small one. If
-/// none is, both have the same text at the end.
+/// Executes the commands on two empty strings. Returns whether none of them is tight on the small one: a command is
+/// tight if it is refused because its result does not fit, or if it adds less than all of its text. If none is, both
+/// strings have the same text at the end.
 ///
 /// # Errors
 ///

@@ -250,7 +250,7 @@ fn put<const N: usize, E: Drop>(text: &mut Text<N>, made: Result<Text<N>, E>) ->
     1
 }
 
-/// What a call is made on.
+/// The strings on which a call is made, and what it is given.
 #[derive(Drop)]
 struct Case<'a> {
     held: &'a str,
@@ -262,7 +262,8 @@ struct Case<'a> {
     end: u8,
 }
 
-/// What a call answers that makes a string or changes none: the calls have the numbers of `Call` in bench/src/cases.rs.
+/// Makes one of the calls that make a string or change none, and returns its answer as a number. The calls have the numbers of `Call` in
+/// bench/src/cases.rs.
 fn make_or_look<const N: usize>(
     call: u8,
     text: &mut Text<N>,
@@ -303,7 +304,7 @@ fn make_or_look<const N: usize>(
     }
 }
 
-/// What a call answers that puts something in.
+/// Makes one of the calls that put something in, and returns its answer as a number.
 fn add<const N: usize>(call: u8, text: &mut Text<N>, case: &Case<'_>) -> u64 {
     match call {
         9 => try_push_str_measured(text, case.given) as u64,
@@ -322,7 +323,7 @@ fn add<const N: usize>(call: u8, text: &mut Text<N>, case: &Case<'_>) -> u64 {
     }
 }
 
-/// What a call answers that takes out.
+/// Makes one of the calls that take something out, and returns its answer as a number.
 fn take<const N: usize>(call: u8, text: &mut Text<N>, case: &Case<'_>) -> u64
     requires { N ≤ 300 }
 {
@@ -363,7 +364,7 @@ fn filled<const N: usize>(held: &str, offset: usize) -> Text<N> {
     text
 }
 
-/// What a call at a capacity answers, and what the string is afterwards.
+/// Makes a call at a capacity, and returns a number that is made of its answer and of the text that it leaves.
 fn answer<const N: usize>(call: u8, case: &Case<'_>) -> u64
     requires { N ≤ 300 }
 {
@@ -377,7 +378,7 @@ fn answer<const N: usize>(call: u8, case: &Case<'_>) -> u64
     told.wrapping_mul(31).wrapping_add(digest(text.as_str()))
 }
 
-/// What a call at a capacity answers, for the bench. A slice is a pointer and a length.
+/// Does this for the bench, a program in Rust, which passes a slice as a pointer and a length.
 #[unsafe(no_mangle)]
 pub extern "C" fn proved_answer(
     capacity: usize,

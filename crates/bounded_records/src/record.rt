@@ -62,7 +62,7 @@ impl RecordFault {
     }
 }
 
-/// The name alone, which is not padded to a width in the format.
+/// Prints the name of the case. A width in the format does not pad it.
 impl fmt::Display for RecordFault {
     ghost output = { λ fault. Some (fault_name fault) };
 

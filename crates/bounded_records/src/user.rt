@@ -64,7 +64,7 @@ impl UserFault {
     }
 }
 
-/// The name alone, which is not padded to a width in the format.
+/// Prints the name of the case. A width in the format does not pad it.
 impl fmt::Display for UserFault {
     ghost output = { λ fault. Some (user_fault_name fault) };
 

@@ -6,10 +6,10 @@ use std::hash::{DefaultHasher, Hash, Hasher};
 use std::process::Abort;
 use test_support::memory::ScarceMemory;
 
-/// How many users are put in, a prime.
+/// How many users are put in. It is a prime, so that each user has its turn once in the order of `mixed`.
 const USERS: u32 = 211;
 
-/// The user of a turn, of an order in which the ranks are mixed.
+/// The user whose turn it is, in an order that mixes the ranks.
 fn mixed(turn: u32) -> User {
     ranked((turn.wrapping_mul(90) % USERS) as u16)
 }

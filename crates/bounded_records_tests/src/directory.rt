@@ -49,11 +49,11 @@ fn equal_texts_are_one_key(rt: HostRuntime) {
     agree(&rt, names.next(), None);
 }
 
-/// How many ranks are tried: that of the empty username, and those of 18 letters, each one to 20 times. It is 19
-/// times 19, so steps of a number that 19 does not divide come to every rank.
+/// How many ranks are tried: that of the empty username, and those of 18 letters, each one to 20 times. That is 19
+/// times 19. So with steps of a number that 19 does not divide, each rank has its turn once.
 const RANKS: u16 = 361;
 
-/// All ranked users are there, each with `more` behind its role, and no others.
+/// Asserts that the users of all ranks are there, each with `more` behind its role, and no others.
 fn check_ranked(rt: &impl Abort, users: &Directory, more: &str) {
     let mut names = users.names();
     for rank in 0..RANKS {
@@ -151,9 +151,9 @@ fn each_refused_growth_changes_nothing(rt: HostRuntime) {
     assert!(rt; growths > 10);
 }
 
-/// How many users are put in. `at_turn` takes them in the order that a factor gives. If neither 2 nor 5 divides
-/// the factor, it takes each once. The factor 1 gives the ascending order. The factor 4999 gives user 0, and
-/// then the others in descending order. Another factor gives a mixed order.
+/// How many users are put in. `at_turn` multiplies the turn by a factor, and takes the remainder by this number. If neither
+/// 2 nor 5, which are its prime factors, divides the factor, each user has its turn once. The factor 1 gives the
+/// ascending order, and 4999 gives user 0 and then the others in descending order. Another factor gives a mixed order.
 const USERS: u16 = 5000;
 
 /// The user of a number: four digits, and the last of them again. The usernames ascend with the
@@ -168,12 +168,13 @@ fn numbered(number: u16) -> User {
     User { username, role }
 }
 
-/// The user of a turn of the order that a factor gives.
+/// The user whose turn it is, in the order that a factor gives.
 fn at_turn(turn: u16, factor: u32) -> User {
     numbered((factor.wrapping_mul(turn as u32) % USERS as u32) as u16)
 }
 
-/// The users are those below `USERS`. Of each `turns` steps of an iterator the last is from the back.
+/// Asserts that the users are those of the numbers below `USERS`. Of each `turns` steps of an iterator the last is from
+/// the back.
 fn check_walks(rt: &impl Abort, directory: &Directory, turns: u16) {
     let (mut names, mut users) = (directory.names(), directory.users());
     let (mut front, mut back) = (0u16, USERS);

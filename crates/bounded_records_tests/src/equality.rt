@@ -32,7 +32,7 @@ fn each_user_is_equal_to_itself_alone(rt: HostRuntime) {
         user("abcdeabcdeabcdeabcde", "abcdf"),
     ];
     agree(&rt, first_mistaken(&users), None);
-    // what lies behind a text makes no other user
+    // bytes of the array behind a text make no other user
     let mut popped = user("abc", "de");
     let _ = popped.username.pop();
     let _ = popped.role.pop();

@@ -3,11 +3,11 @@ use super::users::{agree, comes_last, comes_next, finds, have_ended, replaces, s
 use bounded_records::{Directory, User};
 use std::process::Abort;
 
-/// How many users are put in: 2^16 and 64 more. `at_turn` multiplies by 30011, which none of 2, 5 and 41
-/// divides. So it takes each user once.
+/// How many users are put in: 2^16 and 64 more. `at_turn` multiplies by 30011 and takes the remainder by this number. Its
+/// prime factors, which are 2, 5 and 41, do not divide 30011, so each user has its turn once.
 const USERS: u32 = 65_600;
 
-/// How many users are changed, and then removed. After that, fewer than 2^16 are left.
+/// How many users are changed, and then removed, so that fewer than 2^16 are left.
 const SOME: u32 = 128;
 
 /// The user of a number: its five digits, as the username and as the role. The usernames ascend with the

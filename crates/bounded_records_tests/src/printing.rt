@@ -101,7 +101,7 @@ fn take(rt: &impl Abort, names: &mut Names, users: &mut Users, first: usize, las
     }
 }
 
-/// From the first step to the last, by either end.
+/// Iterators are printed at each step of a walk, by either end.
 #[test]
 fn an_iterator_is_printed_as_the_list_of_those_left(rt: HostRuntime) {
     let directory = of_first(&rt, &TEXTS);

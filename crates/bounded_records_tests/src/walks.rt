@@ -51,7 +51,7 @@ fn walk(rt: &impl Abort, directory: &Directory, count: u16, ends: u32)
     has_left(rt, &names, &users, front, front);
 }
 
-/// From the front, from the back, and by mixes of both.
+/// Iterators are walked from the front, from the back, and by mixes of both.
 #[test]
 fn each_user_comes_once_from_either_end(rt: HostRuntime) {
     for count in 0..60u16 {

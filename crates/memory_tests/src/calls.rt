@@ -1,4 +1,4 @@
-//! The calls, and a line or more of what came back of each.
+//! The calls, each with one line or more that say what it returned.
 use crate::device::{SlowReader, TextWriter};
 use arraystring::{ArrayString, MaxString};
 use arraystring_run::{Command, play, run, run_both, serve};

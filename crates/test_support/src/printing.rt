@@ -1,13 +1,13 @@
-//! How values are printed for debugging, and a type that is printed as a text.
+//! How values are printed for debugging, and a text that is printed for debugging without quotes.
 use std::alloc::{AllocError, Global};
 use std::fmt;
 use std::fmt::Debug;
 
-/// A text that is printed alone.
+/// A text that is printed for debugging as it is, without quotes and escapes.
 #[derive(Drop)]
-pub struct Alone<'a>(pub &'a str);
+pub struct Unquoted<'a>(pub &'a str);
 
-impl Debug for Alone<'_> {
+impl Debug for Unquoted<'_> {
     fn fmt<W: fmt::Write>(&self, f: &mut fmt::Formatter<W>) -> fmt::Result {
         f.write_str(self.0)
     }

@@ -2,7 +2,7 @@
 //! that `ScarceMemory` takes all memory except what it leaves.
 use crate::equality::first_mistaken;
 use crate::memory::ScarceMemory;
-use crate::printing::{Alone, first_debug_difference, forms};
+use crate::printing::{Unquoted, first_debug_difference, forms};
 use crate::table::{LETTERS, column, rows};
 use std::alloc::Global;
 use std::fmt;
@@ -15,7 +15,7 @@ fn agree<T: PartialEq + Debug + Drop>(rt: &impl Abort, gave: T, wanted: T) {
     assert_eq!(rt; gave, wanted);
 }
 
-/// Is printed as the form is written in which it is printed.
+/// Prints the format by which it is printed, so that a test sees which formats are tried.
 #[derive(Drop)]
 struct Written;
 
@@ -82,11 +82,11 @@ fn are_forms<T: Debug>(rt: &(impl Abort + AllocGlobal), printed: String, value: 
 #[test]
 fn two_values_that_are_printed_differently_at_a_width(rt: HostRuntime) {
     for at in 1..40usize {
-        let both = apart(&rt, &At(at), &Alone("a"));
+        let both = apart(&rt, &At(at), &Unquoted("a"));
         agree(&rt, both.is_some(), at < 30);
         if let Some((printed, other)) = both {
             are_forms(&rt, printed, &At(at), at);
-            are_forms(&rt, other, &Alone("a"), at);
+            are_forms(&rt, other, &Unquoted("a"), at);
         }
         agree(&rt, apart(&rt, &At(at), &At(at)).is_some(), false);
     }
@@ -120,7 +120,7 @@ fn rows_and_columns_are_read(rt: HostRuntime) {
 fn the_first_two_that_are_not_told_apart(rt: HostRuntime) {
     agree(&rt, first_mistaken(&[1u8, 2, 3]), None);
     agree(&rt, first_mistaken(&[1u8, 2, 3, 2]), Some((1, 3)));
-    // no number is equal to this one, so it is not to itself
+    // NaN is equal to no number, and so not to itself
     agree(&rt, first_mistaken(&[0.0, f64::NAN]), Some((1, 1)));
 }
 

@@ -1,7 +1,7 @@
 //! How a string is compared with a `str`: by its text.
 //!
-//! A `str` has no order with a string on its right. With one, `"a" < &t` of a `String` and `s < t.as_ref()` would no longer be compiled in
-//! a program that has this crate, since std's own order of `str` is then not the only one.
+//! A `str` has no order with a string on its right. With one, `"a" < &t` of a `String` and `s < t.as_ref()` would no longer compile in a
+//! program that has this crate, because rustc infers the type on the right only while `str` has no order but that of std.
 
 use core::cmp::Ordering;
 

@@ -140,7 +140,7 @@ impl<const N: usize> ArrayString<N> {
     ///
     /// # Errors
     ///
-    /// The first of these that holds:
+    /// Returns the first of these that holds:
     ///
     /// - [`Error::Utf8`] if `bytes` is not well-formed UTF-8 (the Unicode Standard, section 3.9);
     /// - [`Error::OutOfBounds`] if it is larger than the capacity.

@@ -124,7 +124,7 @@ impl<const N: usize> ArrayString<N> {
     ///
     /// # Errors
     ///
-    /// The first of these that holds, and nothing has changed then:
+    /// Returns the first of these that holds. Nothing has changed then:
     ///
     /// - [`Error::OutOfBounds`] if `at` is past the text, or if `ch` does not fit;
     /// - [`Error::Utf8`] if `at` is inside a character.
@@ -152,7 +152,7 @@ impl<const N: usize> ArrayString<N> {
     ///
     /// # Errors
     ///
-    /// The first of these that holds, and nothing has changed then:
+    /// Returns the first of these that holds. Nothing has changed then:
     ///
     /// - [`Error::OutOfBounds`] if `at` is past the text, or if not all of `text` fits;
     /// - [`Error::Utf8`] if `at` is inside a character.
@@ -179,7 +179,7 @@ impl<const N: usize> ArrayString<N> {
     ///
     /// # Errors
     ///
-    /// The first of these that holds, and nothing has changed then:
+    /// Returns the first of these that holds. Nothing has changed then:
     ///
     /// - [`Error::OutOfBounds`] if `at` is past the text;
     /// - [`Error::Utf8`] if `at` is inside a character.
@@ -207,7 +207,7 @@ impl<const N: usize> ArrayString<N> {
     ///
     /// # Errors
     ///
-    /// The first of these that holds, and nothing has changed then:
+    /// Returns the first of these that holds. Nothing has changed then:
     ///
     /// - [`Error::OutOfBounds`] if the range ends before it starts, or past the text;
     /// - [`Error::OutOfBounds`] if the text with `text` in it does not fit;
@@ -252,7 +252,7 @@ impl<const N: usize> ArrayString<N> {
     ///
     /// # Errors
     ///
-    /// The first of these that holds, and nothing has changed then:
+    /// Returns the first of these that holds. Nothing has changed then:
     ///
     /// - [`Error::OutOfBounds`] if `at` is not below the length;
     /// - [`Error::Utf8`] if `at` is inside a character.
@@ -304,7 +304,7 @@ impl<const N: usize> ArrayString<N> {
     ///
     /// # Errors
     ///
-    /// The first of these that holds, and nothing has changed then:
+    /// Returns the first of these that holds. Nothing has changed then:
     ///
     /// - [`Error::OutOfBounds`] if `at` is past the text;
     /// - [`Error::Utf8`] if `at` is inside a character.
@@ -329,7 +329,7 @@ impl<const N: usize> ArrayString<N> {
     ///
     /// # Errors
     ///
-    /// The first of these that holds, and nothing has changed then:
+    /// Returns the first of these that holds. Nothing has changed then:
     ///
     /// - [`Error::OutOfBounds`] if the range ends before it starts, or past the text;
     /// - [`Error::Utf8`] if an end of the range is inside a character.

@@ -1,4 +1,4 @@
-//! The errors. They stand apart from those of the core, because those print without a width, as their contracts say.
+//! The errors. They are no errors of the core, because the contracts of those say that a width in the format is ignored.
 
 use core::char::DecodeUtf16Error;
 use core::error::Error as StdError;
@@ -7,7 +7,7 @@ use core::str::Utf8Error;
 
 use crate::proved::base::error as by_core;
 
-/// Why a call was refused. `?` makes it of each error of this crate, and of a `fmt::Error`.
+/// Why a call was refused. `?` converts each error of this crate, and a `fmt::Error`, into it.
 ///
 /// # Examples
 ///
@@ -42,7 +42,7 @@ impl Error {
     }
 }
 
-/// Prints why. A width pads it.
+/// Prints why the call was refused. A width in the format pads it.
 impl fmt::Display for Error {
     fn fmt(&self, f: &mut fmt::Formatter<'_>) -> fmt::Result {
         f.pad(match self {
@@ -70,7 +70,7 @@ macro_rules! part {
             }
         }
 
-        /// Prints why. A width pads it.
+        /// Prints why the call was refused. A width in the format pads it.
         impl fmt::Display for $part {
             fn fmt(&self, f: &mut fmt::Formatter<'_>) -> fmt::Result {
                 f.pad($text)

@@ -1,5 +1,5 @@
-//! The text, lent as a `str`: to be read, and to be written. No contract speaks of what a borrower writes: safe code can only write
-//! characters over others of as many bytes there, so it stays UTF-8, and as long.
+//! The text, lent as a `str`: to be read, and to be written. No contract speaks of what a borrower writes. But safe code can only write
+//! characters over others of as many bytes, so the text stays UTF-8, and as long.
 
 use core::borrow::{Borrow, BorrowMut};
 use core::ops::{Deref, DerefMut, Index, IndexMut};
@@ -29,7 +29,7 @@ impl<const N: usize> ArrayString<N> {
     }
 }
 
-/// The text: each call of `str` is one of the string.
+/// Lends the text, so that each call of `str` is one of the string.
 ///
 /// ```
 /// let string = arraystring::ArrayString::<16>::try_from_str("key=text").unwrap();
@@ -44,7 +44,7 @@ impl<const N: usize> Deref for ArrayString<N> {
     }
 }
 
-/// The text, to be written: each call of `str` that writes is one of the string.
+/// Lends the text to be written, so that each call of `str` that writes is one of the string.
 impl<const N: usize> DerefMut for ArrayString<N> {
     #[inline]
     fn deref_mut(&mut self) -> &mut str {

@@ -1,7 +1,8 @@
 //! Strings made of what is allocated, and what is allocated made of strings, behind the feature `alloc`.
 //!
-//! `Box<str>`, `Rc<str>` and `Arc<str>` are made of no borrowed string. If they were, `Box::<str>::from(text.as_ref())` would no longer be
-//! compiled in a program that has this crate, since `From<&str>` is then not the only one.
+//! `Box<str>`, `Rc<str>` and `Arc<str>` are made of no borrowed string. If they were, `Box::<str>::from(text.as_ref())` would no longer
+//! compile in a program that has this crate, because rustc infers what `as_ref` returns only while `From<&str>` is the only one of a
+//! reference.
 
 use alloc::borrow::Cow;
 use alloc::boxed::Box;

@@ -1,5 +1,5 @@
-//! The string where a path or a name of the operating system is asked for, or one that is owned, behind the feature `std`. Std makes an
-//! owned one of each `&T` of an `AsRef<OsStr>`.
+//! A string as a path or as a name of the operating system, behind the feature `std`: borrowed, and copied into an owned one. An owned one
+//! of a borrowed string needs no impl here, because std makes it of each `&T` whose `T` is an `AsRef<OsStr>`.
 
 use std::ffi::{OsStr, OsString};
 use std::path::{Path, PathBuf};

@@ -15,7 +15,7 @@ impl<const N: usize> Default for ArrayString<N> {
     }
 }
 
-/// `parse` of a text.
+/// Makes a string of a text that fits, and refuses any other. `parse` calls it.
 ///
 /// ```
 /// use arraystring::{ArrayString, OutOfBounds};

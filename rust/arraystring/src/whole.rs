@@ -1,4 +1,4 @@
-//! What is appended whole or not at all: what a format prints, and what an iterator gives. And as much of it as fits.
+//! What a format prints, or an iterator gives, is appended: whole or not at all, or as much of it as fits.
 
 use core::fmt::{self, Write};
 use core::mem;
@@ -162,11 +162,11 @@ impl<const N: usize> ArrayString<N> {
     }
 }
 
-/// What is added to a string for now. Its `drop` takes it back, so that nothing of it is left where something is refused, or where a
-/// `Display` or an iterator panics. Only `keep` makes it stay.
+/// What is added to a string, until it is known whether all of it is. Its `drop` takes it back, so that nothing of it is left where
+/// something is refused, or where a `Display` or an iterator panics. Only `keep` makes it stay.
 struct Draft<'a, const N: usize> {
     string: &'a mut ArrayString<N>,
-    /// The length of the text before it.
+    /// The length of the text before the draft.
     len: usize,
     /// Whether no piece was refused or cut so far. It is noted here, because a `Display` may pass over an error, and return `Ok`.
     is_whole: bool,

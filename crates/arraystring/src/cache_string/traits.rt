@@ -105,8 +105,8 @@ impl Ord for CacheString {
 
     ghost matches_eq = { λ s t. texts_ties s.0.text t.0.text };
 
-    /// The order of the texts, by the numbers of their characters; a text that begins another is
-    /// less than it. It is the order of the bytes of UTF-8 too.
+    /// Compares the texts lexicographically, by the scalar values of their characters. A prefix of a longer text is
+    /// less than it. The order of the bytes of UTF-8 is the same.
     fn cmp(&self, other: &Self) -> Ordering
         ensures order { result ≡ slice_cmp nat_cmp self.now.0.text other.now.0.text }
         ensures of_bytes { result

@@ -1,4 +1,5 @@
-//! Appends to a text that may end where its array ends: the test of the room, and what first moves the text to the start.
+//! Appends to a text that may end where its array ends: the test whether there is room, and the calls that first move
+//! the text to the start of the array.
 ghost use Rattle.std.specs.Prelude.{◌≡◌, ◌+◌, ◌≤◌, ◌↔◌, [], ◌∷◌, ◌++◌, IsTrue, chars, Ok};
 ghost use Rattle.arraystring_base.specs.Text.{size, width, cap};
 ghost use Rattle.arraystring_core.specs.Edits.{Makes, addition_of_cut};

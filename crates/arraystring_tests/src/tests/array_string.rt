@@ -196,7 +196,7 @@ fn the_bytes_are_those_of_utf8(rt: HostRuntime) {
     agree(&rt, "a text", text.as_bytes(), bytes);
 }
 
-/// 254 letters, and a character of two bytes.
+/// 254 letters and a character of two bytes, which are one byte more than fits into any string.
 const A_WIDER_LAST: &str = "xxxxxxxxxxxxxxxxxxxxxxxxxxxxxxxxxxxxxxxxxxxxxxxxxxxxxxxxxxxxxxxx\
     xxxxxxxxxxxxxxxxxxxxxxxxxxxxxxxxxxxxxxxxxxxxxxxxxxxxxxxxxxxxxxxx\
     xxxxxxxxxxxxxxxxxxxxxxxxxxxxxxxxxxxxxxxxxxxxxxxxxxxxxxxxxxxxxxxx\

@@ -1,7 +1,7 @@
-// The calls that tables make as they are, each with what it is given: one line a call. The tests in
-// Rust make theirs by a copy of this file, for which rust/generate.py has to be run.
+// The calls of tables that need no code of their own: a line for each call, with what it is given. The tests in Rust
+// make their calls by a copy of this file, which rust/generate.py makes.
 //
-// A caller hands in a macro that makes the calls. What is no plain call of a string stands in
+// Who uses a list gives it a macro, which makes a call of each line. The calls that need code of their own stand in
 // `calls`.
 
 /// The calls that are given no index and no range.

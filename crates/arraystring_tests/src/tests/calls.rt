@@ -142,7 +142,7 @@ fn whole<R: Abort + AllocGlobal, const N: usize>(
     true
 }
 
-/// The numbers of a string, and what is no call of a list.
+/// The calls that return a number, and those that need code of their own.
 fn by_hand<R: Abort + AllocGlobal, const N: usize>(
     rt: &R,
     text: &mut ArrayString<N>,
@@ -184,8 +184,8 @@ fn by_hand<R: Abort + AllocGlobal, const N: usize>(
     true
 }
 
-/// Keeps the characters at whose turn no `-` is given and that are not among the dropped ones, and
-/// returns all that it was called with.
+/// Calls `retain`. A character is dropped if `results` has a `-` at its turn, or if it is in `dropped`. Returns the
+/// characters with which the closure was called.
 fn retained<const N: usize>(text: &mut ArrayString<N>, results: &str, dropped: &str) -> MaxString {
     let mut seen = MaxString::new();
     let mut results = results.chars();

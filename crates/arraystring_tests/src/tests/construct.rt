@@ -60,7 +60,7 @@ fn check_row<const N: usize>(rt: &impl Abort, row: &str)
     agree(rt, row, of_pieces(&[text]), (cut, whole.ok()));
 }
 
-/// Asserts what is next.
+/// Asserts which item the iterator that was borrowed gives next.
 pub(super) fn next<'a>(rt: &impl Abort, row: &'a str, ch: Option<char>, piece: Option<&'a str>) {
     agree(rt, row, ch, column(row, 4).chars().next());
     agree(rt, row, piece.unwrap_or("None"), column(row, 5));
@@ -200,8 +200,8 @@ fn cut_pieces<const N: usize>(rt: &impl Abort, pieces: &[&str], wanted: &str)
 
 #[test]
 fn what_is_made_of_bytes_and_of_slices(rt: HostRuntime) {
-    // A lone continuation byte, an overlong form, a surrogate, what is past the last scalar value, a
-    // character cut short, and a fault past the first byte, which all bytes are judged by.
+    // A lone continuation byte, an overlong form, a surrogate, what is past the last scalar value, a character cut
+    // short, and a fault behind the first byte. All bytes are judged, also those that do not fit.
     let faults = b"\x00\x9F\x92\x96\
         \x61\x61\xC0\x80\
         \xC1\xBF\x61\x61\

@@ -6,7 +6,7 @@ use arraystring::{ArrayString, Drain};
 use std::process::Abort;
 use test_support::table::{column, rows};
 
-/// What `[ ]` has in it of a text, taken out of it.
+/// The drain of the part of a text that stands between `[` and `]`.
 fn taken_out<const N: usize>(written: &str) -> Drain<N> {
     let (before, rest) = written.split_once('[').unwrap_or_default();
     let (inside, after) = rest.split_once(']').unwrap_or_default();
@@ -60,7 +60,7 @@ fn steps_from_both_ends(rt: HostRuntime) {
                  | next      |      |
         ",
     );
-    // Nothing was taken out.
+    // drains of an empty part
     check_drains::<4>(
         &rt,
         "
@@ -77,7 +77,7 @@ fn steps_from_both_ends(rt: HostRuntime) {
            | next_back |      |
         ",
     );
-    // A copy keeps what it had.
+    // a copy keeps its characters when the drain itself gives some
     let mut drain = taken_out::<23>("[A🤔B]");
     let mut copy = drain;
     agree(&rt, "the front", drain.next(), Some('A'));
@@ -86,8 +86,8 @@ fn steps_from_both_ends(rt: HostRuntime) {
     agree(&rt, "what is left of the copy", copy.as_str(), "A🤔");
 }
 
-/// Iterates over all of a text by one choice of ends: the back if the choice has a bit. What is left is
-/// compared after each step.
+/// Iterates over all of a text. Bit `n` of `choice` says from which end step `n` takes: 0 is the front, and 1 the back.
+/// What is left is compared at each step.
 fn walk_by(rt: &impl Abort, text: &str, choice: u32) {
     let mut drain = string::<23>(text).drain(..).unwrap_or_default();
     let mut wanted = text.chars();
@@ -106,7 +106,7 @@ fn walk_by(rt: &impl Abort, text: &str, choice: u32) {
     agree(rt, text, drain.next_back(), None);
 }
 
-/// Iterates over texts in several ways. The columns are how many ways, and the text.
+/// Iterates over each text by each choice of ends. The columns are the number of choices, and the text.
 fn check_walks(rt: &impl Abort, table: &str) {
     for row in rows(table) {
         for choice in 0..number(rt, row, 0) as u32 {

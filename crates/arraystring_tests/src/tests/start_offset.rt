@@ -68,7 +68,7 @@ fn what_is_left_stays_where_it_is_until_it_grows(rt: HostRuntime) {
               | try_push |   | x | OutOfBounds | 255 x
         ",
     );
-    // An insertion with room behind the text moves what is behind it.
+    // an insertion with room behind the text moves the bytes behind the index
     check_rows::<8>(
         &rt,
         "
@@ -81,7 +81,7 @@ fn what_is_left_stays_where_it_is_until_it_grows(rt: HostRuntime) {
                | try_insert_str_counted | 4   | xy | ok | abcdxy | 0
         ",
     );
-    // A full text does not grow.
+    // a full text refuses what would make it grow
     check_rows::<8>(
         &rt,
         "
@@ -95,7 +95,7 @@ fn what_is_left_stays_where_it_is_until_it_grows(rt: HostRuntime) {
 
 #[test]
 fn texts_are_the_same_wherever_they_begin(rt: HostRuntime) {
-    // Texts and their parts are borrowed.
+    // texts and parts of texts that are borrowed
     check_wherever_it_begins(
         &rt,
         "
@@ -125,7 +125,7 @@ fn texts_are_the_same_wherever_they_begin(rt: HostRuntime) {
                | is_char_boundary | 255  |                   | Utf8    | A🤔
         ",
     );
-    // Texts grow.
+    // texts that grow
     check_wherever_it_begins(
         &rt,
         "
@@ -166,7 +166,7 @@ fn texts_are_the_same_wherever_they_begin(rt: HostRuntime) {
         aBé    | extend_strs          |      | x,yz  | ok          | aBéxyz
         ",
     );
-    // Texts shrink and grow again.
+    // texts that shrink and grow again
     check_wherever_it_begins(
         &rt,
         "
@@ -229,7 +229,7 @@ fn texts_are_the_same_wherever_they_begin(rt: HostRuntime) {
                       | push_str     |   | 12345678 | ok          | '\r\u{A0}a1234'
         ",
     );
-    // Parts are taken out and replaced.
+    // parts that are taken out and replaced
     check_wherever_it_begins(
         &rt,
         "
@@ -260,7 +260,7 @@ fn texts_are_the_same_wherever_they_begin(rt: HostRuntime) {
         aBCd   | retain_without |      | ad | ok          | BC
         ",
     );
-    // Letters change case.
+    // letters that change case
     check_wherever_it_begins(
         &rt,
         "

@@ -73,8 +73,8 @@ fn a_string_that_was_drained_is_hashed_as_one_made_at_once(rt: HostRuntime) {
 ///
 ///     less | greater
 ///
-/// if the less is no larger. Each pair stands at each index among letters, in texts of each size. These
-/// are `sizes` in all, and `short` those in which the pair is compared in other types too.
+/// where the less takes no more bytes than the greater. Each pair stands at each index among letters, in texts of each
+/// size. It is compared `sizes` times in all, and of these `short` times in other types, too.
 fn check_orders<const N: usize>(rt: &impl Abort, table: &str, sizes: u32, short: u32)
     requires { N ≤ 300 }
 {
@@ -91,10 +91,10 @@ fn check_orders<const N: usize>(rt: &impl Abort, table: &str, sizes: u32, short:
     agree(rt, table, compared, (sizes, short));
 }
 
-/// Asserts the order of the pair of a row behind `index` letters. Behind it each byte says the opposite,
-/// or none differs, and there are none behind the shortest. One text begins at offset 0, and the other
-/// does, or behind it. What is before the pair is less. Returns in how many sizes the pair was compared,
-/// none if it does not fit, and in how many of these as other types.
+/// Asserts the order of the pair of a row behind `index` letters. What follows the pair would give the opposite order,
+/// or no order, and nothing follows in the shortest text. One text begins at offset 0 of its array, and the other there
+/// or behind it. The letters before the pair alone are less than either. Returns how often the pair was compared, which
+/// is never if it does not fit, and how often in other types.
 fn check_pair<const N: usize>(rt: &impl Abort, row: &str, index: usize) -> (u32, u32)
     requires { N ≤ 300 }
 {
@@ -135,7 +135,7 @@ fn check_pair<const N: usize>(rt: &impl Abort, row: &str, index: usize) -> (u32,
     (sizes, short)
 }
 
-/// Asserts the same order of what is drained of two strings, and of their strings of 63 bytes.
+/// Asserts the order of two `CacheString` of the same texts, and of drains of all of the two strings.
 fn of_other_types<const N: usize>(
     rt: &impl Abort,
     row: &str,
@@ -176,9 +176,9 @@ fn is_less<T: Ord>(rt: &impl Abort, row: &str, less: &T, greater: &T) {
     agree(rt, row, results, [true; 4]);
 }
 
-/// The greater text of a pair has `w` bytes. At index 0 the pair is compared in `capacity - w + 1` sizes, and
-/// at each next index in one size fewer. So it is compared in as many sizes as the sum of the numbers from 1
-/// to `capacity - w + 1`. As many of them as the sum of the numbers from 1 to `64 - w` are below 64.
+/// The greater text of a pair has `w` bytes. At index 0 the pair is compared in `capacity - w + 1` sizes, and at each
+/// next index in one size fewer. So it is compared in as many sizes as the sum of the numbers from 1 to `capacity - w +
+/// 1`. Of these sizes as many as the sum of the numbers from 1 to `64 - w` are below 64.
 #[test]
 fn texts_of_each_size_are_ordered(rt: HostRuntime) {
     check_orders::<255>(

@@ -81,7 +81,8 @@ fn trimmed_texts(rt: HostRuntime) {
     check_row(&rt, &mut line, "|trim|||ok|a  b");
 }
 
-/// Asserts whether `trim` leaves `a` of a text or all of it, and whether `trim_spaces` does.
+/// Asserts of a text with an `a` in it whether `trim` leaves only the `a` or all of the text, and the same of
+/// `trim_spaces`.
 fn trims(rt: &impl Abort, text: MaxString, is_trimmed: bool, is_trimmed_of_spaces: bool) {
     let [mut trimmed, mut without_spaces] = [text, text];
     trimmed.trim();

@@ -141,7 +141,7 @@ fn what_is_made_of_units(rt: HostRuntime) {
         DBFF DFFF  | \u{10FFFF} | \u{10FFFF} | \u{10FFFF}
         ",
     );
-    // The first stop decides: a character that does not fit, or a lone surrogate.
+    // what comes first decides: a character that does not fit, or a lone surrogate
     check_texts_of_units::<5>(
         &rt,
         "
@@ -179,7 +179,7 @@ fn what_is_made_of_units(rt: HostRuntime) {
         61 E9 20AC D83E DD14 | aé€🤔 | aé€🤔 | aé€🤔
         ",
     );
-    // A long list.
+    // more units than fit into any string
     let row = "300 units|OutOfBounds|\0\0\0\0\0\0\0\0\0\0\0\0\0\0\0\0\0\0\0\0\0\0\0\
         |\0\0\0\0\0\0\0\0\0\0\0\0\0\0\0\0\0\0\0\0\0\0\0";
     agree(&rt, "the size", column(row, 2).len(), 23);

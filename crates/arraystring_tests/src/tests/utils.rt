@@ -166,7 +166,7 @@ fn bytes_are_shifted(rt: HostRuntime) {
     agree(&rt, "no more", (steps.looked(), steps.moved()), (1, 13));
 }
 
-/// Each row is the array after letters were written over its dots from the second on.
+/// Each row is an array of dots after letters were written over the dots from the second on.
 #[test]
 fn bytes_are_written_over(rt: HostRuntime) {
     let table = "

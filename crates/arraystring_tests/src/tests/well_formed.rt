@@ -14,9 +14,10 @@ use test_support::table::{column, rows};
 ///     first byte | as far as this one | bytes behind it | read
 ///
 /// in hexadecimal, if the last is `ok` or `Utf8`. In each size one of the first bytes in turn stands at the
-/// last four offsets, so that it stands at each offset with up to three bytes behind it, and at each 32nd,
-/// which is another for the next size. If the bytes behind it do not fit, std says how all is read. Returns
-/// how many bytes were read, and in how many of these what stands in the row fits.
+/// last four offsets, so that it stands at each offset with up to three bytes behind it. It also stands at
+/// each 31st offset back from `2 * size`, so that in some size it stands at each offset, and in some size each
+/// number of bytes up to 231 comes behind it. If the bytes behind it do not fit, std says how all is read. Returns how many
+/// bytes were read, and in how many of these what stands in the row fits.
 fn check_reading(rt: &impl Abort, table: &str) -> (u32, u32) {
     let mut bytes = [b'a'; 264];
     let mut turn = 0u8;
@@ -25,7 +26,7 @@ fn check_reading(rt: &impl Abort, table: &str) -> (u32, u32) {
         let (first, last) = (byte(rt, column(row, 0)), byte(rt, column(row, 1)));
         for size in 1..258usize {
             for at in 0..size {
-                if at % 32 != size % 32 && size - at > 4 {
+                if at % 31 != size * 2 % 31 && size - at > 4 {
                     continue;
                 }
                 turn = if turn < first || turn >= last {
@@ -125,10 +126,11 @@ fn bytes_are_read_as_in_std(rt: HostRuntime) {
         F5 | FF | 80 80 80 | Utf8
         ",
     );
-    // Of the sizes to 257 the sum of the 32nds is 912, and 1,022 that of their last offsets, of which 765
-    // leave room for a byte behind, 509 for two, and 254 for three.
-    let read = 18 * (912 + 1022);
-    let fitting = 18 * 912 + 3 * (1022 + 765) + 6 * (509 + 254);
+    // In a size there are as many 31st offsets, without the last four, as multiples of 31 from `size + 5` to
+    // `2 * size`. In all sizes to 257 these are 2016 - 980. The last four offsets are 1,022 in all, of which
+    // 765 leave room for a byte behind, 509 for two, and 254 for three.
+    let read = 18 * (1036 + 1022);
+    let fitting = 18 * 1036 + 3 * (1022 + 765) + 6 * (509 + 254);
     agree(&rt, "how many", count, (read, fitting));
 }
 

@@ -1,6 +1,6 @@
 // Made from crates/arraystring_base/src/utils.rt by rust/generate.py: change that, and run this.
-//! Boundaries, cuts and moves of bytes, under the paths of the Rust crate. Sizes and indices count bytes of
-//! UTF-8.
+//! Boundaries, cuts and moves of bytes, under the paths that arraystring 0.3.0 has for them. Sizes and indices count
+//! bytes of UTF-8.
 
 use crate::proved::base::error::OutOfBounds;
 pub use crate::proved::base::moves::{shift, shift_by_call, write_by_call, write_over};

@@ -1,5 +1,6 @@
 // Made from crates/arraystring_core/src/array_string/append_at_array_end.rt by rust/generate.py: change that, and run this.
-//! Appends to a text that may end where its array ends: the test of the room, and what first moves the text to the start.
+//! Appends to a text that may end where its array ends: the test whether there is room, and the calls that first move
+//! the text to the start of the array.
 
 use crate::proved::string::ArrayString;
 use crate::proved::base::utils::{encode, shift_by_call, truncate_str, write_by_call};

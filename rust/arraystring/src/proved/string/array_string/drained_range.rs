@@ -28,8 +28,9 @@ impl<const N: usize> ArrayString<N> {
         Ok(removed)
     }
 
-    /// Removes as `remove_range` does, but by a call where the moves would be long. So the compiler puts the rest of
-    /// `drain` into each of its callers, which then copy the array once or twice less.
+    /// Removes as `remove_range` does. If bytes of a larger array may have to move, it calls a function that is never
+    /// inlined, because the code that moves them is long. Then the rest of `drain` is so short that the compiler
+    /// inlines it, and a caller copies the array of the `Drain` once or twice less.
     #[inline]
     fn remove_drained(&mut self, start: usize, end: usize) {
         if N <= 32 || start == 0 {
@@ -38,7 +39,7 @@ impl<const N: usize> ArrayString<N> {
         self.remove_by_call(start, end);
     }
 
-    /// Removes as `remove_range` does, in a function that is never inlined.
+    /// Removes as `remove_range` does, for `remove_drained`, by code that stands once in a program.
     #[inline(never)]
     fn remove_by_call(&mut self, start: usize, end: usize) {
         self.remove_range(start, end);
