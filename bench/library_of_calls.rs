@@ -35,102 +35,53 @@ mod over {
 mod over {
     extern crate alloc;
 
-    use alloc::string::String;
-    use core::fmt::{self, Write};
-
+    pub type Text<const N: usize> = alloc::string::String;
     pub type Removed = char;
 
-    /// A `String` under the calls of the others, which it never refuses.
-    #[derive(PartialEq, PartialOrd)]
-    pub struct Text<const N: usize>(String);
-
     pub fn made<const N: usize>(given: &str) -> Option<Text<N>> {
-        Some(Text(String::from(given)))
-    }
-
-    impl<const N: usize> Text<N> {
-        #[inline(always)]
-        pub fn try_push_str(&mut self, given: &str) -> fmt::Result {
-            self.0.push_str(given);
-            Ok(())
-        }
-
-        #[inline(always)]
-        pub fn try_push(&mut self, ch: char) -> fmt::Result {
-            self.0.push(ch);
-            Ok(())
-        }
-
-        #[inline(always)]
-        pub fn remove(&mut self, at: usize) -> char {
-            self.0.remove(at)
-        }
-
-        #[inline(always)]
-        pub fn pop(&mut self) -> Option<char> {
-            self.0.pop()
-        }
-
-        #[inline(always)]
-        pub fn write_fmt(&mut self, given: fmt::Arguments<'_>) -> fmt::Result {
-            self.0.write_fmt(given)
-        }
+        Some(given.into())
     }
 }
 
-/// Exports the calls at each of these capacities.
+/// Exports calls at a capacity, each as a function whose name ends in it.
+macro_rules! calls {
+    ($capacity:literal: $($name:ident($($given:ident: $type:ty),*) -> $answer:ty = $body:expr;)*) => {$(
+        #[unsafe(export_name = concat!(stringify!($name), "_", $capacity))]
+        pub fn $name($($given: $type),*) -> $answer {
+            $body
+        }
+    )*};
+}
+
+/// Exports the calls at each of these capacities. `String` refuses nothing that is pushed.
 macro_rules! exported {
     ($($capacity:literal)*) => {$(
         const _: () = {
-            use crate::over::{Removed, Text, made};
+            use core::fmt::Write;
+            use crate::over::{Removed, made};
 
-            type Held = Text<$capacity>;
+            type Text = crate::over::Text<$capacity>;
 
-            #[unsafe(export_name = concat!("try_push_str_", $capacity))]
-            pub fn try_push_str(text: &mut Held, given: &str) -> bool {
-                text.try_push_str(given).is_ok()
+            #[cfg(not(over = "String"))]
+            calls! { $capacity:
+                try_push_str(text: &mut Text, given: &str) -> bool = text.try_push_str(given).is_ok();
+                try_push(text: &mut Text, ch: char) -> bool = text.try_push(ch).is_ok();
             }
-
-            #[unsafe(export_name = concat!("try_push_", $capacity))]
-            pub fn try_push(text: &mut Held, ch: char) -> bool {
-                text.try_push(ch).is_ok()
+            #[cfg(over = "String")]
+            calls! { $capacity:
+                try_push_str(text: &mut Text, given: &str) -> bool = text.write_str(given).is_ok();
+                try_push(text: &mut Text, ch: char) -> bool = text.write_char(ch).is_ok();
             }
-
-            #[unsafe(export_name = concat!("remove_", $capacity))]
-            pub fn remove(text: &mut Held, at: usize) -> Removed {
-                text.remove(at)
+            calls! { $capacity:
+                remove(text: &mut Text, at: usize) -> Removed = text.remove(at);
             }
-
             #[cfg(calls = "8")]
-            #[unsafe(export_name = concat!("pop_", $capacity))]
-            pub fn pop(text: &mut Held) -> Option<char> {
-                text.pop()
-            }
-
-            #[cfg(calls = "8")]
-            #[unsafe(export_name = concat!("try_from_str_", $capacity))]
-            pub fn try_from_str(given: &str) -> Option<Held> {
-                made(given)
-            }
-
-            #[cfg(calls = "8")]
-            #[unsafe(export_name = concat!("equal_", $capacity))]
-            pub fn equal(text: &Held, other: &Held) -> bool {
-                text == other
-            }
-
-            #[cfg(calls = "8")]
-            #[unsafe(export_name = concat!("less_", $capacity))]
-            pub fn less(text: &Held, other: &Held) -> bool {
-                text < other
-            }
-
-            #[cfg(calls = "8")]
-            #[unsafe(export_name = concat!("write_", $capacity))]
-            pub fn write(text: &mut Held, given: &str) -> bool {
-                #[cfg(not(over = "String"))]
-                use core::fmt::Write;
-                write!(text, "{given}").is_ok()
+            calls! { $capacity:
+                pop(text: &mut Text) -> Option<char> = text.pop();
+                try_from_str(given: &str) -> Option<Text> = made::<$capacity>(given);
+                equal(text: &Text, other: &Text) -> bool = text == other;
+                less(text: &Text, other: &Text) -> bool = text < other;
+                write(text: &mut Text, given: &str) -> bool = write!(text, "{given}").is_ok();
             }
         };
     )*};
@@ -160,17 +111,14 @@ mod memory {
     // SAFETY: `malloc` and `realloc` align for each type of C, and no text asks for more.
     unsafe impl GlobalAlloc for Memory {
         unsafe fn alloc(&self, layout: Layout) -> *mut u8 {
-            // SAFETY: any size may be asked for.
             unsafe { malloc(layout.size()) }
         }
 
         unsafe fn realloc(&self, memory: *mut u8, _: Layout, size: usize) -> *mut u8 {
-            // SAFETY: it came from `malloc` or `realloc`.
             unsafe { realloc(memory, size) }
         }
 
         unsafe fn dealloc(&self, memory: *mut u8, _: Layout) {
-            // SAFETY: it came from `malloc` or `realloc`.
             unsafe { free(memory) }
         }
     }

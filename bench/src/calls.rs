@@ -1,184 +1,288 @@
-//! Each call in a function of its own that is measured. The proved build has the same functions in crates/bench_calls.
+//! The calls that are counted, each once, with the cases on which it is counted. crates/bench_calls has those of the proved build by the
+//! same names. To add a call, add its row here and its line there.
 
 use std::cmp::Ordering;
-use std::hash::{DefaultHasher, Hasher};
+use std::hash::{DefaultHasher, Hash, Hasher};
 
-use crate::cases::{Call, Case};
-use crate::sides::{More, Side};
+use crate::cases::{At, Case, Curve};
+use crate::texts::Text as Compared;
 
-/// Functions that are not inlined, by whose names callgrind knows what to count.
-macro_rules! measured {
-    ($($name:ident<$side:ident: $bound:ident>($($given:ident: $type:ty),*) -> $answer:ty = $body:expr;)*) => {$(
-        #[inline(never)]
-        fn $name<$side: $bound>($($given: $type),*) -> $answer {
-            $body
-        }
-    )*};
-}
-
-measured! {
-    new_try_push_str_measured<S: Side>(given: &str) -> S = {
-        let mut text = S::new();
-        text.try_push_str(given);
-        text
-    };
-    try_from_str_measured<S: Side>(given: &str) -> Option<S> = S::try_from_str(given);
-    ten_pushes_measured<S: Side>(given: &str) -> S = {
-        let mut text = S::new();
-        for _ in 0..10 {
-            text.try_push_str(given);
-        }
-        text
-    };
-    clone_measured<S: Side>(text: &S) -> S = text.clone();
-    as_str_measured<S: Side>(text: &S) -> &str = text.as_str();
-    len_measured<S: Side>(text: &S) -> usize = text.size();
-    cmp_measured<S: Side>(text: &S, other: &S) -> Ordering = text.cmp(other);
-    less_measured<S: Side>(text: &S, other: &S) -> bool = text < other;
-    eq_measured<S: Side>(text: &S, other: &S) -> bool = text == other;
-    hash_measured<S: Side>(text: &S) -> u64 = {
-        let mut hasher = DefaultHasher::new();
-        text.hash(&mut hasher);
-        hasher.finish()
-    };
-    try_push_str_measured<S: Side>(text: &mut S, given: &str) -> bool = text.try_push_str(given);
-    push_str_truncate_measured<S: Side>(text: &mut S, given: &str) -> () = text.push_str_truncate(given);
-    try_push_measured<S: Side>(text: &mut S, ch: char) -> bool = text.try_push(ch);
-    pop_measured<S: Side>(text: &mut S) -> Option<char> = text.pop();
-    remove_measured<S: Side>(text: &mut S, index: usize) -> Option<char> = text.remove(index);
-    truncate_measured<S: Side>(text: &mut S, size: usize) -> bool = text.truncate(size);
-    window_measured<S: Side>(text: &mut S) -> bool = text.remove(0).is_some_and(|ch| text.try_push(ch));
-    line_measured<S: Side>(text: &mut S, given: &str) -> bool = {
-        text.clear();
-        given.chars().all(|ch| text.try_push(ch))
-    };
-
-    from_str_truncate_measured<S: More>(given: &str) -> S = S::from_str_truncate(given);
-    from_chars_truncate_measured<S: More>(given: &str) -> S = S::from_chars_truncate(given.chars());
-    try_from_utf8_measured<S: More>(given: &[u8]) -> Option<S> = S::try_from_utf8(given);
-    from_utf16_truncate_measured<S: More>(units: &[u16]) -> Option<S> = S::from_utf16_truncate(units);
-    from_utf16_lossy_truncate_measured<S: More>(units: &[u16]) -> S = S::from_utf16_lossy_truncate(units);
-    try_insert_measured<S: More>(text: &mut S, index: usize, ch: char) -> bool = text.try_insert(index, ch);
-    try_insert_str_measured<S: More>(text: &mut S, index: usize, given: &str) -> bool =
-        text.try_insert_str(index, given);
-    insert_str_truncate_measured<S: More>(text: &mut S, index: usize, given: &str) -> bool =
-        text.insert_str_truncate(index, given);
-    replace_range_measured<S: More>(text: &mut S, start: usize, end: usize, given: &str) -> bool =
-        text.replace_range(start, end, given);
-    trim_in_place_measured<S: More>(text: &mut S) -> () = text.trim_in_place();
-    retain_measured<S: More>(text: &mut S, dropped: char) -> () = text.retain(|ch| ch != dropped);
-    split_off_measured<S: More>(text: &mut S, at: usize) -> Option<S> = text.split_off(at);
-    drain_measured<S: More>(text: &mut S, start: usize, end: usize) -> u32 = {
-        let mut sum = 0u32;
-        text.drain(start, end, false, |ch| sum = sum.wrapping_add(ch as u32));
-        sum
-    };
-    drain_back_measured<S: More>(text: &mut S, start: usize, end: usize) -> u32 = {
-        let mut sum = 0u32;
-        text.drain(start, end, true, |ch| sum = sum.wrapping_add(ch as u32));
-        sum
-    };
-    lines_measured<S: More>(text: &mut S, given: &str) -> bool =
-        (0..4).all(|_| text.try_push_str(given) && text.replace_range(0, given.len(), ""));
-}
-
-/// Puts what a constructor made in the place of a string.
-fn put<S>(text: &mut S, made: Option<S>) -> u64 {
-    made.map_or(0, |made| {
-        *text = made;
-        1
-    })
-}
-
-/// What a call answers that each side has, or `None`.
-pub fn make<S: Side>(call: Call, text: &mut S, other: &S, case: &Case) -> Option<u64> {
-    let (held, given) = (case.held.as_str(), case.given.as_str());
-    Some(match call {
-        Call::NewTryPushStr => put(text, Some(new_try_push_str_measured(held))),
-        Call::TryFromStr => put(text, try_from_str_measured(held)),
-        Call::TenPushes => put(text, Some(ten_pushes_measured(given))),
-        Call::Clone => digest(clone_measured(text).as_str()),
-        Call::AsStr => digest(as_str_measured(text)),
-        Call::Len => len_measured(text) as u64,
-        Call::Cmp => (cmp_measured(text, other) as i8 + 2) as u64,
-        Call::Less => less_measured(text, other).into(),
-        Call::Eq => eq_measured(text, other).into(),
-        Call::Hash => hash_measured(text),
-        Call::TryPushStr => try_push_str_measured(text, given).into(),
-        Call::PushStrTruncate => {
-            push_str_truncate_measured(text, given);
-            0
-        }
-        Call::TryPush => try_push_measured(text, case.ch).into(),
-        Call::Pop => pop_measured(text).map_or(0, u64::from),
-        Call::Remove => remove_measured(text, case.start).map_or(0, u64::from),
-        Call::Truncate => truncate_measured(text, case.start).into(),
-        Call::Window => window_measured(text).into(),
-        Call::Line => line_measured(text, held).into(),
-        _ => return None,
-    })
-}
-
-/// What any call answers.
-pub fn make_any<S: More>(call: Call, text: &mut S, other: &S, case: &Case) -> Option<u64> {
-    let (held, given, start) = (case.held.as_str(), case.given.as_str(), case.start);
-    Some(match call {
-        Call::FromStrTruncate => put(text, Some(from_str_truncate_measured(held))),
-        Call::FromCharsTruncate => put(text, Some(from_chars_truncate_measured(held))),
-        Call::TryFromUtf8 => put(text, try_from_utf8_measured(held.as_bytes())),
-        Call::FromUtf16Truncate => put(text, from_utf16_truncate_measured(&case.units)),
-        Call::FromUtf16LossyTruncate => put(text, Some(from_utf16_lossy_truncate_measured(&case.units))),
-        Call::TryInsert => try_insert_measured(text, start, case.ch).into(),
-        Call::TryInsertStr => try_insert_str_measured(text, start, given).into(),
-        Call::InsertStrTruncate => insert_str_truncate_measured(text, start, given).into(),
-        Call::ReplaceRange => replace_range_measured(text, start, case.end, given).into(),
-        Call::TrimInPlace => {
-            trim_in_place_measured(text);
-            0
-        }
-        Call::Retain => {
-            retain_measured(text, case.ch);
-            0
-        }
-        Call::SplitOff => split_off_measured(text, start).map_or(0, |rest| digest(rest.as_str())),
-        Call::Drain => drain_measured(text, start, case.end).into(),
-        Call::DrainBack => drain_back_measured(text, start, case.end).into(),
-        Call::Lines => lines_measured(text, given).into(),
-        _ => return make(call, text, other, case),
-    })
-}
-
-/// Tells one text from another, so that no answer is thrown away.
-pub fn digest(text: &str) -> u64 {
-    text.bytes().fold(text.len() as u64, |sum, byte| sum.wrapping_mul(31).wrapping_add(byte.into()))
-}
-
-/// The string that a call is made on, and the other one.
-pub fn both<S: Side>(case: &Case) -> (S, S) {
-    (filled(&case.held, case.offset), filled(&case.given, case.offset_of_other()))
-}
-
-/// A string that holds a text behind an offset of its array, if it has one.
-fn filled<S: Side>(held: &str, offset: usize) -> S {
-    let mut text = S::new();
-    for _ in 0..offset {
-        text.try_push('.');
-    }
-    text.try_push_str(held);
-    for _ in 0..offset {
-        text.remove(0);
-    }
-    text
-}
-
-/// A value at the start of a page: what `memcmp` takes depends on where in a page a text lies.
+/// The strings of a call, each at the start of a page: what `memcmp` takes depends on where in a page a text lies.
 #[repr(align(4096))]
 struct Page<T>(T);
 
-/// What one side answers to a call, and what the string is afterwards.
-pub fn answer<S: Side>(call: Call, case: &Case, make: impl Fn(Call, &mut S, &S, &Case) -> Option<u64>) -> Option<u64> {
-    let (text, other) = both(case);
-    let (mut text, other) = (Page(text), Page(other));
-    let told = make(call, &mut text.0, &other.0, case)?;
-    Some(told.wrapping_mul(31).wrapping_add(digest(text.0.as_str())))
+/// What a call is given. The table names the fields that it takes.
+struct Given<'a, T> {
+    text: &'a mut T,
+    other: &'a T,
+    held: &'a str,
+    bytes: &'a [u8],
+    units: &'a [u16],
+    given: &'a str,
+    ch: char,
+    start: usize,
+    end: usize,
+}
+
+/// The calls of a side, each in a function of its own, `measured`, whose instructions are counted.
+macro_rules! side {
+    ($side:ident: $text:ty; $($name:ident($($field:ident: $type:ty),*) -> $answer:ty = $body:expr;)*) => {
+        pub mod $side {
+            use super::*;
+
+            type Text<const N: usize> = $text;
+
+            /// What the call answers on a case and leaves, as one number, if the side has the call.
+            pub fn answer<const N: usize>(call: &str, case: &Case) -> Option<u64> {
+                let mut text = Page(filled::<Text<N>>(N, &case.held, case.offset));
+                let other = Page(filled::<Text<N>>(N, &case.given, 0));
+                let it = case.given(&mut text.0, &other.0);
+                let answer = match call {
+                    $(stringify!($name) => {
+                        #[inline(never)]
+                        fn measured<const N: usize>($($field: $type),*) -> $answer {
+                            $body
+                        }
+                        told(measured::<N>($(it.$field),*))
+                    })*
+                    _ => return None,
+                };
+                Some(told((answer, &text.0)))
+            }
+        }
+    };
+}
+
+/// A row has the head of a call, its curves (a title, and the case at each length), and how it is made over the strings: by `all`, or by
+/// the `crate`, and by both `peers` or each of them. Without a body for arrayvec it lacks the call.
+macro_rules! calls {
+    ($(fn $name:ident $given:tt -> $answer:ty:
+        $($title:literal: $case:expr,)*
+        $(all => $all:expr,)?
+        $(crate => $crate_body:expr,)?
+        $(peers => $peers:expr,)?
+        $(String => $string:expr,)?
+        $(arrayvec => $arrayvec:expr,)?
+    )*) => {
+        pub const CURVES: &[Curve] = &[$($(Curve { title: $title, call: stringify!($name), make: $case },)*)*];
+
+        side! { of_crate: arraystring::ArrayString<N>;
+            $($($name $given -> $answer = $all;)? $($name $given -> $answer = $crate_body;)?)*
+        }
+        side! { of_string: String; $(
+            $($name $given -> $answer = $all;)? $($name $given -> $answer = $peers;)?
+            $($name $given -> $answer = $string;)?
+        )* }
+        side! { of_arrayvec: arrayvec::ArrayString<N>; $(
+            $($name $given -> $answer = $all;)? $($name $given -> $answer = $peers;)?
+            $($name $given -> $answer = $arrayvec;)?
+        )* }
+    };
+}
+
+calls! {
+    fn as_str(text: &Text<N>) -> &str:
+        "`as_str`": At::text,
+        crate => text.as_str(),
+        peers => text,
+    fn len(text: &Text<N>) -> usize:
+        "`len`": At::text,
+        all => text.len(),
+    fn cmp(text: &Text<N>, other: &Text<N>) -> Ordering:
+        "`cmp`, equal": At::equal,
+        "`cmp`, the first differs": |at| at.differs(0),
+        "`cmp`, the middle differs": |at| at.differs(at.size / 2),
+        "`cmp`, the last differs": At::last_differs,
+        all => text.cmp(other),
+    fn less(text: &Text<N>, other: &Text<N>) -> bool:
+        "`<`, the last differs": At::last_differs,
+        all => text < other,
+    fn eq(text: &Text<N>, other: &Text<N>) -> bool:
+        "`==`, equal": At::equal,
+        "`==`, the last differs": At::last_differs,
+        all => text == other,
+    fn hash(text: &Text<N>) -> u64:
+        "`Hash`": At::text,
+        all => told(text),
+    fn new_try_push_str(held: &str) -> Text<N>:
+        "`new` and `try_push_str`": At::text,
+        all => {
+            let mut text = Text::<N>::with_room(N);
+            text.offer_text(held, N);
+            text
+        },
+    fn try_from_str(held: &str) -> Option<Text<N>>:
+        "`try_from_str`": At::text,
+        crate => Text::try_from_str(held).ok(),
+        String => limited::<N>(held),
+        arrayvec => Text::from(held).ok(),
+    fn from_str_truncate(held: &str) -> Text<N>:
+        "`from_str_truncate`": At::text,
+        crate => Text::from_str_truncate(held),
+        String => limited::<N>(&held[..held.floor_char_boundary(N)]).unwrap_or_default(),
+    fn from_chars_truncate(held: &str) -> Text<N>:
+        "`from_chars_truncate`": At::text,
+        "`from_chars_truncate`, mixed": At::text,
+        crate => Text::from_chars_truncate(held.chars()),
+        String => {
+            let mut text = String::with_capacity(N);
+            held.chars().all(|ch| text.offer_char(ch, N));
+            text
+        },
+    fn try_from_utf8(bytes: &[u8]) -> Option<Text<N>>:
+        "`try_from_utf8`": At::text,
+        "`try_from_utf8`, mixed": At::text,
+        crate => Text::try_from_utf8(bytes).ok(),
+        String => limited::<N>(std::str::from_utf8(bytes).ok()?),
+    fn from_utf16_truncate(units: &[u16]) -> Option<Text<N>>:
+        "`from_utf16_truncate`": At::text,
+        "`from_utf16_truncate`, mixed": At::text,
+        crate => Text::from_utf16_truncate(units).ok(),
+        String => {
+            let mut text = String::with_capacity(N);
+            for ch in char::decode_utf16(units.iter().copied()) {
+                if !text.offer_char(ch.ok()?, N) {
+                    break;
+                }
+            }
+            Some(text)
+        },
+    fn clone(text: &Text<N>) -> Text<N>:
+        "`clone`": At::text,
+        all => Clone::clone(text),
+    fn try_push_str(text: &mut Text<N>, given: &str) -> bool:
+        "`try_push_str`": At::put,
+        all => text.offer_text(given, N),
+    fn push_str_truncate(text: &mut Text<N>, given: &str) -> ():
+        "`push_str_truncate`": At::put,
+        "`push_str_truncate` of too much, mixed": At::put_too_much,
+        all => text.push_what_fits(given, N),
+    fn try_push(text: &mut Text<N>, ch: char) -> bool:
+        "`try_push`": At::room_for_one,
+        "`try_push`, mixed": At::room_for_one,
+        "`try_push`, no room behind": At::no_room_behind,
+        all => text.offer_char(ch, N),
+    fn window(text: &mut Text<N>) -> bool:
+        "window: `remove(0)`, `try_push`": At::window,
+        all => text.remove_first().is_some_and(|ch| text.offer_char(ch, N)),
+    fn line(text: &mut Text<N>, held: &str) -> bool:
+        "line buffer: `clear`, each `try_push`": At::text,
+        all => {
+            text.make_empty();
+            held.chars().all(|ch| text.offer_char(ch, N))
+        },
+    fn lines(text: &mut Text<N>, given: &str, end: usize) -> bool:
+        "lines: `try_push_str`, the first out, four times": At::lines,
+        crate => (0..4).all(|_| text.offer_text(given, N) && text.replace_range(0..end, "").is_ok()),
+        String => (0..4).all(|_| text.offer_text(given, N) && replaced::<N>(text, 0, end, "")),
+    fn try_insert(text: &mut Text<N>, start: usize, ch: char) -> bool:
+        "`try_insert` at the front": |at| Some(Case { start: 0, ..at.room_for_one()? }),
+        "`try_insert`": At::room_for_one,
+        "`try_insert`, mixed": At::room_for_one,
+        "`try_insert`, no room behind": At::no_room_behind,
+        crate => text.try_insert(start, ch).is_ok(),
+        String => has_place::<N>(text, start, ch.len_utf8()).then(|| text.insert(start, ch)).is_some(),
+    fn try_insert_str(text: &mut Text<N>, start: usize, given: &str) -> bool:
+        "`try_insert_str`": At::put,
+        crate => text.try_insert_str(start, given).is_ok(),
+        String => has_place::<N>(text, start, given.len()).then(|| text.insert_str(start, given)).is_some(),
+    fn replace_range(text: &mut Text<N>, start: usize, end: usize, given: &str) -> bool:
+        "`replace_range`": At::put,
+        crate => text.replace_range(start..end, given).is_ok(),
+        String => replaced::<N>(text, start, end, given),
+    fn pop(text: &mut Text<N>) -> Option<char>:
+        "`pop`": At::text,
+        "`pop`, mixed": At::text,
+        all => text.pop(),
+    fn remove(text: &mut Text<N>, start: usize) -> Option<char>:
+        "`remove` at the front": At::front,
+        "`remove` in the middle": At::text,
+        "`remove` in the middle, mixed": At::text,
+        crate => text.remove(start).ok(),
+        peers => (start < text.len() && text.is_char_boundary(start)).then(|| text.remove(start)),
+    fn truncate(text: &mut Text<N>, start: usize) -> bool:
+        "`truncate` to half": At::text,
+        crate => text.truncate(start).is_ok(),
+        peers => text.len() <= start || text.is_char_boundary(start).then(|| text.truncate(start)).is_some(),
+    fn trim_in_place(text: &mut Text<N>) -> ():
+        "`trim_in_place`, half of it spaces": At::spaced,
+        crate => text.trim_in_place(),
+        String => {
+            text.truncate(text.trim_end().len());
+            text.drain(..text.len() - text.trim_start().len());
+        },
+    fn retain(text: &mut Text<N>, ch: char) -> ():
+        "`retain`, one in ten dropped": At::text,
+        "`retain`, one in four dropped, mixed": At::text,
+        crate => text.retain(|it| it != ch),
+        String => text.retain(|it| it != ch),
+    fn split_off(text: &mut Text<N>, start: usize) -> Option<Text<N>>:
+        "`split_off` of half": At::text,
+        crate => text.split_off(start).ok(),
+        String => text.is_char_boundary(start).then(|| text.split_off(start)),
+    fn drain(text: &mut Text<N>, start: usize, end: usize) -> u32:
+        "`drain` of a quarter, at the front": At::front,
+        "`drain` of a quarter, walked": At::text,
+        "`drain` of a quarter, walked, mixed": At::text,
+        crate => text.drain(start..end).map_or(0, sum),
+        String => if has_range(text, start, end) { sum(text.drain(start..end)) } else { 0 },
+    fn drain_back(text: &mut Text<N>, start: usize, end: usize) -> u32:
+        "`drain` of a quarter, walked from the back": At::text,
+        crate => text.drain(start..end).map_or(0, |it| sum(it.rev())),
+        String => if has_range(text, start, end) { sum(text.drain(start..end).rev()) } else { 0 },
+}
+
+impl Case {
+    fn given<'a, T>(&'a self, text: &'a mut T, other: &'a T) -> Given<'a, T> {
+        let Case { held, units, given, ch, start, end, .. } = self;
+        Given { text, other, held, bytes: held.as_bytes(), units, given, ch: *ch, start: *start, end: *end }
+    }
+}
+
+/// A string that holds a text, if it fits, behind so many bytes of its array.
+fn filled<T: Compared>(most: usize, held: &str, offset: usize) -> T {
+    let mut text = T::with_room(most);
+    (0..offset).for_each(|_| _ = text.offer_char('.', most));
+    text.offer_text(held, most);
+    (0..offset).for_each(|_| _ = text.remove_first());
+    text
+}
+
+/// An answer as a number, so that none is thrown away. It has the same hash in Rattle.
+#[inline(always)]
+fn told(answer: impl Hash) -> u64 {
+    let mut hasher = DefaultHasher::new();
+    answer.hash(&mut hasher);
+    hasher.finish()
+}
+
+#[inline(always)]
+fn sum(chars: impl Iterator<Item = char>) -> u32 {
+    chars.fold(0, |sum, ch| sum.wrapping_add(ch as u32))
+}
+
+// What `String` lacks: it holds at most `N` bytes, has that room reserved, and makes the tests that the other sides make.
+
+fn limited<const N: usize>(given: &str) -> Option<String> {
+    (given.len() <= N).then(|| {
+        let mut text = String::with_capacity(N);
+        text.push_str(given);
+        text
+    })
+}
+
+fn has_place<const N: usize>(text: &str, index: usize, added: usize) -> bool {
+    text.len() + added <= N && text.is_char_boundary(index)
+}
+
+fn has_range(text: &str, start: usize, end: usize) -> bool {
+    start <= end && text.is_char_boundary(start) && text.is_char_boundary(end)
+}
+
+fn replaced<const N: usize>(text: &mut String, start: usize, end: usize, given: &str) -> bool {
+    if !has_range(text, start, end) || text.len() - (end - start) + given.len() > N {
+        return false;
+    }
+    text.replace_range(start..end, given);
+    true
 }

@@ -8,33 +8,13 @@ pub mod programs;
 #[cfg(proved)]
 mod proved;
 pub mod rows;
-pub mod sides;
 pub mod sizes;
 pub mod tables;
 pub mod texts;
 
-use arraystring::ArrayString;
-
-use cases::{Call, Case};
-use sides::Limited;
+use cases::Case;
 
 pub const CAPACITIES: [usize; 3] = [23, 63, 255];
-
-/// How the bench itself is built, and the strings with it.
-#[derive(Clone, Copy, PartialEq)]
-pub enum Build {
-    Release,
-    Debug,
-    Checked,
-}
-
-pub const BUILD: Build = if cfg!(debug_assertions) {
-    Build::Debug
-} else if cfg!(feature = "checked") {
-    Build::Checked
-} else {
-    Build::Release
-};
 
 /// Whose string makes a call.
 #[derive(Clone, Copy, Debug, PartialEq)]
@@ -45,31 +25,20 @@ pub enum Side {
     Arrayvec,
 }
 
-/// The sides that are built here, ours first.
-pub const SIDES: &[Side] = &[
-    Side::Crate,
-    #[cfg(proved)]
-    Side::Proved,
-    Side::String,
-    Side::Arrayvec,
-];
+/// The sides, ours first.
+pub const SIDES: [Side; 4] = [Side::Crate, Side::Proved, Side::String, Side::Arrayvec];
 
 impl Side {
     pub fn name(self) -> &'static str {
-        match self {
-            Side::Crate => "crate",
-            Side::Proved => "proved",
-            Side::String => "String",
-            Side::Arrayvec => "arrayvec",
-        }
+        ["crate", "proved", "String", "arrayvec"][self as usize]
     }
 
     pub fn is_ours(self) -> bool {
         matches!(self, Side::Crate | Side::Proved)
     }
 
-    /// What the side answers to a call at a capacity, if it has the call, and what the string is afterwards.
-    pub fn answer(self, capacity: usize, call: Call, case: &Case) -> Option<u64> {
+    /// What the side answers to a call at a capacity and leaves, if it has the call.
+    pub fn answer(self, capacity: usize, call: &str, case: &Case) -> Option<u64> {
         match capacity {
             23 => self.answer_at::<23>(call, case),
             63 => self.answer_at::<63>(call, case),
@@ -78,13 +47,13 @@ impl Side {
         }
     }
 
-    fn answer_at<const N: usize>(self, call: Call, case: &Case) -> Option<u64> {
+    fn answer_at<const N: usize>(self, call: &str, case: &Case) -> Option<u64> {
         match self {
-            Side::Crate => calls::answer::<ArrayString<N>>(call, case, calls::make_any),
-            Side::String => calls::answer::<Limited<N>>(call, case, calls::make_any),
-            Side::Arrayvec => calls::answer::<arrayvec::ArrayString<N>>(call, case, calls::make),
+            Side::Crate => calls::of_crate::answer::<N>(call, case),
+            Side::String => calls::of_string::answer::<N>(call, case),
+            Side::Arrayvec => calls::of_arrayvec::answer::<N>(call, case),
             #[cfg(proved)]
-            Side::Proved => Some(proved::answer::<N>(call, case)),
+            Side::Proved => proved::answer(N, call, case),
             #[cfg(not(proved))]
             Side::Proved => None,
         }
@@ -92,10 +61,10 @@ impl Side {
 }
 
 /// Which sides have a call, all of which have to answer the same.
-pub fn sides_of(capacity: usize, call: Call, case: &Case) -> Vec<Side> {
+pub fn sides_of(capacity: usize, call: &str, case: &Case) -> Vec<Side> {
     let answers: Vec<_> = SIDES.iter().filter_map(|side| Some((*side, side.answer(capacity, call, case)?))).collect();
     let is_same = answers.iter().all(|(_, answer)| *answer == answers[0].1);
-    assert!(is_same, "{call:?} at {capacity} of {:?}, {:?}: {answers:?}", case.held, case.given);
+    assert!(is_same, "{call} at {capacity} of {:?}, {:?}: {answers:?}", case.held, case.given);
     answers.into_iter().map(|(side, _)| side).collect()
 }
 

@@ -4,10 +4,9 @@
 use std::env;
 use std::process::ExitCode;
 
-use bench::{BUILD, Build, count, sizes};
-
-/// The page whose tables are the bounds.
-const PAGE: &str = include_str!("../../docs/speed.md");
+use bench::count::{self, IS_SHIPPED};
+use bench::sizes;
+use bench::tables::{PAGE, Table};
 
 fn main() -> ExitCode {
     let words: Vec<String> = env::args().skip(1).collect();
@@ -21,18 +20,17 @@ fn main() -> ExitCode {
     ExitCode::SUCCESS
 }
 
-/// Prints the tables of this build, and which cells are above those of the page.
+/// Prints the tables of this build, each when it is counted, and which cells are above those of the page.
 fn told(names: &[String]) -> ExitCode {
-    let mut tables = vec![count::calls(names)];
-    if BUILD == Build::Release {
-        tables.extend([count::programs(names), sizes::table(names)]);
-    }
-    let mut faults = Vec::new();
-    for table in tables.iter().filter(|table| !table.rows.is_empty()) {
+    let counts: &[fn(&[String]) -> Table] =
+        if IS_SHIPPED { &[count::calls, count::programs, sizes::table] } else { &[count::calls] };
+    let (mut faults, mut rows) = (Vec::new(), 0);
+    for table in counts.iter().map(|count| count(names)).filter(|table| !table.rows.is_empty()) {
         println!("{}", table.text());
         faults.extend(table.faults(PAGE, names.is_empty()));
+        rows += table.rows.len();
     }
-    if tables.iter().all(|table| table.rows.is_empty()) {
+    if rows == 0 {
         faults.push(format!("no row has one of the names {names:?}"));
     }
     faults.iter().for_each(|fault| eprintln!("above docs/speed.md: {fault}"));

@@ -1,13 +1,11 @@
 //! Small programs over 4,000 rows, words or messages. Each is a function of its own, `.._measured`, whose instructions are counted, and
 //! gives the texts that it makes to its caller.
 
-use std::collections::{BTreeMap, HashMap};
-use std::fmt::{self, Display, Write};
-use std::hash::{BuildHasherDefault, DefaultHasher};
+use std::fmt::{self, Display};
 use std::hint::black_box;
 
 use crate::Side;
-use crate::rows::{self, LINE, LONG, SHORT};
+use crate::rows::{self, CITY, CODE, LINE, LONG, NAME, SHORT};
 use crate::texts::{OfArrayvec, OfCrate, OfString, Text, Texts};
 
 /// Who counts the programs, or compares what they give.
@@ -18,15 +16,18 @@ pub trait Runner {
     fn see(&mut self, text: &str);
 }
 
+/// What a program puts in has room, so that `String` makes no test and reserves nothing.
+const ANY: usize = usize::MAX;
+
 /// A row that was read. Rows are in order by city, name and code.
-#[derive(Clone, PartialEq, Eq, PartialOrd, Ord)]
+#[derive(Debug, PartialEq, Eq, PartialOrd, Ord)]
 struct Row<City, Name, Code> {
     city: City,
     name: Name,
     code: Code,
 }
 
-type RowOf<S> = Row<<S as Texts>::City, <S as Texts>::Name, <S as Texts>::Code>;
+type RowOf<S> = Row<<S as Texts>::Of<CITY>, <S as Texts>::Of<NAME>, <S as Texts>::Of<CODE>>;
 
 #[inline(never)]
 fn read_measured<S: Texts>(lines: &str) -> Vec<RowOf<S>> {
@@ -39,12 +40,7 @@ fn read_measured<S: Texts>(lines: &str) -> Vec<RowOf<S>> {
 fn row_of<S: Texts>(line: &str) -> Option<RowOf<S>> {
     let (name, others) = line.split_once(',')?;
     let (city, code) = others.split_once(',')?;
-    Some(Row { city: Text::of(city), name: Text::of(name), code: Text::of(code) })
-}
-
-#[inline(never)]
-fn clone_measured<S: Texts>(rows: &[RowOf<S>]) -> Vec<RowOf<S>> {
-    rows.to_vec()
+    Some(Row { city: Text::try_of(city, ANY)?, name: Text::try_of(name, ANY)?, code: Text::try_of(code, ANY)? })
 }
 
 #[inline(never)]
@@ -52,51 +48,16 @@ fn sort_measured<S: Texts>(rows: &mut [RowOf<S>]) {
     rows.sort();
 }
 
-/// Which rows each city has, by std's map, whose hashes are the same at each run.
-#[inline(never)]
-fn hash_map_measured<S: Texts>(rows: &[RowOf<S>]) -> HashMap<S::City, Vec<usize>, BuildHasherDefault<DefaultHasher>> {
-    let mut cities = HashMap::<_, Vec<usize>, _>::default();
-    for (at, row) in rows.iter().enumerate() {
-        cities.entry(row.city.clone()).or_default().push(at);
-    }
-    cities
-}
-
-/// The same, with the cities in order.
-#[inline(never)]
-fn btree_map_measured<S: Texts>(rows: &[RowOf<S>]) -> BTreeMap<S::City, Vec<usize>> {
-    let mut cities = BTreeMap::<_, Vec<usize>>::default();
-    for (at, row) in rows.iter().enumerate() {
-        cities.entry(row.city.clone()).or_default().push(at);
-    }
-    cities
-}
-
-#[inline(never)]
-fn print_measured<S: Texts>(rows: &[RowOf<S>], runner: &mut impl Runner) {
-    let mut line = S::Line::empty();
-    for (at, Row { city, name, code }) in rows.iter().enumerate() {
-        line.make_empty();
-        writeln!(line, "{at}: {name} of {city}, code {code}").expect("it fits");
-        runner.see(&line);
-    }
-}
-
-#[inline(never)]
-fn keys_measured<T: Text>(words: &[String]) -> Vec<T> {
-    words.iter().map(|word| T::of(word)).collect()
-}
-
 /// A buffer that each character of a line is pushed to, and that is cleared at its end.
 #[inline(never)]
 fn line_buffer_measured<T: Text>(lines: &str, runner: &mut impl Runner) {
-    let mut line = T::empty();
+    let mut line = T::with_room(0);
     for ch in lines.chars() {
         if ch == '\n' {
             runner.see(&line);
             line.make_empty();
         } else {
-            line.push_char(ch);
+            assert!(line.offer_char(ch, ANY));
         }
     }
 }
@@ -104,22 +65,21 @@ fn line_buffer_measured<T: Text>(lines: &str, runner: &mut impl Runner) {
 /// A line of a log that is kept: it is cleared, and what fits of a message is put behind a prefix.
 #[inline(never)]
 fn kept_line_measured<T: Text>(prefix: &str, messages: &[String], runner: &mut impl Runner) {
-    let mut line = T::empty();
-    for message in messages {
-        line.make_empty();
-        line.push_text(prefix);
-        line.push_what_fits(message, LINE);
-        runner.see(&line);
-    }
+    keep_line::<T>(prefix, messages, runner);
 }
 
 /// The same behind a prefix that the compiler knows.
 #[inline(never)]
 fn constant_prefix_measured<T: Text>(messages: &[String], runner: &mut impl Runner) {
-    let mut line = T::empty();
+    keep_line::<T>(PREFIX, messages, runner);
+}
+
+#[inline(always)]
+fn keep_line<T: Text>(prefix: &str, messages: &[String], runner: &mut impl Runner) {
+    let mut line = T::with_room(0);
     for message in messages {
         line.make_empty();
-        line.push_text(PREFIX);
+        assert!(line.offer_text(prefix, ANY));
         line.push_what_fits(message, LINE);
         runner.see(&line);
     }
@@ -127,8 +87,8 @@ fn constant_prefix_measured<T: Text>(messages: &[String], runner: &mut impl Runn
 
 #[inline(never)]
 fn log_line<T: Text>(message: &str) -> T {
-    let mut line = T::empty();
-    line.push_text(PREFIX);
+    let mut line = T::with_room(0);
+    assert!(line.offer_text(PREFIX, ANY));
     line.push_what_fits(message, LINE);
     line
 }
@@ -142,7 +102,7 @@ fn made_lines_measured<T: Text>(messages: &[String], runner: &mut impl Runner) {
 /// The last characters of a text. For each that does not fit, the first leave.
 #[inline(never)]
 fn window_measured<T: Text>(characters: &str) -> T {
-    let mut window = T::empty();
+    let mut window = T::with_room(0);
     for ch in characters.chars() {
         while !window.offer_char(ch, LONG) {
             window.remove_first();
@@ -152,7 +112,7 @@ fn window_measured<T: Text>(characters: &str) -> T {
 }
 
 /// Why a word becomes no string.
-#[derive(Clone, Copy, PartialEq)]
+#[derive(Debug)]
 enum Refused {
     TooLong,
     Empty,
@@ -185,32 +145,21 @@ fn word_if_no_option<T: Text>(word: &str, most: usize) -> Result<T, Refused> {
 
 /// Each word that is one. Four functions hand a `Result` of it on.
 #[inline(never)]
-pub fn results_measured<T: Text>(words: &[String], most: usize, runner: &mut impl Runner) {
+fn results_measured<T: Text>(words: &[String], most: usize, runner: &mut impl Runner) {
     words.iter().for_each(|word| match word_if_no_option::<T>(word, most) {
         Ok(text) => runner.see(&text),
-        Err(refused) => runner.see(refused.name()),
+        Err(refused) => runner.see(&format!("{refused:?}")),
     });
-}
-
-impl Refused {
-    fn name(self) -> &'static str {
-        match self {
-            Refused::TooLong => "too long",
-            Refused::Empty => "empty",
-            Refused::Remark => "a remark",
-            Refused::Option => "an option",
-        }
-    }
 }
 
 /// Two digits for each byte.
 #[inline(never)]
 fn digits<T: Text>(bytes: &[u8]) -> T {
     let digit = |number: u8| char::from(b"0123456789abcdef"[usize::from(number)]);
-    let mut digits = T::empty();
+    let mut digits = T::with_room(0);
     for byte in bytes {
-        digits.push_char(digit(byte >> 4));
-        digits.push_char(digit(byte & 15));
+        assert!(digits.offer_char(digit(byte >> 4), ANY));
+        assert!(digits.offer_char(digit(byte & 15), ANY));
     }
     digits
 }
@@ -220,136 +169,77 @@ fn hex_measured<T: Text>(words: &[String], runner: &mut impl Runner) {
     words.iter().for_each(|word| runner.see(&digits::<T>(word.as_bytes())));
 }
 
-/// An error that a program shows.
-struct Unknown<'a> {
-    line: usize,
-    word: &'a str,
-}
+/// An error that a program shows: a line, and its word.
+struct Unknown<'a>(usize, &'a str);
 
 impl Display for Unknown<'_> {
     fn fmt(&self, f: &mut fmt::Formatter<'_>) -> fmt::Result {
-        write!(f, "line {}: unknown word `{}`", self.line, self.word)
+        write!(f, "line {}: unknown word `{}`", self.0, self.1)
     }
 }
 
 #[inline(never)]
 fn error_text<T: Text>(error: &Unknown) -> T {
-    let mut text = T::empty();
+    let mut text = T::with_room(0);
     write!(text, "{error}").expect("it fits");
     text
 }
 
 #[inline(never)]
 fn errors_measured<T: Text>(words: &[String], runner: &mut impl Runner) {
-    let errors = words.iter().enumerate().map(|(line, word)| Unknown { line, word });
+    let errors = words.iter().enumerate().map(|(line, word)| Unknown(line, word));
     errors.for_each(|error| runner.see(&error_text::<T>(&error)));
 }
 
 /// 26 bytes.
-pub const PREFIX: &str = "2026-11-29T12:00:00Z INFO ";
-
-/// What the programs are run on.
-pub struct Given {
-    pub lines: String,
-    pub characters: String,
-    pub short: Vec<String>,
-    pub long: Vec<String>,
-    pub line: Vec<String>,
-    pub messages: Vec<String>,
-}
-
-impl Default for Given {
-    fn default() -> Self {
-        let lines = rows::lines();
-        Given {
-            characters: lines.chars().take(rows::ROWS).collect(),
-            lines,
-            short: rows::words(1, SHORT),
-            long: rows::words(1, LONG),
-            line: rows::words(1, LINE),
-            messages: rows::words(LINE + 1, 2 * LINE),
-        }
-    }
-}
+const PREFIX: &str = "2026-11-29T12:00:00Z INFO ";
 
 /// Runs each program over the strings of a side, if it has them.
-pub fn run_all(side: Side, given: &Given, runner: &mut impl Runner) {
+pub fn run_all(side: Side, runner: &mut impl Runner) {
     match side {
-        Side::Crate => run_over::<OfCrate>(given, runner),
-        Side::String => run_over::<OfString>(given, runner),
-        Side::Arrayvec => run_over::<OfArrayvec>(given, runner),
+        Side::Crate => run_over::<OfCrate>(runner),
+        Side::String => run_over::<OfString>(runner),
+        Side::Arrayvec => run_over::<OfArrayvec>(runner),
         Side::Proved => {}
     }
 }
 
-fn run_over<S: Texts>(given: &Given, runner: &mut impl Runner) {
-    run_rows::<S>(black_box(given), runner);
-    run_lines::<S>(black_box(given), runner);
-    run_words::<S>(black_box(given), runner);
-}
-
-fn see_rows<S: Texts>(rows: &[RowOf<S>], runner: &mut impl Runner) {
-    for Row { city, name, code } in rows {
-        runner.see(name);
-        runner.see(city);
-        runner.see(code);
-    }
-}
-
-fn see_groups<'a>(groups: impl Iterator<Item = (&'a str, &'a Vec<usize>)>, runner: &mut impl Runner) {
-    groups.for_each(|(city, rows)| runner.see(&format!("{city} {rows:?}")));
-}
-
-fn run_rows<S: Texts>(Given { lines, .. }: &Given, runner: &mut impl Runner) {
-    runner.begin("rows: read from lines");
-    let rows = read_measured::<S>(lines);
-    see_rows::<S>(&rows, runner);
-    runner.begin("rows: cloned");
-    let mut others = clone_measured::<S>(&rows);
-    see_rows::<S>(&others, runner);
-    runner.begin("rows: sorted");
-    sort_measured::<S>(&mut others);
-    see_rows::<S>(&others, runner);
-    runner.begin("rows: grouped in a `HashMap`");
-    let cities = hash_map_measured::<S>(&rows);
-    let mut groups: Vec<_> = cities.iter().map(|(city, rows)| (&**city, rows)).collect();
-    groups.sort();
-    see_groups(groups.into_iter(), runner);
-    runner.begin("rows: grouped in a `BTreeMap`");
-    let cities = btree_map_measured::<S>(&rows);
-    see_groups(cities.iter().map(|(city, rows)| (&**city, rows)), runner);
-    runner.begin("rows: printed by `writeln!`");
-    print_measured::<S>(&rows, runner);
-}
-
-fn run_lines<S: Texts>(Given { lines, characters, line, messages, .. }: &Given, runner: &mut impl Runner) {
-    runner.begin("line buffer of 255: each character pushed, and cleared");
-    line_buffer_measured::<S::Line>(lines, runner);
-    runner.begin("log line of 255 that is kept: cut behind a prefix");
-    kept_line_measured::<S::Line>(black_box(PREFIX), messages, runner);
-    runner.begin("log line of 255 that is kept: behind a constant, most fit");
-    constant_prefix_measured::<S::Line>(line, runner);
-    runner.begin("log line of 255 that a function makes: behind a constant, most fit");
-    made_lines_measured::<S::Line>(line, runner);
-    runner.begin("window of 63: refused, the first out, pushed");
-    runner.see(&window_measured::<S::Long>(characters));
-}
-
-fn run_words<S: Texts>(Given { short, long, line, .. }: &Given, runner: &mut impl Runner) {
-    runner.begin("keys of 23: collected into a `Vec`");
-    keys_measured::<S::Short>(short).iter().for_each(|key| runner.see(key));
-    runner.begin("keys of 63: collected into a `Vec`");
-    keys_measured::<S::Long>(long).iter().for_each(|key| runner.see(key));
-    runner.begin("keys of 255: collected into a `Vec`");
-    keys_measured::<S::Line>(line).iter().for_each(|key| runner.see(key));
+fn run_over<S: Texts>(runner: &mut impl Runner) {
+    let lines = black_box(rows::lines());
+    let [short, long, line] = [SHORT, LONG, LINE].map(|most| black_box(rows::words(1, most)));
+    run_rows::<S>(&lines, runner);
+    run_lines::<S>(&lines, &line, runner);
     runner.begin("`Result` of 23: by four functions");
-    results_measured::<S::Short>(short, SHORT, runner);
+    results_measured::<S::Of<SHORT>>(&short, black_box(SHORT), runner);
     runner.begin("`Result` of 63: by four functions");
-    results_measured::<S::Long>(long, LONG, runner);
+    results_measured::<S::Of<LONG>>(&long, black_box(LONG), runner);
     runner.begin("`Result` of 255: by four functions");
-    results_measured::<S::Line>(line, LINE, runner);
+    results_measured::<S::Of<LINE>>(&line, black_box(LINE), runner);
     runner.begin("hex writer: two digits for each of up to 23 bytes, in 63");
-    hex_measured::<S::Long>(short, runner);
+    hex_measured::<S::Of<LONG>>(&short, runner);
     runner.begin("error text of 255: a `Display` printed into a new string");
-    errors_measured::<S::Line>(long, runner);
+    errors_measured::<S::Of<LINE>>(&long, runner);
+}
+
+fn run_rows<S: Texts>(lines: &str, runner: &mut impl Runner) {
+    runner.begin("rows: read from lines");
+    let mut rows = read_measured::<S>(lines);
+    runner.see(&format!("{rows:?}"));
+    runner.begin("rows: sorted");
+    sort_measured::<S>(&mut rows);
+    runner.see(&format!("{rows:?}"));
+}
+
+fn run_lines<S: Texts>(lines: &str, messages: &[String], runner: &mut impl Runner) {
+    runner.begin("line buffer of 255: each character pushed, and cleared");
+    line_buffer_measured::<S::Of<LINE>>(lines, runner);
+    runner.begin("log line of 255 that is kept: cut behind a prefix");
+    kept_line_measured::<S::Of<LINE>>(black_box(PREFIX), &black_box(rows::words(LINE + 1, 2 * LINE)), runner);
+    runner.begin("log line of 255 that is kept: behind a constant, most fit");
+    constant_prefix_measured::<S::Of<LINE>>(messages, runner);
+    runner.begin("log line of 255 that a function makes: behind a constant, most fit");
+    made_lines_measured::<S::Of<LINE>>(messages, runner);
+    runner.begin("window of 63: refused, the first out, pushed");
+    let characters: String = lines.chars().take(rows::ROWS).collect();
+    runner.see(&window_measured::<S::Of<LONG>>(&characters));
 }

@@ -1,13 +1,14 @@
 //! The calls of the proved build, which crates/bench_calls has.
 
-use crate::cases::{Call, Case};
+use crate::cases::Case;
 
 #[link(name = "bench_calls", kind = "static")]
 unsafe extern "C" {
     /// A slice is a pointer and a length there.
     fn proved_answer(
         capacity: usize,
-        call: u8,
+        call: *const u8,
+        call_len: usize,
         held: *const u8,
         held_len: usize,
         offset: usize,
@@ -21,14 +22,15 @@ unsafe extern "C" {
     ) -> u64;
 }
 
-/// What the call answers, and what the string is afterwards.
-pub fn answer<const N: usize>(call: Call, case: &Case) -> u64 {
+/// What the call answers and leaves, or nothing where it has none of this name.
+pub fn answer(capacity: usize, call: &str, case: &Case) -> Option<u64> {
     let Case { held, offset, units, given, ch, start, end } = case;
     // SAFETY: each slice is a pointer with its length, and the call reads no more of it.
-    unsafe {
+    let told = unsafe {
         proved_answer(
-            N,
-            call as u8,
+            capacity,
+            call.as_ptr(),
+            call.len(),
             held.as_ptr(),
             held.len(),
             *offset,
@@ -40,5 +42,6 @@ pub fn answer<const N: usize>(call: Call, case: &Case) -> u64 {
             *start as u8,
             *end as u8,
         )
-    }
+    };
+    (told != 0).then_some(told)
 }

@@ -6,7 +6,7 @@ use std::fs;
 use std::path::{Path, PathBuf};
 use std::process::Command;
 
-use crate::tables::{Numbers, Row, Table};
+use crate::tables::Table;
 use crate::{SIDES, Side, is_asked};
 
 const LEVELS: [&str; 3] = ["3", "s", "z"];
@@ -42,7 +42,7 @@ fn source(side: Side) -> Option<PathBuf> {
     }
 }
 
-/// The bytes of the code of a library, which has to export all of its calls.
+/// The bytes of the code of a library.
 fn text_bytes(folder: &Path, level: &str, side: Side, calls: usize, capacities: usize) -> f64 {
     let library = folder.join("calls.so");
     let mut command = rustc(level, &Path::new(env!("CARGO_MANIFEST_DIR")).join("library_of_calls.rs"));
@@ -53,42 +53,39 @@ fn text_bytes(folder: &Path, level: &str, side: Side, calls: usize, capacities: 
         command.arg("--extern").arg(format!("strings={}", folder.join("libstrings.rlib").display()));
     }
     printed(&mut command);
-    let symbols = printed(Command::new("nm").args(["--dynamic", "--defined-only"]).arg(&library));
-    let exported = symbols.lines().filter(|line| line.contains(" T ")).count();
-    assert_eq!(exported, calls * capacities, "a library over {} exports all of its calls", side.name());
     let sections = printed(Command::new("size").arg("-A").arg(&library));
     let text = sections.lines().find_map(|line| line.strip_prefix(".text ")).expect("it has code");
     text.split_whitespace().next().and_then(|it| it.parse().ok()).expect("a section has a size")
 }
 
-/// The bytes of the calls of a side at each level. `String` is one type at all capacities.
-fn sizes(folder: &Path, level: &str, side: Side, asked: &[(usize, usize)]) -> Vec<f64> {
+/// Compiles the crate that a library of calls of a side is over.
+fn compile(folder: &Path, level: &str, side: Side) {
     if let Some(source) = source(side) {
         let edition = if side == Side::Crate { "2024" } else { "2018" };
         let mut command = rustc(level, &source);
         command.args(["--crate-type=rlib", "--crate-name=strings", "--edition", edition, "--out-dir"]).arg(folder);
         printed(&mut command);
     }
-    let of = |calls, capacities| text_bytes(folder, level, side, calls, capacities);
-    let empty = of(3, 0);
-    asked.iter().map(|&(calls, all)| of(calls, if side == Side::String { 1 } else { all }) - empty).collect()
 }
 
-/// The bytes of code of each library that is asked for.
+/// The bytes of code of each library that is asked for. `String` is one type at all capacities.
 pub fn table(names: &[String]) -> Table {
-    let title = |(calls, capacities): &(usize, usize)| format!("calls: {calls}, capacities: {capacities}");
-    let asked: Vec<_> = LIBRARIES.into_iter().filter(|it| is_asked(&title(it), names)).collect();
-    let mut rows: Vec<Row> =
-        asked.iter().map(|it| Row { title: title(it), cells: vec![Numbers::new(); SIDES.len()] }).collect();
-    if !asked.is_empty() {
-        let folder = env::temp_dir().join(format!("bench-sizes-{}", std::process::id()));
-        fs::create_dir_all(&folder).expect("there is room for it");
-        for (place, side) in SIDES.iter().enumerate().filter(|(_, side)| **side != Side::Proved) {
-            for bytes in LEVELS.map(|level| sizes(&folder, level, *side, &asked)) {
-                rows.iter_mut().zip(bytes).for_each(|(row, bytes)| row.cells[place].push(bytes));
+    let title = |(calls, capacities)| format!("calls: {calls}, capacities: {capacities}");
+    let asked: Vec<_> = LIBRARIES.into_iter().filter(|it| is_asked(&title(*it), names)).collect();
+    let titles: Vec<String> = asked.iter().map(|it| title(*it)).collect();
+    let folder = env::temp_dir().join(format!("bench-sizes-{}", std::process::id()));
+    fs::create_dir_all(&folder).expect("there is room for it");
+    let mut counted = Vec::new();
+    for level in LEVELS {
+        for side in SIDES.into_iter().filter(|side| *side != Side::Proved && !asked.is_empty()) {
+            compile(&folder, level, side);
+            let empty = text_bytes(&folder, level, side, 3, 0);
+            for ((calls, capacities), title) in asked.iter().zip(&titles) {
+                let capacities = if side == Side::String { 1 } else { *capacities };
+                counted.push((title.as_str(), side, text_bytes(&folder, level, side, *calls, capacities) - empty));
             }
         }
-        fs::remove_dir_all(folder).expect("it is there");
     }
-    Table { title: "Bytes of code, at the levels 3/s/z", rows }
+    fs::remove_dir_all(folder).expect("it is there");
+    Table::of("Bytes of code, at the levels 3/s/z", counted)
 }

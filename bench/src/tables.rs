@@ -2,13 +2,16 @@
 
 use crate::{SIDES, Side};
 
+/// The page whose tables are the bounds.
+pub const PAGE: &str = include_str!("../../docs/speed.md");
+
 /// What a side takes at each capacity or level; nothing, where it lacks the call.
 pub type Numbers = Vec<f64>;
 
 /// A title, and the numbers of each of `SIDES`.
 pub struct Row {
     pub title: String,
-    pub cells: Vec<Numbers>,
+    pub cells: [Numbers; SIDES.len()],
 }
 
 pub struct Table {
@@ -17,21 +20,16 @@ pub struct Table {
 }
 
 /// Whether a number is more than another, a tenth and three.
-pub fn is_more(number: f64, other: f64) -> bool {
+fn is_more(number: f64, other: f64) -> bool {
     number > other * 1.1 + 3.0
 }
 
 impl Row {
-    /// The least of the peers at one place of the cells.
-    fn best(&self, place: usize) -> Option<f64> {
-        let peers = SIDES.iter().zip(&self.cells).filter(|(side, _)| !side.is_ours());
-        peers.filter_map(|(_, numbers)| numbers.get(place).copied()).reduce(f64::min)
-    }
-
     /// Whether each number of a side is behind the best peer.
     fn behind(&self, numbers: &Numbers) -> Vec<bool> {
-        let is_behind = |(place, number): (usize, &f64)| self.best(place).is_some_and(|best| is_more(*number, best));
-        numbers.iter().enumerate().map(is_behind).collect()
+        let peers = SIDES.iter().zip(&self.cells).filter(|(side, _)| !side.is_ours()).map(|(_, numbers)| numbers);
+        let best = |place| peers.clone().filter_map(|numbers| numbers.get(place).copied()).reduce(f64::min);
+        numbers.iter().enumerate().map(|(place, one)| best(place).is_some_and(|best| is_more(*one, best))).collect()
     }
 
     /// Numbers as a cell, bold where ours is behind.
@@ -46,6 +44,19 @@ impl Row {
 }
 
 impl Table {
+    /// The table of what was counted: the title of a row, a side, and its next number.
+    pub fn of<'a>(title: &'static str, counted: impl IntoIterator<Item = (&'a str, Side, f64)>) -> Table {
+        let mut rows: Vec<Row> = Vec::new();
+        for (title, side, number) in counted {
+            let at = rows.iter().position(|row| row.title == title).unwrap_or_else(|| {
+                rows.push(Row { title: title.to_string(), cells: Default::default() });
+                rows.len() - 1
+            });
+            rows[at].cells[side as usize].push(number);
+        }
+        Table { title, rows }
+    }
+
     /// The sides that have a number here.
     fn sides(&self) -> impl Iterator<Item = (usize, Side)> {
         let has = |(place, _): &(usize, Side)| self.rows.iter().any(|row| !row.cells[*place].is_empty());
@@ -97,7 +108,7 @@ fn cells(line: &str) -> Vec<&str> {
 }
 
 /// The names of the columns and the rows of a page's table, without the line below its head.
-fn table_of<'a>(page: &'a str, title: &str) -> (Vec<&'a str>, Vec<Vec<&'a str>>) {
+pub fn table_of<'a>(page: &'a str, title: &str) -> (Vec<&'a str>, Vec<Vec<&'a str>>) {
     let mut lines = page.lines().skip_while(|line| cells(line)[0] != title).take_while(|line| line.starts_with('|'));
     let columns = lines.next().map(cells).unwrap_or_default();
     (columns, lines.skip(1).map(cells).collect())
