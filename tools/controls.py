@@ -6,7 +6,7 @@ right body of the same form is refused, too.
 tools/run controls [CRATE..]             those of these crates, or of all
 tools/run controls CRATE --edits NAME    of the function NAME alone, and its wrong bodies, with what refuses each
 
-It is run when a control is written, and before a release; docs/trust.md has the day of the last whole run. How a wrong body and
+It is run when a control is written, and before a release; CONTRIBUTING.md has the day of the last whole run. How a wrong body and
 its control are written, the head of tools/edits.py says.
 
 Each is checked in a copy of the repository among the temporary files, with what earlier checks kept in out/; no other `rt` may

@@ -302,7 +302,7 @@ fn what_is_written_for_the_crate_before() -> Result<(), Error> {
     s = Name::try_from_str("abcdef")?;
     assert_eq!((run!(here, s.insert_str_truncate(at, text)?), s.as_str()), ("€🤔", "aébcdef"));
     s.clear();
-    run!(here, s.try_push_str(&string)).unwrap();
+    run!(here, s.try_push_str(string.as_ref())?);
     let text = "ab";
     run!(here, s.try_push_str(text)?);
     run!(here, s.try_insert_str(at, text)?);
