@@ -1,5 +1,6 @@
 //! Callers with texts that are cut, filled up, counted, or of which each piece has a bound, on values worked out by hand.
 use crate::checks::{agree, check_made};
+use arraystring::ArrayString;
 use arraystring_recipes::counts::count_of;
 use arraystring_recipes::fills::{filled_up, plain_start};
 use arraystring_recipes::headings::heading;
