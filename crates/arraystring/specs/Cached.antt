@@ -1,2 +1,2 @@
--- The names of arraystring.specs.InnerResult, and behind `as` those that they had, which stay until the next release.
+-- The names of `arraystring.specs.InnerResult`. What stands after `as` is an old name, which stays until the next release.
 pub use Rattle.arraystring.specs.InnerResult.{inner_result, inner_result as held}

@@ -1,2 +1,2 @@
--- The names of arraystring_core.specs.Taken, and behind `as` those that they had, which stay until the next release.
+-- The names of `arraystring_core.specs.Taken`. What stands after `as` is an old name, which stays until the next release.
 pub use Rattle.arraystring_core.specs.Taken.{joined_texts, joined_texts as joined, piece_text, joined_pieces, IsFirstPast, TakesAll, Takes, Fits, Gives}

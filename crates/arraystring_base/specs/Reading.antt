@@ -11,23 +11,23 @@ is_high unit = nat_le 0xD800 unit && nat_lt unit 0xDC00
 abbrev pub is_low : ℕ → Bool
 is_low unit = nat_le 0xDC00 unit && nat_lt unit 0xE000
 
--- the character of a pair
+-- the character of a pair of a high and a low surrogate
 abbrev pub pair_character : ℕ → ℕ → ℕ
 pair_character high low = 0x1_0000 + ((high - 0xD800) * 0x400 + (low - 0xDC00))
 
--- the item of a unit that is no part of a pair
+-- a unit that is no part of a pair, as an item: `Lone` if it is a surrogate, and else `Char`
 unfoldable pub single_item : ℕ → Unit16
 single_item unit = if nat_le 0xD800 unit && nat_lt unit 0xE000 then Lone unit else Char unit
 
--- what a unit and the items behind it are read as: the character of a pair, if the unit is a high surrogate and the first item a lone
--- low one, and else the item of the unit before these items
+-- the reading of a unit and of what comes behind it, which is read as `items` already. If the unit is a high surrogate and the first of
+-- the items a lone low one, both become one character. Else the item of the unit is put before the items
 unfoldable pub read_before : ℕ → List Unit16 → List Unit16
 read_before unit [] = single_item unit ∷ []
 read_before unit (Char c ∷ items) = single_item unit ∷ Char c ∷ items
 read_before unit (Lone next ∷ items) =
     if is_high unit && is_low next then Char (pair_character unit next) ∷ items else single_item unit ∷ Lone next ∷ items
 
--- the reading of the units, found from the last on
+-- the reading of units: the last is read first, and each other is put before what is read of those behind it
 abbrev pub reading : List ℕ → List Unit16
 reading [] = []
 reading (unit ∷ units) = read_before unit (reading units)

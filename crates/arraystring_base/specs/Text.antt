@@ -15,7 +15,7 @@ IsText (c ∷ cs) = IsScalarValue c × IsText cs
 unfoldable pub width : ℕ → ℕ
 width c = if nat_lt c 0x80 then 1 else if nat_lt c 0x800 then 2 else if nat_lt c 0x1_0000 then 3 else 4
 
--- a byte that continues a character, with the last six bits of `bits`
+-- a byte of UTF-8 that is not the first of its character: it holds the last six bits of `bits`
 abbrev pub continuation : ℕ → ℕ
 continuation bits = 0x80 + bits % 64
 

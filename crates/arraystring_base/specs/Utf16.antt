@@ -24,7 +24,7 @@ abbrev pub text_units : List ℕ → List ℕ
 text_units [] = []
 text_units (c ∷ cs) = utf16 c ++ text_units cs
 
--- an item is a scalar value or a surrogate
+-- an item has what its case says: a `Char` a scalar value, and a `Lone` a surrogate
 abbrev pub IsItem : Unit16 → Type 0
 IsItem (Char c) = IsScalarValue c
 IsItem (Lone unit) = (0xD800 ≤ unit) × (unit < 0xE000)
@@ -44,22 +44,24 @@ abbrev pub NoPairApart : List Unit16 → Type 0
 NoPairApart items =
     (before after : List Unit16) (high low : ℕ) → items ≡ before ++ Lone high ∷ Lone low ∷ after → IsHigh high → IsLow low → ⊥
 
--- the items are a reading of the units: the items' units, joined, are these, and no pair is read as two lone surrogates (3.9); units
--- below 0x10000 have exactly one reading (`only_reading`), and that of the units of a text is its characters (`text_reading`)
+-- the items are a reading of the units: the units of all items, joined, are these units, and no pair is read as two lone surrogates
+-- (3.9). Units below 0x10000 have exactly one reading (`only_reading`). For the units of a text it is the characters of the text
+-- (`text_reading`)
 pub record IsReading (units : List ℕ) (items : List Unit16) : Type 0 where
   pub each_unit : All (λ unit. unit < 0x1_0000) units
   pub each_item : All IsItem items
   pub joined : units ≡ joined_units items
   pub apart : NoPairApart items
 
--- where items stop if their characters are taken as long as they fit: the characters that were taken, and by its case what comes right
--- after them: nothing (`End`), a lone surrogate (`Fault`), or a character that no longer fits (`Full`)
+-- where a call stops that takes characters from items as long as they fit. A stop has the characters that were taken, and its case says
+-- what comes right behind them: nothing (`End`), a lone surrogate (`Fault`), or a character that no longer fits (`Full`)
 pub data Stop : Type 0 where
   End : List ℕ → Stop
   Fault : List ℕ → Stop
   Full : List ℕ → Stop
 
--- this is where the items stop at n bytes: they begin with the prefix, which fits, and a character right after it does not fit
+-- this is the stop in these items, with room for n bytes: they begin with its characters, which fit, and what comes right behind them
+-- is what its case says
 abbrev pub StopsAt : List Unit16 → ℕ → Stop → Type 0
 StopsAt items n (End prefix) = (items ≡ map Char prefix) × (size prefix ≤ n)
 StopsAt items n (Fault prefix) =
@@ -67,7 +69,7 @@ StopsAt items n (Fault prefix) =
 StopsAt items n (Full prefix) =
     (c : ℕ) × (rest : List Unit16) × (items ≡ map Char prefix ++ Char c ∷ rest) × (size prefix ≤ n) × (n < size prefix + width c)
 
--- the same kind of stop, with a character put before its prefix
+-- a stop of the same case, with the character c put before those that were taken
 abbrev pub prepend_to_stop : ℕ → Stop → Stop
 prepend_to_stop c (End prefix) = End (c ∷ prefix)
 prepend_to_stop c (Fault prefix) = Fault (c ∷ prefix)
@@ -79,11 +81,11 @@ first_stop [] n = End []
 first_stop (Lone unit ∷ items) n = Fault []
 first_stop (Char c ∷ items) n = if nat_le (width c) n then prepend_to_stop c (first_stop items (n - width c)) else Full []
 
--- an item as a character, with U+FFFD for a lone surrogate
+-- an item as a character: a lone surrogate becomes U+FFFD
 abbrev pub char_or_replacement : Unit16 → ℕ
 char_or_replacement (Char c) = c
 char_or_replacement (Lone unit) = 0xFFFD
 
--- the items as a text, each lone surrogate as U+FFFD (3.9)
+-- items as a text: each lone surrogate becomes U+FFFD (3.9)
 abbrev pub lossy_text : List Unit16 → List ℕ
 lossy_text items = map char_or_replacement items

@@ -122,8 +122,8 @@ pub fn found_first(text: &str, c: char, place: Option<usize>)
         × (back (chars text.now) i ≡ c ∷ after_first (λ d. d == c) (chars text.now))) }
 {}
 
-/// `str::split_once` splits a text where the character first stands. If it returns `None`, the character is
-/// not in the text.
+/// What `text.split_once(c)` returned: the parts before and behind the first place where the character
+/// stands, or `None` if the character is not in the text.
 ///
 /// # Precondition
 ///

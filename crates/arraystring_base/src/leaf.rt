@@ -25,7 +25,7 @@ pub fn byte(bytes: &[u8], at: usize) -> u8
     bytes[at]
 }
 
-/// Writes the `K` bytes of an array into `all`, from index `at` of `all` on. `put_bytes` writes those of a vector.
+/// Writes the `K` bytes of an array into `all`, from index `at` of `all` on. `put_vector` writes those of a vector.
 #[inline(always)]
 pub(crate) fn put_array<const K: usize>(all: &mut [u8], at: usize, bytes: [u8; K])
     requires { at + K ≤ length all.old }
@@ -47,7 +47,7 @@ pub fn part(bytes: &[u8], start: usize, len: usize) -> &[u8]
     &bytes[start..start + len]
 }
 
-/// Makes a..z among the bytes from `start` to `end` A..Z. No other byte changes.
+/// Turns each byte a..z from `start` to `end` into the capital letter. No other byte changes.
 ///
 /// # Precondition
 ///
@@ -62,7 +62,7 @@ pub fn make_upper(all: &mut [u8], start: usize, end: usize)
     all[start..end].make_ascii_uppercase();
 }
 
-/// Makes A..Z among the bytes from `start` to `end` a..z. No other byte changes.
+/// Turns each byte A..Z from `start` to `end` into the small letter. No other byte changes.
 ///
 /// # Precondition
 ///
@@ -103,8 +103,8 @@ pub fn text_from(text: &str, start: usize) -> &str
     &text[start..]
 }
 
-/// Moves `len` bytes by `shift`, for what runs seldom. (In Rust this is one `memmove` at any length, because the tests
-/// of the length are more code than its call. Here it is inlined, because a call would cost more than the tests.)
+/// Moves `len` bytes by `shift`, for what runs seldom. (In Rust this is one `memmove` at any length, because its call is
+/// less code than the tests of the length in `shift`. Here `shift` is inlined, because a call would cost more.)
 #[inline(always)]
 pub(crate) fn move_bytes<const N: usize>(array: &mut [u8; N], from: usize, to: usize, len: usize)
     requires source { from + len ≤ N }
@@ -115,8 +115,8 @@ pub(crate) fn move_bytes<const N: usize>(array: &mut [u8; N], from: usize, to: u
     shift(array, from, to, len, &mut Steps::new());
 }
 
-/// Moves `len` bytes: 16 or more, and at most `N`. The branches for sizes above `N` are left out. (In Rust this is one
-/// `memmove`. The kit has none that is fast, so here the bytes go through vectors.)
+/// Moves `len` bytes: 16 or more, and at most `N`. The compiler leaves out the branches for sizes above `N`. (In Rust
+/// this is one `memmove`. The kit has none that is fast, so here the bytes go through vectors.)
 #[inline(always)]
 pub(crate) fn move_long_run<const N: usize>(all: &mut [u8], from: usize, to: usize, len: usize)
     requires source { from + len ≤ length all.old }
@@ -151,10 +151,10 @@ fn move_pairs<const K: usize>(all: &mut [u8], from: usize, to: usize, len: usize
         ≡ take to all.old ++ (take len (drop from all.old) ++ drop (to + len) all.old) }
 {
     let rest = len - (K + K);
-    let front = bytes_of::<K>(all, from);
-    let after_front = bytes_of::<K>(all, from + K);
-    let before_end = bytes_of::<K>(all, from + rest);
-    let end = bytes_of::<K>(all, from + rest + K);
+    let front = vector_at::<K>(all, from);
+    let after_front = vector_at::<K>(all, from + K);
+    let before_end = vector_at::<K>(all, from + rest);
+    let end = vector_at::<K>(all, from + rest + K);
     put_pair(all, to, front, after_front);
     put_pair(all, to + rest, before_end, end);
 }
@@ -169,9 +169,9 @@ pub(crate) fn write_bytes(all: &mut [u8], given: &[u8], at: usize)
     all[at..at + given.len()].copy_from_slice(given);
 }
 
-/// The `K` bytes of `given` from `at` on.
+/// The `K` bytes of `given` from index `at` on, as a vector.
 #[inline(always)]
-pub(crate) fn bytes_of<const K: usize>(given: &[u8], at: usize) -> Simd<u8, K>
+pub(crate) fn vector_at<const K: usize>(given: &[u8], at: usize) -> Simd<u8, K>
     requires { at + K ≤ length given.now }
     ensures { result ≡ take K (drop at given.now) }
 {
@@ -180,14 +180,14 @@ pub(crate) fn bytes_of<const K: usize>(given: &[u8], at: usize) -> Simd<u8, K>
 
 /// Writes the `K` bytes of a vector into `all`, from index `at` of `all` on.
 #[inline(always)]
-pub(crate) fn put_bytes<const K: usize>(all: &mut [u8], at: usize, bytes: Simd<u8, K>)
+pub(crate) fn put_vector<const K: usize>(all: &mut [u8], at: usize, bytes: Simd<u8, K>)
     requires { at + K ≤ length all.old }
     ensures { all.new ≡ take at all.old ++ (bytes.entry ++ drop (at + K) all.old) }
 {
     bytes.copy_to_slice(&mut all[at..at + K]);
 }
 
-/// Writes `2 * K` bytes from `at` on.
+/// Writes the `2 * K` bytes of two vectors into `all`, from index `at` on.
 #[tactic(auto, using(crate::proofs::MoveLemmas::written_as_one))]
 #[inline(always)]
 fn put_pair<const K: usize>(all: &mut [u8], at: usize, first: Simd<u8, K>, second: Simd<u8, K>)
@@ -195,6 +195,6 @@ fn put_pair<const K: usize>(all: &mut [u8], at: usize, first: Simd<u8, K>, secon
     ensures { all.new
         ≡ take at all.old ++ ((first.entry ++ second.entry) ++ drop (at + (K + K)) all.old) }
 {
-    put_bytes(all, at, first);
-    put_bytes(all, at + K, second);
+    put_vector(all, at, first);
+    put_vector(all, at + K, second);
 }

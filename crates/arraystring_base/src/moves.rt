@@ -8,7 +8,7 @@
 //! writes 16 bytes or more by a call, of `write_bytes`, which takes a slice and so stands once in a program.
 ghost use Rattle.std.specs.Prelude.{◌≡◌, ◌+◌, ◌-◌, ◌^◌, ◌==◌, if◌then◌else◌, ◌≤◌, ◌<◌, ◌++◌, length, take, drop};
 
-use crate::leaf::{bytes_of, move_bytes, move_long_run, put_bytes, write_bytes};
+use crate::leaf::{move_bytes, move_long_run, put_vector, vector_at, write_bytes};
 use crate::steps::Steps;
 
 /// Moves `len` bytes of the array from the offset `from` to the offset `to`; the two runs may
@@ -105,10 +105,10 @@ pub(crate) fn move_ends<const K: usize>(all: &mut [u8], from: usize, to: usize, 
         ≡ take to all.old ++ (take len (drop from all.old) ++ drop (to + len) all.old) }
 {
     let rest = len - K;
-    let first = bytes_of::<K>(all, from);
-    let last = bytes_of::<K>(all, from + rest);
-    put_bytes(all, to, first);
-    put_bytes(all, to + rest, last);
+    let first = vector_at::<K>(all, from);
+    let last = vector_at::<K>(all, from + rest);
+    put_vector(all, to, first);
+    put_vector(all, to + rest, last);
 }
 
 /// Writes `given` over the bytes of the array from the offset `at` on. No other byte changes.
@@ -176,8 +176,8 @@ fn copy_ends<const K: usize>(all: &mut [u8], at: usize, given: &[u8])
     ensures { all.new ≡ take at all.old ++ (given.now ++ drop (at + length given.now) all.old) }
 {
     let rest = given.len() - K;
-    let first = bytes_of::<K>(given, 0);
-    let last = bytes_of::<K>(given, rest);
-    put_bytes(all, at, first);
-    put_bytes(all, at + rest, last);
+    let first = vector_at::<K>(given, 0);
+    let last = vector_at::<K>(given, rest);
+    put_vector(all, at, first);
+    put_vector(all, at + rest, last);
 }

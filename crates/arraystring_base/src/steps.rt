@@ -3,7 +3,7 @@ ghost use Rattle.std.specs.Prelude.{◌≡◌, ◌+◌, ◌-◌, ◌^◌, ◌<�
 
 use std::marker::Model;
 
-/// Most programs need no counter. A `Steps` counts the looks and the moves of calls that end in `_counted`.
+/// Most programs need no counter. A `Steps` counts the looks and the moves of calls whose names end in `_counted`.
 /// A look is one call of `look`. A move is one byte that `shift` takes to another offset.
 /// Bytes that a call reads without `look` are not counted.
 ///
@@ -51,7 +51,7 @@ impl Steps {
         }
     }
 
-    /// Returns how many looks were counted.
+    /// Returns how many looks were counted. A look is one call of `look`.
     ///
     /// # Examples
     ///
@@ -67,7 +67,7 @@ impl Steps {
         self.looked
     }
 
-    /// Returns how many moves were counted.
+    /// Returns how many moves were counted. A move is one byte that `shift` takes to another offset.
     ///
     /// # Examples
     ///

@@ -1,4 +1,4 @@
--- Laws of edits: when a cause holds, and what an edit then does.
+-- Laws of edits: when a test holds, and what an edit then does.
 use Rattle.std.proofs.Common.{◌≡◌, ℕ, ◌+◌, ◌<◌, ◌≤◌, List, [], ◌∷◌, ◌++◌, ap, arith, suc, true, false, refl, Some, None, Result, Ok, Err}
 use Rattle.std.proofs.lemmas.Bool.{lt-ltb, le-ltb, and_right}
 use Rattle.std.proofs.Math.Bool.{or_assoc, or-false}

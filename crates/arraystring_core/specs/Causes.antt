@@ -4,7 +4,7 @@ use Rattle.arraystring_base.specs.Text.{size, boundary}
 use Rattle.arraystring_base.specs.declared.error.Error.{Error}
 use Rattle.arraystring_base.specs.declared.error.Error.TheVariants as error
 
--- why an edit is refused: an index that is not in the text (`Past`), a result that does not fit (`Room`), or an index inside a
+-- why an edit is refused: an index or a range that is not in the text (`Past`), a result that does not fit (`Room`), or an index inside a
 -- character (`Inside`)
 pub data Cause : Type 0 where
   Past : Cause
@@ -17,32 +17,32 @@ error_of Past = error.OutOfBounds
 error_of Room = error.OutOfBounds
 error_of Inside = error.Utf8
 
--- a cause, and whether it holds
+-- a test: whether it holds, so that the edit is refused, and the cause that it gives then
 pub record Test : Type 0 where
   pub holds : Bool
   pub cause : Cause
 
--- i is greater than the size of t
+-- the test that i is past t: greater than its size
 abbrev pub past_text : List ℕ → ℕ → Test
 past_text t i = record { holds = nat_lt (size t) i; cause = Past }
 
--- a range that ends before it starts
+-- the test that a range ends before it starts
 abbrev pub reversed_range : ℕ → ℕ → Test
 reversed_range start end = record { holds = nat_lt end start; cause = Past }
 
--- no character of t begins at i or after it
+-- the test that no character of t begins at i or after it
 abbrev pub at_end : List ℕ → ℕ → Test
 at_end t i = record { holds = nat_le (size t) i; cause = Past }
 
--- i is not past the text and no boundary of it
+-- the test that i is inside a character of t: not past t, and no boundary
 abbrev pub inside_character : List ℕ → ℕ → Test
 inside_character t i = record { holds = nat_lt i (size t) && not (boundary t i); cause = Inside }
 
--- a result of this size does not fit into n bytes
+-- the test that a result of this size does not fit into n bytes
 abbrev pub no_room : ℕ → ℕ → Test
 no_room result_size n = record { holds = nat_lt n result_size; cause = Room }
 
--- the cause of the first test that holds
+-- the cause that the first test that holds gives; none if no test holds
 abbrev pub first_cause : List Test → Option Cause
 first_cause [] = None
 first_cause (test ∷ rest) = if test.holds then Some test.cause else first_cause rest

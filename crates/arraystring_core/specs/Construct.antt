@@ -5,6 +5,6 @@ use Rattle.arraystring_base.specs.declared.error.Error.{Error}
 use Rattle.arraystring_base.specs.declared.error.Error.TheVariants as error
 use Rattle.arraystring_core.specs.Stored.{Stored}
 
--- the whole text t if it fits into n bytes, and else `OutOfBounds`
+-- the result is a string with the whole text t if t fits into n bytes, and else the error `OutOfBounds`
 abbrev pub IsWholeOrRefused : List ℕ → ℕ → Result Stored Error → Type 0
 IsWholeOrRefused t n result = MatchResult result (λ s. (size t ≤ n) × (s.text ≡ t)) (λ e. (n < size t) × (e ≡ error.OutOfBounds))

@@ -5,22 +5,22 @@ use Rattle.arraystring_base.specs.declared.error.Error.{Error}
 use Rattle.arraystring_core.specs.Stored.{Stored}
 use Rattle.arraystring_core.specs.Edits.{first_of, last_of, all_but_last}
 
--- the characters that are left (`left_fits`); and what no public clause names: the characters that were given from the front, and the
--- numbers that `Stored` also has, from which the fields of a `Drain` can be computed
+-- `left`: the characters that are left (`left_fits`). No public clause names the other two, which are there so that the fields of a
+-- `Drain` can be computed: `yielded`, the characters that were given from the front, and `spare`, the numbers that `Stored` also has
 pub record Drained : Type 0 where
   pub left : List ℕ
   pub yielded : List ℕ
   pub spare : List ℕ
 
--- a drain of the removed string of which the part before the boundary i was given from the front, so that the part from i on is left
+-- the drain that gave from the front what the removed string has before the boundary i, so that the part from i on is left
 abbrev pub drain_from : Stored → ℕ → Drained
 drain_from removed i = record { left = back removed.text i; yielded = front removed.text i; spare = removed.spare }
 
--- the string of which a drain is left: its text is what was given from the front, and then what is left
+-- the removed string without what was given from the back: its text is what was given from the front, and then what is left
 abbrev pub removed_of : Drained → Stored
 removed_of d = record { text = d.yielded ++ d.left; spare = d.spare }
 
--- the result of `drain` in the form that `Makes` has: by the characters that are left
+-- the result of `drain`, with the characters that are left in place of the `Drain`, as `Makes` takes it
 abbrev pub with_left : Result Drained Error → Result (List ℕ) Error
 with_left (Ok d) = Ok d.left
 with_left (Err e) = Err e
@@ -30,23 +30,24 @@ pub data End : Type 0 where
   Front : End
   Back : End
 
--- what a walk gave from the front and from the back, each in the order in which it was given, and what it left
+-- what a walk over a drain gave from the front (`fronts`) and from the back (`backs`), each in the order in which it was given, and the
+-- characters that it left (`left`)
 pub record Walked : Type 0 where
   pub fronts : List ℕ
   pub left : List ℕ
   pub backs : List ℕ
 
--- a walk, with this character, if there is one, as the first that it gave from the front
+-- the walk w, with one more character, if there is one, put first among those from the front
 abbrev pub from_front : Option ℕ → Walked → Walked
 from_front None w = w
 from_front (Some c) w = record { fronts = c ∷ w.fronts; left = w.left; backs = w.backs }
 
--- a walk, with this character, if there is one, as the first that it gave from the back
+-- the walk w, with one more character, if there is one, put first among those from the back
 abbrev pub from_back : Option ℕ → Walked → Walked
 from_back None w = w
 from_back (Some c) w = record { fronts = w.fronts; left = w.left; backs = c ∷ w.backs }
 
--- the walk that takes a character of t from each of these ends in turn, as long as there is one (`walks`)
+-- the walk over the characters t that takes one from each of these ends in turn, as long as one is left (`walks`)
 abbrev pub walk_of : List End → List ℕ → Walked
 walk_of [] t = record { fronts = []; left = t; backs = [] }
 walk_of (Front ∷ ends) t = from_front (first_of t) (walk_of ends (drop 1 t))

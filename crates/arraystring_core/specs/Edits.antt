@@ -14,47 +14,50 @@ pub use Rattle.arraystring_core.specs.Held.{NoneHolds, FirstHolds}
 pub use Rattle.arraystring_core.specs.Parts.{first_of, last_of, all_but_last, without_leading, without_trailing, part, part_in}
 unfoldable pub use Rattle.arraystring_core.specs.WhiteSpace.{is_space, in_ranges, is_white_space}
 
--- one row: what is tested in turn, and what comes of the edit if no cause holds
+-- one row of the table of edits (docs/trust.md): the tests in their order, and, if no test holds, what the edit returns and the text
+-- after it
 pub record Edit (A : Type 0) : Type 0 where
   pub tests : List Test
   pub result : A
   pub after : List ℕ
 
--- the error of the cause, or the value if there is none
+-- the error of the cause, or the value if there is no cause
 abbrev pub ok_unless : {A : Type 0} → Option Cause → A → Result A Error
 ok_unless None value = Ok value
 ok_unless (Some cause) value = Err (error_of cause)
 
--- the result of the edit, or the error of the first cause that holds
+-- what the edit returns: its result if no test holds, and else the error of the first test that holds
 abbrev pub result_of : {A : Type 0} → Edit A → Result A Error
 result_of edit = ok_unless (first_cause edit.tests) edit.result
 
--- the text that the edit leaves of t: t itself if a cause holds
+-- the text that the edit leaves: its own text if no test holds, and else t, the text before
 abbrev pub text_of : {A : Type 0} → Edit A → List ℕ → List ℕ
 text_of edit t = if is_none (first_cause edit.tests) then edit.after else t
 
--- the result is the row's, or the error of its first cause; the text after is the row's, or t after a refusal
+-- a call made the edit on the text t. If no test holds, it returned the result of the edit and left the text of the edit. Else it
+-- returned the error of the first test that holds, and left t
 pub record Makes {A : Type 0} (edit : Edit A) (t : List ℕ) (result : Result A Error) (new : List ℕ) : Type 0 where
   pub returns : result ≡ result_of edit
   pub ok : OnOk result (new ≡ edit.after)
   pub err : OnErr result (new ≡ t)
 
--- the result, in the form that `Makes` has, of a call whose one error is `OutOfBounds`
+-- the result of a call whose only error is `OutOfBounds`, with that error as a case of `Error`, as `Makes` takes it
 abbrev pub from_out_of_bounds : {A : Type 0} → Result A OutOfBounds → Result A Error
 from_out_of_bounds (Ok value) = Ok value
 from_out_of_bounds (Err e) = Err error.OutOfBounds
 
--- the result, in the form that `Makes` has, of `write_str`, whose one error is that of std's `fmt`: it says that the text does not fit
+-- the result of `write_str`, with its `fmt::Error` of std, which says here that the text does not fit, as a case of `Error`, as `Makes`
+-- takes it
 abbrev pub from_fmt_error : {A : Type 0} → Result A FmtError → Result A Error
 from_fmt_error (Ok value) = Ok value
 from_fmt_error (Err e) = Err error.OutOfBounds
 
--- the result, in the form that `Makes` has, of a call whose one error is `Utf8`
+-- the result of a call whose only error is `Utf8`, with that error as a case of `Error`, as `Makes` takes it
 abbrev pub from_utf8_error : {A : Type 0} → Result A Utf8 → Result A Error
 from_utf8_error (Ok value) = Ok value
 from_utf8_error (Err e) = Err error.Utf8
 
--- the result, in the form that `Makes` has, of a call that returns a string: by the text of the string
+-- the result of a call that returns a string, with the text in place of the string, as `Makes` takes it
 abbrev pub with_text : Result Stored Error → Result (List ℕ) Error
 with_text (Ok s) = Ok s.text
 with_text (Err e) = Err e
@@ -89,16 +92,16 @@ insertion_of_cut t i given n = record {
   after = front t i ++ (cut given (n - size t) ++ back t i);
 }
 
--- the part from i on is dropped; nothing is if i is past the text
+-- the part from i on is dropped; if i is past the text, nothing is dropped
 abbrev pub truncation : List ℕ → ℕ → Edit (Unit {0})
 truncation t i = record { tests = inside_character t i ∷ []; result = tt; after = front t i }
 
--- the characters at both ends that pass are dropped
+-- at both ends the characters for which `passes` is true are dropped, up to the first for which it is false
 abbrev pub trimming : (ℕ → Bool) → List ℕ → Edit (Unit {0})
 trimming passes t = record { tests = []; result = tt; after = without_leading passes (without_trailing passes t) }
 
--- the character that begins at i is taken out and returned; the last 0 of `result` is for an index at which none begins, and no call
--- returns it, because `at_end` holds there
+-- the character that begins at i is taken out and returned. (The last 0 in `result` stands for an index at which no character begins. No
+-- call returns it, because a test holds there)
 abbrev pub removal : List ℕ → ℕ → Edit ℕ
 removal t i = record {
   tests = at_end t i ∷ inside_character t i ∷ [];

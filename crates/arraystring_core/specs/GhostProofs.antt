@@ -32,7 +32,8 @@ module _ {array_size : ℕ} {array : List ℕ} {start n : ℕ} (is : IsStored ar
       ∙ ap (λ b. front ++ (b ++ back)) stored-bytes
       ∙ ap (λ d. front ++ d) (take-append-drop n (drop start array)) ∙ take-append-drop start array
 
--- the same of a drain: the removed string, the size of what was given from the front, the array, and the size of the removed text
+-- from what a contract sees of a drain can be computed: the removed string, the size of what was given from the front, the array, and the
+-- size of the removed text
 module _ {array_size : ℕ} {array : List ℕ} {start n i : ℕ} (is : IsDrained array_size array start n i) where
   drained-removed : removed_of (drain_from (string_in array start n) i) ≡ string_in array start n
   drained-removed = ap with_spare (front-back (string_in array start n).text i)

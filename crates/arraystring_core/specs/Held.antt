@@ -7,7 +7,7 @@ abbrev pub NoneHolds : List Test → Type 0
 NoneHolds [] = ⊤
 NoneHolds (test ∷ rest) = (test.holds ≡ false) × NoneHolds rest
 
--- the cause is that of the first test that holds
+-- some test holds, and `found` is the cause that the first of them gives
 abbrev pub FirstHolds : List Test → Cause → Type 0
 FirstHolds [] found = ⊥
 FirstHolds (test ∷ rest) found = ((test.holds ≡ true) × (found ≡ test.cause)) ⊎ ((test.holds ≡ false) × FirstHolds rest found)

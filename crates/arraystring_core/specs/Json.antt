@@ -6,24 +6,24 @@ use Rattle.arraystring_base.specs.Text.{bytes, cut, size}
 use Rattle.arraystring_core.specs.declared.integration.ValueError.{ValueError}
 use Rattle.arraystring_core.specs.declared.integration.ValueError.TheVariants.{NotText, OutOfBounds}
 
--- the JSON string of t, from which t is read back (`json_reads_back`, `json_reads_whole`)
+-- the JSON string whose text is t (it is read back as t: `json_reads_back`, `json_reads_whole`)
 abbrev pub json_text : List ℕ → Data
 json_text t = string (bytes t)
 
--- the text of a JSON string, cut to n bytes; none if the value is no string
+-- the text of a JSON value, cut to n bytes; `None` if the value is no string
 abbrev pub text_within : Data → ℕ → Option (List ℕ)
 text_within value n = option_map (λ given. cut (chars given) n) (as_str value)
 
--- the text of a JSON string, all of it; none if the value is no string
+-- the text of a JSON value, all of it; `None` if the value is no string
 abbrev pub whole_text : Data → Option (List ℕ)
 whole_text value = option_map chars (as_str value)
 
--- why what a JSON value gives is not taken whole into n bytes: there is no text, or it is larger
+-- why the text of a JSON value, which is `given`, is not taken whole into n bytes: there is no text, or it is larger
 abbrev pub IsWhyRefused : Option (List ℕ) → ℕ → ValueError → Type 0
 IsWhyRefused given n NotText = given ≡ None
 IsWhyRefused given n OutOfBounds = IsSomeAnd given (λ t. n < size t)
 
--- the name of the case of a refusal
+-- the name under which a `ValueError` is printed
 abbrev pub value_error_name : ValueError → List ℕ
 value_error_name NotText = codes "NotText"
 value_error_name OutOfBounds = codes "OutOfBounds"

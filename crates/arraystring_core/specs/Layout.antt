@@ -11,22 +11,23 @@ string_in array start n = record {
   spare = start ∷ (take start array ++ drop n (drop start array));
 }
 
--- what holds of every string: an array of `array_size` bytes, of which the n from `start` on are UTF-8 and end within the capacity
+-- what holds of every string: its array has `array_size` bytes, and the n bytes from `start` on, its text, are UTF-8 and end within the
+-- capacity
 pub record IsStored (array_size : ℕ) (array : List ℕ) (start n : ℕ) : Type 0 where
   pub within : start + n ≤ cap array_size
   pub length : length array ≡ array_size
   pub utf8 : ∥ IsUtf8 (take n (drop start array)) ∥₁
 
--- what holds of every `Drain`: the n bytes of the array from `start` on are the removed text, without what was given from the
--- back, and i is a boundary of it
+-- what holds of every `Drain`: the n bytes of its array from `start` on are the removed text, without what was given from the back, and
+-- i, before which lies what was given from the front, is a boundary of that text
 pub record IsDrained (array_size : ℕ) (array : List ℕ) (start n i : ℕ) : Type 0 where
   pub in_array : IsStored array_size array start n
   pub at : IsTrue (boundary (string_in array start n).text i)
 
--- the start offset of a string, computed from what a contract sees of it
+-- the offset in its array at which the text of a string starts, computed from what a contract sees of the string
 abbrev pub start_of : Stored → ℕ
 start_of v = slice_index v.spare 0
 
--- the array of a string, put together from what a contract sees of it
+-- the array of a string, put together from what a contract sees of the string
 abbrev pub array_of : Stored → List ℕ
 array_of v = take (start_of v) (drop 1 v.spare) ++ (bytes v.text ++ drop (start_of v) (drop 1 v.spare))

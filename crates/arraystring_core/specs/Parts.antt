@@ -1,5 +1,5 @@
--- The characters and parts of a text: its first and last character, what stands between two boundaries, and what is left without
--- the characters at an end that pass.
+-- The characters and parts of a text: its first and last character, what stands between two boundaries, and what is left if the
+-- characters at an end for which a test is true are dropped.
 use Rattle.std.specs.Prelude.{ℕ, List, [], ◌∷◌, Bool, ◌&&◌, Option, Some, None, if◌then◌else◌, nat_le, reverse}
 use Rattle.arraystring_base.specs.Text.{front, back, boundary}
 
@@ -14,18 +14,18 @@ last_of [] = None
 last_of (c ∷ []) = Some c
 last_of (c ∷ d ∷ ds) = last_of (d ∷ ds)
 
--- the characters before the last
+-- the text without its last character
 abbrev pub all_but_last : List ℕ → List ℕ
 all_but_last [] = []
 all_but_last (c ∷ []) = []
 all_but_last (c ∷ d ∷ ds) = c ∷ all_but_last (d ∷ ds)
 
--- a text without the characters at its start that pass
+-- a text without the characters at its start for which `passes` is true, up to the first for which it is false
 abbrev pub without_leading : (ℕ → Bool) → List ℕ → List ℕ
 without_leading passes [] = []
 without_leading passes (c ∷ cs) = if passes c then without_leading passes cs else c ∷ cs
 
--- a text without the characters at its end that pass
+-- a text without the characters at its end for which `passes` is true, back to the last for which it is false
 abbrev pub without_trailing : (ℕ → Bool) → List ℕ → List ℕ
 without_trailing passes t = reverse (without_leading passes (reverse t))
 
@@ -33,6 +33,6 @@ without_trailing passes t = reverse (without_leading passes (reverse t))
 abbrev pub part : List ℕ → ℕ → ℕ → List ℕ
 part t start end = back (front t end) start
 
--- the part in a range, if there is one: both ends are boundaries, and in order
+-- the part in a range, or `None` if the range ends before it starts, or if an end of the range is no boundary
 abbrev pub part_in : List ℕ → ℕ → ℕ → Option (List ℕ)
 part_in t start end = if nat_le start end && (boundary t start && boundary t end) then Some (part t start end) else None

@@ -3,8 +3,8 @@ use Rattle.std.specs.Prelude.{◌≡◌, ℕ, ◌+◌, min}
 use Rattle.std.specs.declared.ops.Bound.{Bound}
 use Rattle.std.specs.declared.ops.Bound.TheVariants.{Included, Excluded, Unbounded}
 
--- a claim holds of the bounds that the methods of a range return: its own if it `has_bounds`, else unknown ones (an inclusive range
--- that was iterated to its end has none, nor has a range type that does not say which it has)
+-- `claim` holds of the two bounds that the methods of a range return. They are `start_of` and `end_of` of the range if it `has` bounds,
+-- and else unknown (an inclusive range that was iterated to its end has none, nor has a range type whose contract names none)
 pub record OfReturnedBounds {R : Type 0} (has : R → Type 0) (start_of end_of : R → Bound ℕ) (range : R)
     (claim : Bound ℕ → Bound ℕ → Type 0) : Type 0 where
   pub start : Bound ℕ
@@ -12,14 +12,14 @@ pub record OfReturnedBounds {R : Type 0} (has : R → Type 0) (start_of end_of :
   pub returned : has range → (start ≡ start_of range) × (end ≡ end_of range)
   pub holds : claim start end
 
--- the start as `drain` and `replace_range` read it: one more for an excluded one, at most 255; the other calls read std's
--- `start_index` and `end_index`, without that limit
+-- the start as `drain` and `replace_range` read it: an excluded start counts as the next index, but as 255 at most. (The other calls
+-- read std's `start_index` and `end_index`, which have no such limit)
 abbrev pub saturated_start : Bound ℕ → ℕ
 saturated_start (Included a) = a
 saturated_start (Excluded a) = min (a + 1) 255
 saturated_start Unbounded = 0
 
--- the end as they read it in a text of `len` bytes: one more for an included one, at most 255
+-- the end as `drain` and `replace_range` read it in a text of `len` bytes: an included end counts as the next index, but as 255 at most
 abbrev pub saturated_end : Bound ℕ → ℕ → ℕ
 saturated_end (Included b) len = min (b + 1) 255
 saturated_end (Excluded b) len = b

@@ -1,13 +1,13 @@
 -- What a contract sees of an `ArrayString`.
 use Rattle.std.specs.Prelude.{ℕ, List, []}
 
--- the characters of the text; and numbers that stand for all else that a string has, so that its fields can be computed from this
--- record. No public clause names the numbers
+-- `text`: the characters of the text. `spare`: numbers from which, together with the text, the fields of a string can be computed. No
+-- public clause names them
 pub record Stored : Type 0 where
   pub text : List ℕ
   pub spare : List ℕ
 
--- a value with the text t and an empty spare, for laws and examples that name only the text. No string has an empty spare: its first
--- number is the start
+-- a value with the text t and an empty spare, for laws and examples that name only the text. No string has an empty spare, because its
+-- spare begins with the offset at which the text starts
 abbrev pub string_of : List ℕ → Stored
 string_of t = record { text = t; spare = [] }

@@ -17,19 +17,19 @@ piece_text piece = chars piece.now
 abbrev pub joined_pieces : List (Bor (List ℕ)) → List ℕ
 joined_pieces pieces = joined_texts (map piece_text pieces)
 
--- the last item is the first that no longer fits into the room; `spelled` is the text of items
+-- the last of the items does not fit into the room behind those before it, which fit; `spelled` makes the text of items
 abbrev pub IsFirstPast : {A : Type 0} → (List A → List ℕ) → ℕ → List A → Type 0
 IsFirstPast {A} spelled room items = (before : List A) × (last : A) × (items ≡ before ++ last ∷ [])
     × (size (spelled before) ≤ room) × (room < size (spelled items))
 
--- `becomes` says which iterators what is passed in may become, and `steps` what one call of `next` may give
+-- `becomes` says into which iterators the value that is passed in may turn, and `steps` what one call of `next` may give
 module _ {U T A : Type 0} (becomes : U → T → Type 0) (steps : T → Option A → T → Type 0) where
-  -- the items are all that come
+  -- the items are all that come: the iterator gives them, and then `None`
   abbrev pub TakesAll : U → List A → Type 0
   TakesAll iter items = (it : T) × becomes iter it × Drains steps it items
 
-  -- the items are all that come, and fit into the room, or all up to the first that no longer fits, and with it
-  -- (`what_comes_past_the_room`)
+  -- the items that a call takes: all that come, if they fit into the room, and else those up to the first that no longer fits, which is
+  -- among them (`what_comes_past_the_room`)
   abbrev pub Takes : (List A → List ℕ) → U → ℕ → List A → Type 0
   Takes spelled iter room items = (it : T) × becomes iter it
       × ((Drains steps it items × (size (spelled items) ≤ room)) ⊎ ((rest : T) × Yields steps it items rest × IsFirstPast spelled room items))
@@ -38,6 +38,6 @@ module _ {U T A : Type 0} (becomes : U → T → Type 0) (steps : T → Option A
   abbrev pub Fits : (List A → List ℕ) → U → ℕ → Type 0
   Fits spelled iter room = (it : T) → becomes iter it → (items : List A) (rest : T) → Yields steps it items rest → size (spelled items) ≤ room
 
-  -- the items that come are all known: `value` takes them to `all`
+  -- all items that come are known: `all` is the list of their values, which `value` tells
   abbrev pub Gives : {B : Type 0} → (A → B) → U → List B → Type 0
   Gives value iter all = (it : T) → becomes iter it → AlwaysYields steps value it all

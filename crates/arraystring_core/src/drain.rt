@@ -1,4 +1,5 @@
-//! `Drain`: the characters that were removed from a string, from both ends. `traits` has its impls of traits.
+//! `Drain`: gives the characters that were removed from a string, from the front or from the back. `traits` has its
+//! impls of traits.
 ghost use Rattle.std.specs.Prelude.{◌≡◌, ◌≤◌, chars};
 ghost use Rattle.arraystring_base.specs.Text.{bytes, cap, size, IsText};
 ghost use Rattle.arraystring_core.specs.Layout.{string_in, IsStored};

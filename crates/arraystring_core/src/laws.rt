@@ -30,7 +30,7 @@ pub fn text_fits<const N: usize>(string: &ArrayString<N>)
     let _ = string.len();
 }
 
-/// The UTF-8 of a string's text, read as characters, is that text.
+/// The UTF-8 of the text of a string, read as characters, is the text again.
 #[inline]
 #[tactic(auto, using(crate::proofs::StoredLaws::text_spelled))]
 pub fn text_spelled<const N: usize>(string: &ArrayString<N>)
@@ -40,7 +40,7 @@ pub fn text_spelled<const N: usize>(string: &ArrayString<N>)
     let _ = string.as_str();
 }
 
-/// A drain, as an iterator, gives the characters that are left.
+/// A `Drain` as an iterator gives exactly the characters that are left.
 #[tactic(auto, using(crate::proofs::TakenLaws::drain_gives))]
 #[inline]
 pub fn left_given<const N: usize>(drained: &Drain<N>)

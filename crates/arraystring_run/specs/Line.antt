@@ -55,17 +55,17 @@ arguments (command.ReplaceRange start end given) = Number start ∷ Number end �
 arguments (command.Get start end) = Number start ∷ Number end ∷ []
 arguments _ = []
 
--- ASCII digits, 0 to 9
+-- each byte is an ASCII digit, 0 to 9
 abbrev pub AreDigits : List ℕ → Type 0
 AreDigits [] = ⊤
 AreDigits (b ∷ bs) = (0x30 ≤ b) × (b ≤ 0x39) × AreDigits bs
 
--- the number that is written as the digits of n and then these
+-- the number whose digits are those of n and then these bytes
 abbrev pub value_after : ℕ → List ℕ → ℕ
 value_after n [] = n
 value_after n (b ∷ bs) = value_after (n * 10 + (b - 0x30)) bs
 
--- one to three digits, of value n, which is at most 255; leading zeros are allowed
+-- the bytes are one to three digits that write the number n, which is at most 255; leading zeros are allowed
 pub record IsNumber (bs : List ℕ) (n : ℕ) : Type 0 where
   pub some : 1 ≤ length bs
   pub short : length bs ≤ 3
@@ -73,7 +73,7 @@ pub record IsNumber (bs : List ℕ) (n : ℕ) : Type 0 where
   pub value : n ≡ value_after 0 bs
   pub small : n ≤ 255
 
--- the bytes spell an argument: a number's digits, the UTF-8 of a character, or a text as it is
+-- the bytes spell an argument: they are the digits of a number, the UTF-8 of a character, or the bytes of a text
 abbrev pub IsSpelled : List ℕ → Argument → Type 0
 IsSpelled bs (Number n) = IsNumber bs n
 IsSpelled bs (Character c) = IsScalarValue c × (bs ≡ utf8 c)
@@ -83,7 +83,7 @@ IsSpelled bs (Text given) = IsWellFormed given × (bs ≡ given)
 abbrev pub space : ℕ
 space = 0x20
 
--- the bytes are the arguments, each spelled behind one space, and nothing else
+-- the bytes are one space and the spelling of an argument, for each of the arguments, and nothing else
 abbrev pub AreSpelled : List ℕ → List Argument → Type 0
 AreSpelled bs [] = bs ≡ []
 AreSpelled bs (a ∷ rest) =
@@ -93,18 +93,18 @@ AreSpelled bs (a ∷ rest) =
 abbrev pub IsLineOf : List ℕ → Command → Type 0
 IsLineOf bs c = (rest : List ℕ) × (bs ≡ word c ++ rest) × AreSpelled rest (arguments c)
 
--- the bytes of an argument, a number as it is printed
+-- the bytes that spell an argument; a number has no leading zeros
 abbrev pub spelling : Argument → List ℕ
 spelling (Number n) = decimal n
 spelling (Character c) = utf8 c
 spelling (Text given) = given
 
--- the bytes of arguments, each after one space
+-- the bytes that spell arguments, each after one space
 abbrev pub spellings : List Argument → List ℕ
 spellings [] = []
 spellings (a ∷ rest) = space ∷ (spelling a ++ spellings rest)
 
--- the line of a command, without leading zeros (`each_command_has_a_line`)
+-- the line of a command whose numbers have no leading zeros (`each_command_has_a_line`)
 abbrev pub line_of : Command → List ℕ
 line_of c = word c ++ spellings (arguments c)
 
@@ -115,11 +115,11 @@ AreArguments (Number n ∷ rest) = (n ≤ 255) × AreArguments rest
 AreArguments (Character c ∷ rest) = IsScalarValue c × AreArguments rest
 AreArguments (Text given ∷ rest) = IsWellFormed given × AreArguments rest
 
--- no byte is a space; no bytes at all are one word, too
+-- no byte is a space, as in one word (an empty list of bytes is one word, too)
 abbrev pub IsOneWord : List ℕ → Type 0
 IsOneWord [] = ⊤
 IsOneWord (b ∷ bs) = (b ≢ space) × IsOneWord bs
 
--- a number, one space, and then the rest
+-- the bytes are the digits of the number n, one space, and then the rest
 abbrev pub IsNumberBefore : List ℕ → ℕ → List ℕ → Type 0
 IsNumberBefore bs n rest = (digits : List ℕ) × IsNumber digits n × (bs ≡ digits ++ space ∷ rest)

@@ -1,4 +1,4 @@
--- Scripts that were played, to their end or not.
+-- What is promised of a script that was played, to its end or not.
 use Rattle.std.specs.Prelude.{◌≡◌, ◌≢◌, ℕ, ⊤, List, Option, IfSome, Result, IfErr, OnOk}
 use Rattle.std.specs.Io.KnownBytes.{Appends}
 use Rattle.arraystring_run.specs.Printing.{run_printed}
@@ -13,19 +13,18 @@ abbrev pub IfBadLine : PlayFault → (ℕ → Type 0) → Type 0
 IfBadLine (BadLine k) P = P k
 IfBadLine _ P = ⊤
 
--- the input is the lines of some commands, and the printed lines of their run were appended; both options are the writer's bytes,
--- before and after, if its contract tells them
+-- the lines of the input are those of some commands, and the printed lines of their run were appended to the output of a writer. `old`
+-- and `new` are its bytes before and after, if its contract tells them
 abbrev pub IsPlayed : List ℕ → ℕ → Option (List ℕ) → Option (List ℕ) → Type 0
 IsPlayed input n old new = (cs : List Command) × AreLinesOf (lines input) cs × Appends old new (run_printed cs n)
 
--- the same, but only a prefix of the printed lines was appended, which may be none or all of them; both options are the writer's bytes,
--- before and after
+-- as `IsPlayed`, but only a prefix of the printed lines was appended, which may be none or all of their bytes
 abbrev pub IsPartPlayed : List ℕ → ℕ → Option (List ℕ) → Option (List ℕ) → Type 0
 IsPartPlayed input n old new = (cs : List Command) × AreLinesOf (lines input) cs × AppendsPrefix old new (run_printed cs n)
 
--- what the result `played` of `play` at the capacity n says of the script `given` and of the writer's bytes before and after, each if
--- the contract of its stream tells it: that the script was played; which line is bad; that after a fault other than `Write` the writer
--- is as before (`SameOutput`); and that after `Write` a prefix was appended
+-- what `played`, which `play` returned at the capacity n, says of the script `given` and of the bytes of the writer before and after, if
+-- the contracts of the streams tell these: that the script was played; which line is bad; that after a fault other than `Write` the
+-- writer is as before (`SameOutput`); and that after `Write` a prefix was appended
 pub record IsOutcome (n : ℕ) (given old new : Option (List ℕ)) (SameOutput : Type 0) (played : Result (Unit {0}) PlayFault)
     : Type 0 where
   pub whole : OnOk played (IfSome given (λ input. IsPlayed input n old new))

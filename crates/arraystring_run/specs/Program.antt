@@ -1,4 +1,4 @@
--- What a program does that is given a word: the capacity, the faults that it reports, and its exit status.
+-- What the program does with the word that it is given: the capacity, the faults that it reports, and its exit status.
 use Rattle.std.specs.Prelude.{◌≡◌, ◌≢◌, ◌≤◌, ◌⊎◌, ℕ, List, [], ◌++◌, if◌then◌else◌, Option, Some, None, IfSome, IsSomeAnd, Result, Ok, Err, codes, decimal, nat_eq}
 use Rattle.std.specs.Borrow.{Bor}
 use Rattle.std.specs.Cmp.Lexicographic.{pointwise}
@@ -10,7 +10,7 @@ use Rattle.arraystring_run.specs.declared.player.PlayFault.TheVariants.{BadLine,
 use Rattle.arraystring_run.specs.declared.program.Capacity.{Capacity}
 use Rattle.arraystring_run.specs.declared.program.Capacity.TheVariants.{Small, Cache, Max}
 
--- the capacity that a word names
+-- the capacity that a word names; `None` if there is no word, or if it names none
 abbrev pub capacity_named : Option (Bor (List ℕ)) → Option ℕ
 capacity_named None = None
 capacity_named (Some word) =
@@ -24,7 +24,7 @@ bytes_of Small = 23
 bytes_of Cache = 63
 bytes_of Max = 255
 
--- the exit status after a script was played, or was not (CALLING.md, The program)
+-- the exit status that a result of `play` gives (CALLING.md, The program)
 abbrev pub status_of : {A : Type 0} → Result A PlayFault → ℕ
 status_of (Ok _) = 0
 status_of (Err (BadLine k)) = 2
@@ -36,36 +36,37 @@ status_of (Err Write) = 4
 abbrev pub usage_line : List ℕ
 usage_line = with_newline (codes "usage: arraystring_run small or cache or max")
 
--- the line of a fault (CALLING.md, The program)
+-- the line that a program prints of a fault (CALLING.md, The program)
 abbrev pub fault_line : PlayFault → List ℕ
 fault_line (BadLine k) = with_newline (codes "bad line " ++ decimal k)
 fault_line Memory = with_newline (codes "out of memory")
 fault_line Read = with_newline (codes "read failed")
 fault_line Write = with_newline (codes "write failed")
 
--- what a program prints on its errors after a script was played, or was not
+-- what a program writes to its standard error after `play` returned this
 abbrev pub report_of : {A : Type 0} → Result A PlayFault → List ℕ
 report_of (Ok _) = []
 report_of (Err e) = fault_line e
 
--- what came of a script that was to be played at a capacity, if one is named; else nothing was read or written
+-- if a capacity is named, `play` was called at it, and `IsOutcome` holds of what it returned; if none is named, nothing was read or
+-- written
 pub record IsOutcomeAt (named : Option ℕ) (given old new : Option (List ℕ)) (SameInput SameOutput : Type 0)
     (played : Option (Result (Unit {0}) PlayFault)) : Type 0 where
   pub none_named : named ≡ None → (played ≡ None) × SameInput × SameOutput
   pub outcome : IfSome named (λ n. IsSomeAnd played (IsOutcome n given old new SameOutput))
 
--- the exit status of a program, which plays no script if its word names no capacity
+-- the exit status of a program: `None` stands for a word that names no capacity, so that no script is played
 abbrev pub status_at : Option (Result (Unit {0}) PlayFault) → ℕ
 status_at None = 2
 status_at (Some played) = status_of played
 
--- what a program prints on its errors, which plays no script if its word names no capacity
+-- what a program writes to its standard error: `None` stands for a word that names no capacity, so that no script is played
 abbrev pub report_at : Option (Result (Unit {0}) PlayFault) → List ℕ
 report_at None = usage_line
 report_at (Some played) = report_of played
 
--- what a program was given and what it did: its word, the bytes of its input, those of its output and of its errors before and
--- after, as far as they are known, the claims that these three are as before, and the exit status
+-- one run of the program: its word, the bytes of its input, the bytes of its output and of its standard error before and after, as far
+-- as they are known, the claims that each of these three streams is as before, and the exit status
 pub record Service : Type 1 where
   pub word : Option (Bor (List ℕ))
   pub input : Option (List ℕ)
@@ -78,7 +79,8 @@ pub record Service : Type 1 where
   pub SameErrors : Type 0
   pub status : ℕ
 
--- a program serves the word that it is given: what each exit status says of the script, and of what was written
+-- what is promised of a run of the program, by its exit status: whether the script was played, and what was written to the output and
+-- to the standard error
 pub record IsServed (s : Service) : Type 0 where
   pub other_word : capacity_named s.word ≡ None
       → (s.status ≡ 2) × s.SameInput × AppendsPrefix s.errors_before s.errors_after usage_line
@@ -93,5 +95,5 @@ pub record IsServed (s : Service) : Type 0 where
       × AppendsPrefix s.errors_before s.errors_after (fault_line Write)))
   pub quiet : s.status ≡ 0 → s.SameErrors
   pub unwritten : s.status ≢ 0 → s.status ≢ 4 → s.SameOutput
-  -- 0, 2, 3 or 4
+  -- the exit status is 0, 2, 3 or 4
   pub known : (s.status ≤ 4) × (s.status ≢ 1)

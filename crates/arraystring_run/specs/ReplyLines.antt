@@ -1,4 +1,4 @@
--- The lines that are printed of a run.
+-- The lines that a run of commands prints.
 use Rattle.std.specs.Prelude.{ℕ, List, [], ◌∷◌, ◌++◌, codes, decimal}
 use Rattle.arraystring.specs.Names.{error_name}
 use Rattle.arraystring.specs.Text.{utf8, bytes}
@@ -21,10 +21,10 @@ abbrev pub replies_printed : List ReplyView → List ℕ
 replies_printed [] = []
 replies_printed (r ∷ rs) = with_newline (reply_line r) ++ replies_printed rs
 
--- the lines of replies, and then that of the last text, each with its line feed
+-- the lines of replies, and then the line of the text at the end of the run, each with its line feed
 abbrev pub all_printed : List ReplyView → List ℕ → List ℕ
 all_printed rs t = replies_printed rs ++ with_newline (codes "final " ++ bytes t)
 
--- the printed lines of a run from the empty text at the capacity n
+-- the printed lines of a run of these commands, which begins with the empty text, at the capacity n
 abbrev pub run_printed : List Command → ℕ → List ℕ
 run_printed cs n = let ran = after cs [] n in all_printed ran.replies ran.text

@@ -9,7 +9,7 @@ use Rattle.arraystring_run.specs.declared.commands.Command.TheVariants as comman
 use Rattle.arraystring_run.specs.declared.commands.Reply.{Reply}
 use Rattle.arraystring_run.specs.declared.commands.Reply.TheVariants as reply
 
--- a reply as contracts see it: a string in it by its text
+-- a reply as contracts see it, with a text in place of the string in it
 pub data ReplyView : Type 0 where
   Done : ReplyView
   Char : ℕ → ReplyView
@@ -34,34 +34,34 @@ pub record Effect : Type 0 where
   pub reply : ReplyView
   pub text : List ℕ
 
--- the effect of this reply and this text
+-- the effect that has this reply and this text
 abbrev pub reply_and_text : ReplyView → List ℕ → Effect
 reply_and_text r t = record { reply = r; text = t }
 
--- the reply of a result: of its value, or `Refused` with its error
+-- the reply that a result gives: what `view` makes of its value, or `Refused` with its error
 abbrev pub reply_of : {A : Type 0} → (A → ReplyView) → Result A Error → ReplyView
 reply_of view (Ok value) = view value
 reply_of view (Err e) = Refused e
 
--- the effect on t of a row of the table of edits; `view` makes the reply of its result
+-- the effect of one edit, a row of the table of edits (docs/trust.md), on the text t; `view` makes a reply of what the edit returns
 abbrev pub apply : {A : Type 0} → (A → ReplyView) → Edit A → List ℕ → Effect
 apply view row t = reply_and_text (reply_of view (result_of row)) (text_of row t)
 
--- the effect on t of a row whose result is the unit `()`: its reply is `Done`
+-- the effect of one edit that returns the unit `()`, on the text t: the reply is `Done`, or `Refused`
 abbrev pub apply_unit : Edit (Unit {0}) → List ℕ → Effect
 apply_unit row t = apply (λ _. Done) row t
 
--- the reply `Char`, or `NoChar` if there is none
+-- the reply `Char` with this character, or `NoChar` if there is no character
 abbrev pub char_or_none : Option ℕ → ReplyView
 char_or_none None = NoChar
 char_or_none (Some c) = Char c
 
--- the reply `Text`, or `NoText` if there is none
+-- the reply `Text` with this text, or `NoText` if there is no text
 abbrev pub text_or_none : Option (List ℕ) → ReplyView
 text_or_none None = NoText
 text_or_none (Some t) = Text t
 
--- the characters other than c
+-- the text without each character c
 abbrev pub without : ℕ → List ℕ → List ℕ
 without c t = filter (λ d. not (d == c)) t
 
@@ -100,11 +100,11 @@ abbrev pub is_room : Option Cause → Bool
 is_room (Some Room) = true
 is_room _ = false
 
--- whether the first cause of a row that holds is `Room`
+-- whether an edit is refused for want of room: the first of its tests that holds has the cause `Room`
 abbrev pub lacks_room : {A : Type 0} → Edit A → Bool
 lacks_room row = is_room (first_cause row.tests)
 
--- whether no cause of a row holds
+-- whether an edit is made, which it is if none of its tests holds
 abbrev pub is_made : {A : Type 0} → Edit A → Bool
 is_made row = is_none (first_cause row.tests)
 
@@ -123,34 +123,35 @@ is_tight (command.InsertStr i given) t n = is_made (insertion_of_cut t i (chars 
 is_tight (command.ReplaceRange start end given) t n = lacks_room (replacement t start end (chars given.now) n)
 is_tight _ t n = false
 
--- the replies and the last text of a run of commands, each on the text that the one before left
+-- what a run of commands, of which each edits the text that the one before left, comes to: all replies, and the text at the end
 pub record RunResult : Type 0 where
   pub replies : List ReplyView
   pub text : List ℕ
 
--- the replies of a run of commands at the capacity n, and the text that it leaves of t
+-- what a run of commands that begins with the text t, at the capacity n, comes to
 abbrev pub after : List Command → List ℕ → ℕ → RunResult
 after [] t n = record { replies = []; text = t }
 after (c ∷ cs) t n =
     let rest = after cs (effect c t n).text n in record { replies = (effect c t n).reply ∷ rest.replies; text = rest.text }
 
--- the position of the first tight command of a run on the text t at the capacity n, if the first command has the position k
+-- the position of the first tight command in a run that begins with the text t, at the capacity n, if the first of the commands has the
+-- position k
 abbrev pub first_tight_from : ℕ → List Command → List ℕ → ℕ → Option ℕ
 first_tight_from k [] t n = None
 first_tight_from k (c ∷ cs) t n = if is_tight c t n then Some k else first_tight_from (k + 1) cs (effect c t n).text n
 
--- the first of two positions, or the next if there is no first
+-- the first of two positions if it is there, and else the second
 abbrev pub earlier_of : Option ℕ → Option ℕ → Option ℕ
 earlier_of None next = next
 earlier_of (Some k) next = Some k
 
--- no command of a run on the text t at the capacity n is tight on the text that the commands before it leave
+-- in a run that begins with the text t, at the capacity n, no command is tight on the text that the commands before it leave
 abbrev pub NoneTight : List Command → List ℕ → ℕ → Type 0
 NoneTight cs t n = (before : List Command) (c : Command) (later : List Command) → cs ≡ before ++ c ∷ later
     → is_tight c (after before t n).text n ≡ false
 
--- of a run on the text t at the capacity n the command at position k, counted from 0, is tight on the text that the commands before it
--- leave, and none of these is tight
+-- in a run that begins with the text t, at the capacity n, the command at position k, counted from 0, is tight on the text that the
+-- commands before it leave, and no command before it is tight
 abbrev pub IsFirstTight : List Command → List ℕ → ℕ → ℕ → Type 0
 IsFirstTight cs t n k = (before : List Command) × (c : Command) × (later : List Command) × (cs ≡ before ++ c ∷ later)
     × (k ≡ length before) × (is_tight c (after before t n).text n ≡ true) × NoneTight before t n

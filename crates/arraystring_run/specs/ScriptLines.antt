@@ -1,4 +1,4 @@
--- The lines of a script, and the commands that they are.
+-- The lines of a script, and the commands whose lines they are.
 use Rattle.std.specs.Prelude.{◌≡◌, ◌≢◌, ℕ, ◌+◌, ◌==◌, ⊤, length, List, [], ◌∷◌, ◌++◌, if◌then◌else◌}
 use Rattle.arraystring_run.specs.Line.{IsLineOf}
 use Rattle.arraystring_run.specs.declared.commands.Command.{Command}
@@ -16,7 +16,7 @@ abbrev pub joined_lines : List (List ℕ) → List ℕ
 joined_lines [] = []
 joined_lines (line ∷ rest) = with_newline line ++ joined_lines rest
 
--- no byte is a line feed; no bytes at all are one line, too
+-- no byte is a line feed, as in one line (an empty list of bytes is one line, too)
 abbrev pub IsOneLine : List ℕ → Type 0
 IsOneLine [] = ⊤
 IsOneLine (b ∷ bs) = (b ≢ line_feed) × IsOneLine bs
@@ -26,13 +26,13 @@ abbrev pub AreOneLine : List (List ℕ) → Type 0
 AreOneLine [] = ⊤
 AreOneLine (line ∷ rest) = IsOneLine line × AreOneLine rest
 
--- the lines with the byte b put in front of the first; if there is no line, b alone is one
+-- the lines with the byte b put in front of the first line; if there is no line, b alone is the only line
 abbrev pub first_byte : ℕ → List (List ℕ) → List (List ℕ)
 first_byte b [] = (b ∷ []) ∷ []
 first_byte b (line ∷ rest) = (b ∷ line) ∷ rest
 
--- the lines of an input, without their line feeds (`lines_of_input`); the last may lack its own, an empty input has no line,
--- and a line feed alone is one empty line
+-- the lines of an input, without their line feeds (`lines_of_input`). The last line may have no line feed in the input. An empty input
+-- has no line, and a line feed alone is one empty line
 abbrev pub lines : List ℕ → List (List ℕ)
 lines [] = []
 lines (b ∷ bs) = if b == line_feed then [] ∷ lines bs else first_byte b (lines bs)
@@ -44,7 +44,7 @@ AreLinesOf [] (c ∷ cs) = ⊥
 AreLinesOf (line ∷ rest) [] = ⊥
 AreLinesOf (line ∷ rest) (c ∷ cs) = IsLineOf line c × AreLinesOf rest cs
 
--- line k, counted from 1, is no command, and each line before it is one (`one_bad_line`)
+-- line k, counted from 1, is the line of no command, and each line before it is that of a command (`one_bad_line`)
 pub record IsBadAt (all : List (List ℕ)) (k : ℕ) : Type 0 where
   pub front : List (List ℕ)
   pub commands : List Command

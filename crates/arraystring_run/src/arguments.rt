@@ -20,7 +20,8 @@ pub fn given_word<E: Env>(env: &E) -> Option<MaxString> {
     only_word(count, &first, second)
 }
 
-/// The text of the first argument, the first `count` bytes of `first`, if there is no second.
+/// Returns the first argument as a text, if there is no second argument. The first argument is the first
+/// `count` bytes of the buffer `first`.
 fn only_word(
     count: Result<usize, FillError>,
     first: &[u8],

@@ -31,7 +31,7 @@ impl Model for Waiting {
 }
 
 impl Waiting {
-    /// Returns an array in which no byte waits.
+    /// Returns an empty buffer: no byte waits to be written.
     #[inline(always)]
     pub(crate) fn new() -> Self
         ensures { result ≡ [] }

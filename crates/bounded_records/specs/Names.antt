@@ -5,14 +5,14 @@ use Rattle.bounded_records.specs.declared.record.RecordFault.TheVariants.{Length
 use Rattle.bounded_records.specs.declared.user.UserFault.{UserFault}
 use Rattle.bounded_records.specs.declared.user.UserFault.TheVariants.{Username, Role}
 
--- the name of the case of a fault
+-- the name under which a fault of a record is printed
 abbrev pub fault_name : RecordFault → List ℕ
 fault_name Length = codes "Length"
 fault_name Count = codes "Count"
 fault_name Utf8 = codes "Utf8"
 fault_name Padding = codes "Padding"
 
--- the name of the case of a user fault, which says why two texts are no user
+-- the name under which a fault of a user is printed, which says why two texts make no user
 abbrev pub user_fault_name : UserFault → List ℕ
 user_fault_name Username = codes "Username"
 user_fault_name Role = codes "Role"

@@ -1,11 +1,12 @@
--- A user as a record of 27 bytes. A field for N bytes is a byte that counts and N bytes after it.
+-- A user as a record of 27 bytes, which has two fields. A field for N bytes is one byte that counts the bytes of a text, and N bytes after
+-- it: the text, and then zero bytes.
 use Rattle.std.specs.Prelude.{◌≡◌, ℕ, ◌+◌, ◌-◌, ◌≤◌, List, ◌∷◌, ◌++◌, length, take, drop, replicate, slice_index}
 use Rattle.std.specs.List.{All}
 use Rattle.arraystring.specs.Text.{size, bytes, IsText, IsWellFormed}
 use Rattle.bounded_records.specs.declared.record.RecordFault.{RecordFault}
 use Rattle.bounded_records.specs.declared.record.RecordFault.TheVariants.{Length, Count, Utf8, Padding}
 
--- a text in a field for so many bytes: the number of its bytes, its UTF-8, and zero bytes
+-- the field for `room` bytes that holds a text: the number of its bytes, its UTF-8, and then zero bytes
 abbrev pub field_of : ℕ → List ℕ → List ℕ
 field_of room text = size text ∷ (bytes text ++ replicate (room - size text) 0)
 
@@ -25,19 +26,19 @@ pub record IsRecord (record_bytes username role : List ℕ) : Type 0 where
 abbrev pub username_field : List ℕ → List ℕ
 username_field bs = take 21 bs
 
--- the field of the role: the other six
+-- the field of the role: the other six of 27 bytes
 abbrev pub role_field : List ℕ → List ℕ
 role_field bs = drop 21 bs
 
--- how many bytes a field counts, which its first byte says
+-- how many bytes of text a field has, which its first byte says
 abbrev pub count : List ℕ → ℕ
 count field = slice_index field 0
 
--- the bytes of a field that are counted: so many as its first byte says, after it
+-- the bytes of a field that are counted: as many bytes behind the first byte as the first byte says
 abbrev pub counted_bytes : List ℕ → List ℕ
 counted_bytes field = take (count field) (drop 1 field)
 
--- the bytes of a field after the counted ones
+-- the bytes of a field behind those that are counted
 abbrev pub padding : List ℕ → List ℕ
 padding field = drop (1 + count field) field
 
@@ -53,11 +54,11 @@ CountsFit bs = (count (username_field bs) ≤ 20) × (count (role_field bs) ≤ 
 abbrev pub AreWellFormed : List ℕ → Type 0
 AreWellFormed bs = IsWellFormed (counted_bytes (username_field bs)) × IsWellFormed (counted_bytes (role_field bs))
 
--- the fourth test of `decode`: the bytes after the counted ones are zero, in both fields
+-- the fourth test of `decode`: in both fields the bytes behind those that are counted are zero
 abbrev pub ArePadded : List ℕ → Type 0
 ArePadded bs = All (λ b. b ≡ 0) (padding (username_field bs)) × All (λ b. b ≡ 0) (padding (role_field bs))
 
--- the bytes pass each test of `decode` before the one that this fault belongs to, and fail that one
+-- the bytes fail the test of `decode` that gives this fault, and pass each test before it
 abbrev pub IsFirstFault : List ℕ → RecordFault → Type 0
 IsFirstFault bs Length = ¬ (HasLength bs)
 IsFirstFault bs Count = HasLength bs × ¬ (CountsFit bs)

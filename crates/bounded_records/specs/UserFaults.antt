@@ -1,10 +1,10 @@
--- Why texts are no user.
+-- Why a username and a role make no user.
 use Rattle.std.specs.Prelude.{ℕ, ◌<◌, ◌≤◌, List}
 use Rattle.arraystring.specs.Text.{size}
 use Rattle.bounded_records.specs.declared.user.UserFault.{UserFault}
 use Rattle.bounded_records.specs.declared.user.UserFault.TheVariants.{Username, Role}
 
--- the fault is that of the first text that is too large: a username past 20 bytes, a role past 5
+-- the fault names the first of the two texts that is too large: a username of more than 20 bytes, or a role of more than 5
 abbrev pub IsFirstTooLarge : List ℕ → List ℕ → UserFault → Type 0
 IsFirstTooLarge username role Username = 20 < size username
 IsFirstTooLarge username role Role = (size username ≤ 20) × (5 < size role)

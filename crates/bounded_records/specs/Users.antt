@@ -10,14 +10,14 @@ use Rattle.bounded_records.specs.declared.user.User.{User}
 abbrev pub texts : User → List ℕ × List ℕ
 texts user = (user.username.text, user.role.text)
 
--- the usernames of users
+-- the usernames of users, which are given by their two texts
 abbrev pub names_of : List (List ℕ × List ℕ) → List (List ℕ)
 names_of users = map (λ user. user.0) users
 
--- the entries of a map from strings to users, by the texts of both, as contracts see a `Directory`
+-- the entries of a map from strings to users, with texts in place of strings and users, as contracts see a `Directory`
 abbrev pub by_text : List (Stored × User) → List (List ℕ × (List ℕ × List ℕ))
 by_text entries = map (λ e. (e.0.text, texts e.1)) entries
 
--- each user stands under its own username
+-- in the map each user is found under its own username
 abbrev pub AreUnderTheirNames : finite.FinMap (slice_cmp nat_cmp) (List ℕ × List ℕ) → Type 0
 AreUnderTheirNames users = (name : List ℕ) → IfSome (finite.get users name) (λ user. user.0 ≡ name)

@@ -1,4 +1,4 @@
--- What an iterator over a directory gives: each run of `next` what was left in order, each of `next_back` in reverse.
+-- What an iterator over a directory gives: calls of `next` give what is left in order, and calls of `next_back` give it in reverse.
 use Rattle.std.specs.Prelude.{◌≡◌, ℕ, true, List, map}
 use Rattle.std.specs.Iterator.{YieldsFirstBy, YieldsLastBy}
 use Rattle.std.specs.Iterator.Runs.{EveryRun, ItemsMapTo, ItemsMapToReversed}
@@ -8,16 +8,18 @@ use Rattle.bounded_records.specs.declared.user.User.{User}
 use Rattle.bounded_records.specs.Users.{texts}
 
 module _ {A B : Type 0} (view : A → B) where
-  -- the items of each run of `next`, seen by `view`, are the first of what was left, in order; all, if the run went on to `None`
+  -- calls of `next` in a row give items that are, seen by `view`, the first of what was left, in order; all of it, if the last call gave
+  -- `None`
   abbrev pub GivesInOrder : Type 0
   GivesInOrder = EveryRun (YieldsFirstBy view (λ left. left)) (λ run. ItemsMapTo run view run.from)
 
-  -- the items of each run of `next_back`, seen by `view`, are the last of what was left, in reverse; all, if it went on to `None`
+  -- calls of `next_back` in a row give items that are, seen by `view`, the last of what was left, in reverse; all of it, if the last call
+  -- gave `None`
   abbrev pub GivesInReverse : Type 0
   GivesInReverse = EveryRun (YieldsLastBy view (λ left. left)) (λ run. ItemsMapToReversed run view run.from)
 
 module _ {A B : Type 0} (view : A → B) where
-  -- the items of a whole run of `next`, copied out of their references and seen by `view`, are what was left, in order
+  -- calls of `next` up to `None` give items that are, copied out of their references and seen by `view`, what was left, in order
   abbrev pub GivesCopiesInOrder : Type 0
   GivesCopiesInOrder =
       EveryRun (YieldsFirstBy (λ (item : Bor A). view item.now) (λ left. left))

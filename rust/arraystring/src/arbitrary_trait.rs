@@ -1,10 +1,10 @@
-//! A string of a fuzzer's data, behind the feature `arbitrary`.
+//! A string made of the data of a fuzzer, behind the feature `arbitrary`.
 
 use arbitrary::{Arbitrary, Result, Unstructured};
 
 use crate::ArrayString;
 
-/// The text that a `&str` or a `String` would be of the same data, and of that the longest prefix of whole characters that fits.
+/// The text that a `&str` would take from the same data, cut to the longest prefix of whole characters that fits.
 ///
 /// ```
 /// use arbitrary::{Arbitrary, Unstructured};

@@ -1,13 +1,13 @@
 //! How a string is compared with a `str`: by its text.
 //!
-//! A `str` has no order with a string on its right. With one, `"a" < &t` of a `String` and `s < t.as_ref()` would no longer compile in a
-//! program that has this crate, because rustc infers the type on the right only while `str` has no order but that of std.
+//! There is no `PartialOrd<ArrayString<N>>` for `str`. With it, `"a" < &t` of a `String` and `s < t.as_ref()` would no longer compile in a
+//! program that has this crate, because rustc infers the type on the right only while std's `PartialOrd` is the only one of `str`.
 
 use core::cmp::Ordering;
 
 use crate::ArrayString;
 
-/// Implements a comparison with a text, on both sides.
+/// Writes the two `PartialEq` by which a string is compared with a text, and a text with a string.
 macro_rules! impl_partial_eq {
     ($($text:ty),*) => {$(
         impl<const N: usize> PartialEq<$text> for ArrayString<N> {
@@ -31,7 +31,7 @@ impl_partial_eq!(str, &str);
 #[cfg(feature = "alloc")]
 impl_partial_eq!(alloc::string::String, alloc::borrow::Cow<'_, str>);
 
-/// Implements an order with a text on the right.
+/// Writes the `PartialOrd` of a string on the left and a text on the right.
 macro_rules! impl_partial_ord {
     ($($text:ty),*) => {$(
         impl<const N: usize> PartialOrd<$text> for ArrayString<N> {

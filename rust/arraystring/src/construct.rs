@@ -87,7 +87,7 @@ impl<const N: usize> ArrayString<N> {
         Ok(made)
     }
 
-    /// The string of all pieces, one behind the other.
+    /// The string of all pieces that the iterator gives, one behind the other.
     ///
     /// # Errors
     ///
@@ -136,7 +136,7 @@ impl<const N: usize> ArrayString<N> {
         core_of::ArrayString::try_from_chars(characters).map(ArrayString).map_err(OutOfBounds::of)
     }
 
-    /// The string of UTF-8.
+    /// The string of a text in UTF-8.
     ///
     /// # Errors
     ///
@@ -189,7 +189,7 @@ impl<const N: usize> ArrayString<N> {
         Ok(made)
     }
 
-    /// The string of UTF-16.
+    /// The string of a text in UTF-16.
     ///
     /// # Errors
     ///
@@ -215,7 +215,7 @@ impl<const N: usize> ArrayString<N> {
         core_of::ArrayString::try_from_utf16(units).map(ArrayString).map_err(Error::of)
     }
 
-    /// The string of UTF-16, in which each lone surrogate becomes U+FFFD (three bytes), as in `String::from_utf16_lossy`.
+    /// The string of a text in UTF-16, in which each lone surrogate becomes U+FFFD (three bytes), as in `String::from_utf16_lossy`.
     ///
     /// # Errors
     ///
@@ -284,8 +284,8 @@ impl<const N: usize> ArrayString<N> {
         ArrayString(core_of::ArrayString::from_str_truncate(text))
     }
 
-    /// The longest prefix that fits of whole characters of all pieces, one behind the other. The iterator may be endless, if its pieces are not all
-    /// empty.
+    /// All pieces, one behind the other, cut to the longest prefix of whole characters that fits. The iterator may be endless, if its
+    /// pieces are not all empty.
     ///
     /// ```
     /// use arraystring::ArrayString;
@@ -318,11 +318,12 @@ impl<const N: usize> ArrayString<N> {
         ArrayString(core_of::ArrayString::from_chars(characters))
     }
 
-    /// The longest prefix of whole characters that fits of a text in UTF-8.
+    /// A text in UTF-8, cut to the longest prefix of whole characters that fits.
     ///
     /// # Errors
     ///
-    /// Returns [`Utf8`] if `bytes` is not well-formed UTF-8 (the Unicode Standard, section 3.9), even if only what would be left is not.
+    /// Returns [`Utf8`] if `bytes` is not well-formed UTF-8 (the Unicode Standard, section 3.9), even if only
+    /// bytes that would be cut off are malformed.
     ///
     /// # Examples
     ///
@@ -338,7 +339,7 @@ impl<const N: usize> ArrayString<N> {
         core_of::ArrayString::from_utf8(bytes).map(ArrayString).map_err(Utf8::of)
     }
 
-    /// The longest prefix of whole characters that fits of a text, in which each run of bytes that is no UTF-8 is U+FFFD.
+    /// A text with U+FFFD for each run of bytes that is no UTF-8, cut to the longest prefix of whole characters that fits.
     ///
     /// ```
     /// use arraystring::ArrayString;
@@ -361,7 +362,8 @@ impl<const N: usize> ArrayString<N> {
         made
     }
 
-    /// The longest prefix of the characters of UTF-16 that fits. What comes behind the first that does not fit has no effect.
+    /// A text in UTF-16, cut to the longest prefix of whole characters that fits. What comes behind the first character that does not fit
+    /// has no effect.
     ///
     /// # Errors
     ///
@@ -382,7 +384,7 @@ impl<const N: usize> ArrayString<N> {
         core_of::ArrayString::from_utf16(units).map(ArrayString).map_err(Utf16::of)
     }
 
-    /// The longest prefix of the characters of UTF-16 that fits, in which each lone surrogate is U+FFFD.
+    /// A text in UTF-16, with U+FFFD for each lone surrogate, cut to the longest prefix of whole characters that fits.
     ///
     /// ```
     /// use arraystring::ArrayString;

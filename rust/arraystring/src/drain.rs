@@ -1,4 +1,4 @@
-//! `Drain`: the characters that were removed from a string, from both ends.
+//! `Drain`: gives the characters that were removed from a string, from the front or from the back.
 
 use core::fmt;
 use core::iter::FusedIterator;

@@ -4,7 +4,7 @@ use core::ops::{Bound, RangeBounds};
 
 use crate::{ArrayString, Drain, Error, OutOfBounds, Utf8};
 
-/// An index as the core takes it, which is a `u8`. No text has more than 255 bytes, so an index that is no `u8` is past each of them.
+/// An index as the core takes it, which is a `u8`. No text has more than 255 bytes, so an index that is no `u8` is past every text.
 #[inline(always)]
 fn index(at: usize) -> Result<u8, Error> {
     u8::try_from(at).map_err(|_| Error::OutOfBounds)
@@ -26,8 +26,8 @@ fn ends(range: impl RangeBounds<usize>, len: usize) -> (usize, usize) {
     (start, end)
 }
 
-/// The text behind its first `taken` bytes, which are whole characters. (`&text[taken..]` is the same, but would leave in the program a
-/// panic to which it never comes.)
+/// The text behind its first `taken` bytes, which are whole characters. (`&text[taken..]` is the same, but would leave a panic in the
+/// program, which never happens.)
 #[inline(always)]
 fn rest(text: &str, taken: usize) -> &str {
     text.get(taken..).unwrap_or_default()
@@ -274,7 +274,7 @@ impl<const N: usize> ArrayString<N> {
         self.0.remove(index(at)?).map_err(Error::of)
     }
 
-    /// Shortens the text to its first `len` bytes. Nothing changes if it has no more.
+    /// Shortens the text to its first `len` bytes. Nothing changes if the text has at most `len` bytes.
     ///
     /// # Errors
     ///
@@ -365,8 +365,8 @@ impl<const N: usize> ArrayString<N> {
         self.0.retain(keeps);
     }
 
-    /// Removes all white space at both ends (the property White_Space of the Unicode Standard), and nothing else. `trim` is that of `str`,
-    /// which changes nothing.
+    /// Removes all white space at both ends (the property White_Space of the Unicode Standard), and nothing else. (`trim` is a call of
+    /// `str`, which leaves the string as it is, and returns a part of its text.)
     ///
     /// ```
     /// let mut string = arraystring::ArrayString::<8>::try_from_str("\t a b\u{3000}").unwrap();

@@ -1,4 +1,4 @@
-//! The errors. They are no errors of the core, because the contracts of those say that a width in the format is ignored.
+//! The errors. The core has errors of the same names, but by their contracts they are printed without the width that a format names.
 
 use core::char::DecodeUtf16Error;
 use core::error::Error as StdError;
@@ -31,7 +31,7 @@ pub enum Error {
 }
 
 impl Error {
-    /// The error of this crate for one of the core.
+    /// Makes an error of the core into the error of this crate.
     #[inline(always)]
     pub(crate) const fn of(refusal: by_core::Error) -> Self {
         match refusal {
@@ -55,7 +55,7 @@ impl fmt::Display for Error {
 
 impl StdError for Error {}
 
-/// Defines an error that has one cause, and so is a part of `Error`.
+/// Defines an error type that has one cause, which is also one case of `Error`.
 macro_rules! part {
     ($(#[$documentation:meta])* $part:ident, $text:literal) => {
         $(#[$documentation])*
@@ -63,7 +63,7 @@ macro_rules! part {
         pub struct $part;
 
         impl $part {
-            /// The error of this crate for one of the core.
+            /// Makes an error of the core into the error of this crate.
             #[inline(always)]
             pub(crate) const fn of(_refusal: by_core::$part) -> Self {
                 $part
@@ -96,7 +96,8 @@ part! {
     OutOfBounds, "larger than the capacity"
 }
 
-/// Implements `From` of an error, by which `?` converts it: of a part into `Error`, and of an error of std into `Error` or a part.
+/// Writes the `From` by which `?` converts an error of one cause (`Utf8`, `Utf16` or `OutOfBounds`) into `Error`, and an error of std into
+/// `Error` or an error of one cause.
 macro_rules! impl_from_error {
     ($($error:ty => $made:ident $(:: $case:ident)?;)*) => {$(
         impl From<$error> for $made {

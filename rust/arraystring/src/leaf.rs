@@ -1,7 +1,8 @@
 //! By hand, as no other file of the core is: what the proved code does without a test of bounds.
 //!
-//! Each function has the name and the contract of one in crates/arraystring_base/src/leaf.rt. What that requires is proved of each call in
-//! `proved`, and is asserted here with debug assertions, with the feature `checked`, and where a `usize` has not the 64 bits of the proofs.
+//! Each function has the name and the contract of one in crates/arraystring_base/src/leaf.rt. Of each call in `proved` it is proved that it
+//! keeps what the contract requires. Here that is asserted with debug assertions, with the feature `checked`, and where a `usize` has not
+//! the 64 bits of the proofs.
 
 use core::mem::MaybeUninit;
 use core::{ptr, slice};
@@ -22,8 +23,8 @@ macro_rules! required {
 /// A byte of the array of a string. It has no value before one is written.
 pub(crate) type Place = MaybeUninit<u8>;
 
-/// What a place of a new array holds: no value, or 0 if `IS_TESTED`. Then a wrong index panics, perhaps after the size has risen and
-/// before the byte is written, and by the 0 the string that is left after the panic has a value in each place of its text.
+/// What a place of a new array holds: no value, or 0 if `IS_TESTED`. Then a wrong index panics, perhaps when the size is already raised
+/// and the byte not yet written. Thanks to the 0, each place of the text that is left after the panic has a value.
 pub(crate) const UNWRITTEN: Place = if IS_TESTED { Place::new(0) } else { Place::uninit() };
 
 /// A byte, or a place that was written. It is laid out as a `u8`.
@@ -59,7 +60,7 @@ pub(crate) fn byte(bytes: &[impl ByteOrPlace], at: usize) -> u8 {
     unsafe { bytes.get_unchecked(at) }.value()
 }
 
-/// Writes the `K` bytes of an array into `all`, from index `at` of `all` on. `put_bytes` writes those that `bytes_of` read.
+/// Writes the `K` bytes of an array into `all`, from index `at` on. `put_vector` writes places, as `vector_at` returns them.
 ///
 /// ```text
 /// requires { at + K ≤ length all.old }
@@ -68,8 +69,8 @@ pub(crate) fn byte(bytes: &[impl ByteOrPlace], at: usize) -> u8 {
 #[inline(always)]
 pub(crate) fn put_array<const K: usize>(all: &mut [Place], at: usize, bytes: [u8; K]) {
     required!(at <= all.len(), K <= all.len() - at);
-    // SAFETY: the run is within, as is required. A byte is laid out as a place. (It is no `put_bytes` of mapped bytes,
-    // because `encode_wide` would have a call then, and rustc would not inline it in another crate.)
+    // SAFETY: the run is within, as is required. A byte is laid out as a place. (It does not map the bytes to places for `put_vector`,
+    // because `encode_wide` would then have a call in it, and rustc would not inline `encode_wide` in another crate.)
     unsafe { all.as_mut_ptr().add(at).cast::<[u8; K]>().write(bytes) };
 }
 
@@ -96,7 +97,7 @@ pub(crate) fn part_mut(bytes: &mut [Place], start: usize, end: usize) -> &mut [u
     unsafe { slice::from_raw_parts_mut(bytes.as_mut_ptr().add(start).cast(), end - start) }
 }
 
-/// Makes a..z among the bytes from `start` to `end` A..Z.
+/// Turns each byte a..z from `start` to `end` into the capital letter.
 ///
 /// ```text
 /// requires order { start ≤ end }
@@ -109,7 +110,7 @@ pub(crate) fn make_upper(all: &mut [Place], start: usize, end: usize) {
     part_mut(all, start, end).make_ascii_uppercase();
 }
 
-/// Makes A..Z among the bytes from `start` to `end` a..z.
+/// Turns each byte A..Z from `start` to `end` into the small letter.
 ///
 /// ```text
 /// requires order { start ≤ end }
@@ -195,27 +196,27 @@ pub(crate) fn write_bytes(all: &mut [Place], given: &[u8], at: usize) {
     unsafe { ptr::copy_nonoverlapping(given.as_ptr().cast(), all.as_mut_ptr().add(at), given.len()) };
 }
 
-/// The `K` bytes of `given` from `at` on.
+/// The `K` bytes of `given` from index `at` on, as an array of places. (In Rattle it is a vector, which gives the name.)
 ///
 /// ```text
 /// requires { at + K ≤ length given.now }
 /// ensures { result ≡ take K (drop at given.now) }
 /// ```
 #[inline(always)]
-pub(crate) fn bytes_of<const K: usize>(given: &[impl ByteOrPlace], at: usize) -> [Place; K] {
+pub(crate) fn vector_at<const K: usize>(given: &[impl ByteOrPlace], at: usize) -> [Place; K] {
     required!(at <= given.len(), K <= given.len() - at);
     // SAFETY: the run is within, as is required. A byte is laid out as a place, and a place may have any value, or none.
     unsafe { given.as_ptr().add(at).cast::<[Place; K]>().read() }
 }
 
-/// Writes `K` bytes from `at` on.
+/// Writes `K` places, which `vector_at` returned, into `all`, from index `at` on.
 ///
 /// ```text
 /// requires { at + K ≤ length all.old }
 /// ensures { all.new ≡ take at all.old ++ (bytes.entry ++ drop (at + K) all.old) }
 /// ```
 #[inline(always)]
-pub(crate) fn put_bytes<const K: usize>(all: &mut [Place], at: usize, bytes: [Place; K]) {
+pub(crate) fn put_vector<const K: usize>(all: &mut [Place], at: usize, bytes: [Place; K]) {
     required!(at <= all.len(), K <= all.len() - at);
     // SAFETY: the run is within, as is required.
     unsafe { all.as_mut_ptr().add(at).cast::<[Place; K]>().write(bytes) };

@@ -11,7 +11,7 @@ use crate::leaf::part_mut;
 
 /// The text, borrowed to be written.
 impl<const N: usize> ArrayString<N> {
-    /// The text, borrowed to be written. Nothing safe can change its length there.
+    /// The text, borrowed to be written. Safe code can't change its length by that.
     ///
     /// ```
     /// let mut string = arraystring::ArrayString::<8>::try_from_str("café").unwrap();
@@ -29,7 +29,7 @@ impl<const N: usize> ArrayString<N> {
     }
 }
 
-/// Lends the text, so that each call of `str` is one of the string.
+/// Lends the text, so that a string has each call of `str`.
 ///
 /// ```
 /// let string = arraystring::ArrayString::<16>::try_from_str("key=text").unwrap();
@@ -44,7 +44,7 @@ impl<const N: usize> Deref for ArrayString<N> {
     }
 }
 
-/// Lends the text to be written, so that each call of `str` that writes is one of the string.
+/// Lends the text to be written, so that a string has each call of `str` that writes.
 impl<const N: usize> DerefMut for ArrayString<N> {
     #[inline]
     fn deref_mut(&mut self) -> &mut str {
@@ -52,11 +52,11 @@ impl<const N: usize> DerefMut for ArrayString<N> {
     }
 }
 
-/// A part of the text, as of a `str`.
+/// A part of the text, as the index of a `str` returns it.
 ///
 /// # Panics
 ///
-/// As the index of `str`: for a range outside the text, or with an end inside a character. [`str::get`] returns `None` there.
+/// Panics for a range outside the text, or with an end inside a character, as the index of a `str` does. [`str::get`] returns `None` there.
 ///
 /// ```
 /// let string = arraystring::ArrayString::<8>::try_from_str("café").unwrap();
@@ -71,7 +71,7 @@ impl<I: SliceIndex<str>, const N: usize> Index<I> for ArrayString<N> {
     }
 }
 
-/// A part of the text, to be written, as of a `str`. It panics where that does.
+/// A part of the text, to be written, as the index of a `str` returns it. It panics where that index does.
 impl<I: SliceIndex<str>, const N: usize> IndexMut<I> for ArrayString<N> {
     #[inline]
     fn index_mut(&mut self, index: I) -> &mut I::Output {
@@ -100,7 +100,7 @@ impl<const N: usize> AsMut<str> for ArrayString<N> {
     }
 }
 
-/// A map whose keys are strings takes a `&str` to look for one.
+/// Lends the text, so that a map whose keys are strings finds a key by a `&str`.
 ///
 /// ```
 /// use arraystring::ArrayString;

@@ -54,7 +54,8 @@ pub mod moving {}
 /// A string of at most 23 bytes of UTF-8.
 pub type SmallString = ArrayString<23>;
 
-/// A string of at most 63 bytes of UTF-8.
+/// A string of at most 63 bytes of UTF-8. The name is that of version 0.3.0, where it was aligned to 64 bytes, as
+/// a line of a cache is. Here it is not.
 pub type CacheString = ArrayString<63>;
 
 /// A string of at most 255 bytes of UTF-8, the greatest capacity that there is.

@@ -1,4 +1,4 @@
-//! Macros: a string of a text that is known when the program is compiled, and one of what a format prints.
+//! The macros: `arraystring!` makes a string of a constant text, and `try_format!` makes one of what a format prints.
 
 use crate::{ArrayString, OutOfBounds};
 
@@ -61,7 +61,7 @@ macro_rules! try_format {
 }
 
 impl<const N: usize> ArrayString<N> {
-    /// What `arraystring!` is made of. Outside a constant it would panic when the program runs.
+    /// The call that `arraystring!` writes, in a constant. Outside a constant it would panic when the program runs.
     #[doc(hidden)]
     #[must_use]
     #[track_caller]

@@ -1,7 +1,7 @@
-//! Strings made of what is allocated, and what is allocated made of strings, behind the feature `alloc`.
+//! A string made of an allocated text (`String`, `Box<str>` and others), and such a text made of a string, behind the feature `alloc`.
 //!
-//! `Box<str>`, `Rc<str>` and `Arc<str>` are made of no borrowed string. If they were, `Box::<str>::from(text.as_ref())` would no longer
-//! compile in a program that has this crate, because rustc infers what `as_ref` returns only while `From<&str>` is the only one of a
+//! There is no `From<&ArrayString<N>>` for `Box<str>`, `Rc<str>` and `Arc<str>`. With it, `Box::<str>::from(text.as_ref())` would no longer
+//! compile in a program that has this crate, because rustc infers what `as_ref` returns only while `From<&str>` is the only `From` of a
 //! reference.
 
 use alloc::borrow::Cow;
@@ -13,7 +13,7 @@ use alloc::vec::Vec;
 
 use crate::{ArrayString, OutOfBounds};
 
-/// Implements that a string is made of a text, if it fits.
+/// Writes the `TryFrom` that makes a string of an allocated text, if the text fits.
 macro_rules! impl_try_from {
     ($($text:ty),*) => {$(
         impl<const N: usize> TryFrom<$text> for ArrayString<N> {
@@ -30,7 +30,7 @@ macro_rules! impl_try_from {
 
 impl_try_from!(String, &String, Box<str>, Cow<'_, str>);
 
-/// Implements that one of std's texts is made of a string, as a copy of its text.
+/// Writes the `From` that copies the text of a string into a new `String`, `Box<str>`, `Rc<str>`, `Arc<str>` or `Vec<u8>`.
 macro_rules! impl_from_string {
     ($($string:ty => $copy:ty: $borrowed:ident;)*) => {$(
         impl<const N: usize> From<$string> for $copy {
@@ -72,7 +72,7 @@ impl<const N: usize> Extend<ArrayString<N>> for String {
     }
 }
 
-/// Implements that strings are collected into one text.
+/// Writes the `FromIterator` by which `collect` joins strings into one allocated text.
 macro_rules! impl_from_iterator {
     ($($text:ty),*) => {$(
         impl<const N: usize> FromIterator<ArrayString<N>> for $text {

@@ -1,12 +1,12 @@
-//! A string as a path or as a name of the operating system, behind the feature `std`: borrowed, and copied into an owned one. An owned one
-//! of a borrowed string needs no impl here, because std makes it of each `&T` whose `T` is an `AsRef<OsStr>`.
+//! A string as an `OsStr` or a `Path`, behind the feature `std`: lent, and copied into an `OsString` or a `PathBuf`. No `impl` here makes
+//! these of a `&ArrayString<N>`, because std makes them of each `&T` whose `T` is an `AsRef<OsStr>`.
 
 use std::ffi::{OsStr, OsString};
 use std::path::{Path, PathBuf};
 
 use crate::ArrayString;
 
-/// Implements that a string is borrowed as a name of the operating system, and copied into an owned one.
+/// Writes the impls that lend a string as an `OsStr` or a `Path` (`AsRef`), and copy it into an `OsString` or a `PathBuf` (`From`).
 macro_rules! names {
     ($($name:ty => $owned:ty;)*) => {$(
         impl<const N: usize> AsRef<$name> for ArrayString<N> {

@@ -1,4 +1,4 @@
-//! A string as serde reads and writes it, which is as a text, behind the feature `serde`. A text that is too long is refused.
+//! How serde reads and writes a string, which is as a text, behind the feature `serde`. A text that is too long is refused.
 
 use core::fmt;
 use core::str::from_utf8;

@@ -13,8 +13,9 @@ use crate::proved::string as core_of;
 /// A *boundary* is an index at which a character begins or the text ends. An index is *past* the text if it is greater than the length,
 /// and *inside* a character if it is less and no boundary.
 ///
-/// An iterator is asked for no item behind the first that does not fit. If an iterator, a closure, a range or a `Display` of the caller
-/// panics, the text is whole: as it was, or with the items before that, as the call says.
+/// An iterator is asked for no item behind the first that does not fit. If code of the caller panics (an iterator, a closure, a `Display`,
+/// or a `RangeBounds` that the caller wrote), the text is still made of whole characters. It is what it was before the call, unless the call
+/// says otherwise.
 ///
 /// # Examples
 ///
@@ -67,8 +68,8 @@ pub struct ArrayString<const N: usize>(pub(crate) core_of::ArrayString<N>);
 
 /// Its capacity, and what it holds.
 ///
-/// By `Deref` and `DerefMut` it also has the calls of `str`: `find`, `get`, `trim`, `chars`, `split_at`, `make_ascii_uppercase`, and
-/// each other.
+/// By `Deref` and `DerefMut` it also has all calls of `str`, such as `find`, `get`, `trim`, `chars`, `split_at` and
+/// `make_ascii_uppercase`.
 impl<const N: usize> ArrayString<N> {
     /// The capacity in bytes, as a constant.
     ///
@@ -123,7 +124,8 @@ impl<const N: usize> ArrayString<N> {
         N - self.len()
     }
 
-    /// Whether no character can be added. If it returns `false`, a wide one may not fit all the same.
+    /// Whether the text fills the capacity, so that no character can be added. If it does not, a character of more than one byte may still
+    /// not fit.
     #[must_use]
     #[inline(always)]
     pub const fn is_full(&self) -> bool {

@@ -1,6 +1,7 @@
-//! How a string is made by std's traits, which refuse what does not fit, and how it is printed, which is as a `str` is.
+//! The traits of std that make a string, and refuse what does not fit, and those that print it as a `str` is printed.
 //!
-//! What would have to cut is not there: `From<&str>`, `From<char>`, `FromIterator`, `Extend`, `Add` and `AddAssign`.
+//! These traits can't refuse, and would have to cut, so they are not there: `From<&str>`, `From<char>`, `FromIterator`, `Extend`, `Add` and
+//! `AddAssign`.
 
 use core::fmt;
 use core::str::FromStr;
@@ -106,7 +107,7 @@ impl<const N: usize> fmt::Display for ArrayString<N> {
     }
 }
 
-/// `write!` appends piece by piece. The first that does not fit is refused, and those before it stay:
+/// `write!` appends piece by piece. The first piece that does not fit is refused, and the pieces before it stay. In its place
 /// [`try_write`](ArrayString::try_write) appends all or nothing.
 impl<const N: usize> fmt::Write for ArrayString<N> {
     #[inline]

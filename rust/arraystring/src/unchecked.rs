@@ -7,9 +7,9 @@ use crate::proved::string as core_of;
 
 /// # Unchecked
 ///
-/// Most programs need none of these calls. What stands under *Safety* is for the caller to keep. It is asserted with debug assertions, with
-/// the feature `checked`, and where a `usize` has not 64 bits. Their contracts are in `crates/arraystring_core/src/array_string/unchecked.rt`
-/// of the repository.
+/// Most programs need none of these calls. The caller has to keep what stands under *Safety*. It is asserted with debug assertions, with
+/// the feature `checked`, and where a `usize` has not 64 bits. Their contracts are in
+/// `crates/arraystring_core/src/array_string/unchecked.rt` of the repository.
 impl<const N: usize> ArrayString<N> {
     /// The string of `text`.
     ///
@@ -24,7 +24,7 @@ impl<const N: usize> ArrayString<N> {
         ArrayString(core_of::ArrayString::from_str_unchecked(text))
     }
 
-    /// The string of UTF-8.
+    /// The string of a text in UTF-8.
     ///
     /// # Safety
     ///
@@ -41,7 +41,7 @@ impl<const N: usize> ArrayString<N> {
     ///
     /// # Safety
     ///
-    /// It must fit.
+    /// `ch` must fit.
     ///
     /// # Examples
     ///

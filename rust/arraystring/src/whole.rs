@@ -1,4 +1,4 @@
-//! What a format prints, or an iterator gives, is appended: whole or not at all, or as much of it as fits.
+//! The calls that append what a format prints, or an iterator gives: whole or not at all, or as much of it as fits.
 
 use core::fmt::{self, Write};
 use core::mem;
@@ -45,12 +45,12 @@ impl<const N: usize> ArrayString<N> {
         Ok(())
     }
 
-    /// Appends the longest prefix of whole characters that fits of what a format prints, and returns whether anything was left. Nothing is
-    /// added behind the first character that does not fit, and the format is told by an error, so that it stops there.
+    /// Appends what a format prints, cut to the longest prefix of whole characters that fits, and returns whether anything was cut off.
+    /// From the cut on the format gets an error for each piece, and no piece is added.
     ///
     /// # Errors
     ///
-    /// Returns a [`fmt::Error`] if a `Display` in it fails before anything is left. Nothing has changed then, nor if a `Display` panics.
+    /// Returns a [`fmt::Error`] if a `Display` in it fails before anything is cut off. Nothing has changed then, nor if a `Display` panics.
     ///
     /// # Examples
     ///
@@ -133,8 +133,8 @@ impl<const N: usize> ArrayString<N> {
         Ok(())
     }
 
-    /// Appends the longest prefix of the characters that fits, and returns whether one was left. That one is the last that the iterator is
-    /// asked for, and is lost. If the iterator panics, the text has the characters before that.
+    /// Appends the longest prefix of the characters that fits, and returns whether a character did not fit. That character was taken from
+    /// the iterator, and is lost. If the iterator panics, the text has the characters that came before.
     ///
     /// ```
     /// let mut string = arraystring::ArrayString::<4>::try_from_str("a").unwrap();
@@ -147,8 +147,9 @@ impl<const N: usize> ArrayString<N> {
         characters.into_iter().any(|ch| self.try_push(ch).is_err())
     }
 
-    /// Appends the longest prefix that fits of whole characters of the pieces, one behind the other, and returns whether anything was left.
-    /// Then it is of the last piece that the iterator is asked for, and is lost. If the iterator panics, the text has the pieces before that.
+    /// Appends the pieces, one behind the other, up to the last whole character that fits, and returns whether something did not fit. What
+    /// did not fit of that piece is lost, and no later piece is asked for. If the iterator panics, the text has the pieces that came
+    /// before.
     ///
     /// ```
     /// let mut string = arraystring::ArrayString::<8>::try_from_str("one").unwrap();
@@ -162,8 +163,8 @@ impl<const N: usize> ArrayString<N> {
     }
 }
 
-/// What is added to a string, until it is known whether all of it is. Its `drop` takes it back, so that nothing of it is left where
-/// something is refused, or where a `Display` or an iterator panics. Only `keep` makes it stay.
+/// What is added to a string, as long as it may still be taken back. `drop` takes it back, so that nothing of it stays where something is
+/// refused, or where a `Display` or an iterator panics. Only `keep` makes it stay.
 struct Draft<'a, const N: usize> {
     string: &'a mut ArrayString<N>,
     /// The length of the text before the draft.

@@ -1,12 +1,12 @@
-//! A string of which nothing stays in its memory, behind the feature `zeroize`.
+//! How a string is wiped from its memory, behind the feature `zeroize`.
 
 use zeroize::Zeroize;
 
 use crate::leaf::Place;
 use crate::{ArrayString, Drain};
 
-/// Makes each byte of the array zero, also those that were removed from the text, and the text empty. The compiler does not leave it out
-/// where nobody reads the string again. It can't reach other copies, such as the place from which a string was moved. A string is `Copy`
+/// Makes each byte of the array zero, also those that were removed from the text, and the text empty. The compiler does not leave this out
+/// where nobody reads the string again. This can't reach other copies, such as the place from which a string was moved. A string is `Copy`
 /// and so can't do this when it is dropped: `zeroize::Zeroizing<ArrayString<N>>` does.
 ///
 /// ```
@@ -26,8 +26,8 @@ impl<const N: usize> Zeroize for ArrayString<N> {
     }
 }
 
-/// Makes each byte of its array zero, also those of the characters that were returned, and leaves no character. It has a copy of the array
-/// of the string, which has to be made zero as well.
+/// Makes each byte of its array zero, also those of the characters that were returned, and leaves no character. A `Drain` has a copy of the
+/// array of the string, so the string has to be made zero as well.
 ///
 /// ```
 /// use arraystring::ArrayString;

@@ -178,18 +178,18 @@ fn a_few_bytes_are_read_and_written() {
         for len in lengths() {
             let (given, mut all) = (bytes(len), written(&bytes(len)));
             for at in (0..=len).filter(|at| at + K <= len && (len <= MOST || places(len).contains(at))) {
-                assert_eq!(values(&bytes_of::<K>(&given, at)), given[at..at + K]);
-                assert_eq!(values(&bytes_of::<K>(&all, at)), given[at..at + K]);
+                assert_eq!(values(&vector_at::<K>(&given, at)), given[at..at + K]);
+                assert_eq!(values(&vector_at::<K>(&all, at)), given[at..at + K]);
                 changes(len, |all| put_array(all, at, new), |all| all[at..at + K].copy_from_slice(&new));
-                changes(len, |all| put_bytes(all, at, new_places), |all| all[at..at + K].copy_from_slice(&new));
+                changes(len, |all| put_vector(all, at, new_places), |all| all[at..at + K].copy_from_slice(&new));
             }
             for at in past(len.saturating_sub(K)).chain((K > len).then_some(0)) {
                 // (no bytes are within at the end of a slice, and nowhere else past its last one)
                 if K > 0 || at > len {
-                    refused(|| bytes_of::<K>(&given, at));
-                    refused(|| bytes_of::<K>(&all, at));
+                    refused(|| vector_at::<K>(&given, at));
+                    refused(|| vector_at::<K>(&all, at));
                     refused(|| put_array(&mut all, at, new));
-                    refused(|| put_bytes(&mut all, at, new_places));
+                    refused(|| put_vector(&mut all, at, new_places));
                 }
             }
             assert_eq!(values(&all), given, "what is refused changes nothing");

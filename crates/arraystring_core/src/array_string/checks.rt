@@ -60,7 +60,8 @@ impl<const N: usize> ArrayString<N> {
         self.check_boundary(end)
     }
 
-    /// Refuses to put `len` bytes in place of a range: as `check_part` does, and for want of room after its first two tests.
+    /// Refuses to put `len` bytes in place of a range, for the reasons of `check_part`, and for want of room. Room is
+    /// tested after the order and the end of the range, and before the boundaries.
     #[inline(always)]
     pub(super) fn check_replacement(&self, start: u8, end: u8, len: usize) -> Result<(), Error>
         ensures { result ≡ ok_unless (first_cause (reversed_range start end ∷ past_text self.now.text end

@@ -97,9 +97,10 @@ impl<const N: usize> ArrayString<N> {
         Ok(removed)
     }
 
-    /// Removes as `remove_range` does. If bytes of a larger array may have to move, it calls a function that is never
-    /// inlined, because the code that moves them is long. Then the rest of `drain` is so short that the compiler
-    /// inlines it, and a caller copies the array of the `Drain` once or twice less.
+    /// Removes as `remove_range` does. In an array of more than 32 bytes, and if the range does not begin at 0, it
+    /// calls a function that is never inlined, because the code that moves bytes is long there. Then the rest of
+    /// `drain` is so short that the compiler inlines it, and a caller copies the array of the `Drain` once or twice
+    /// less.
     #[inline]
     fn remove_drained(&mut self, start: usize, end: usize, steps: &mut Steps)
         requires order { start ≤ end }

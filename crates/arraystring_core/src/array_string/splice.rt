@@ -1,6 +1,6 @@
-//! How a part between two boundaries becomes another text. What follows it moves. If there is no room behind the text,
-//! what precedes it moves to the start of the array, too. Appends, and removals at the front and at the end, move nothing
-//! or all of the text: `push`, `append_at_array_end` and `remove` have them.
+//! How the part between two boundaries becomes another text. What follows the part moves. If there is no room behind the
+//! text, what precedes the part moves, too, to the start of the array. Appends, and removals at the front and at the end,
+//! are in `push`, `append_at_array_end` and `remove`, because they move nothing, or all of the text.
 ghost use Rattle.std.specs.Prelude.{◌≡◌, ◌+◌, ◌-◌, ◌^◌, ◌≤◌, ◌∷◌, ◌++◌, IsTrue, chars};
 ghost use Rattle.arraystring_base.specs.Text.{size, width, cap, front, back, boundary};
 ghost use Rattle.arraystring_core.specs.Splice.{ReplacesPart};

@@ -1,5 +1,6 @@
 //! The traits of a string: how it is printed, made, compared, hashed and appended to. Those that compare and hash
-//! stand in drain/traits.rt, too, since the gate takes no `impl` that a macro of this repository wrote.
+//! stand a second time in drain/traits.rt, for a `Drain`, because `rt ci` takes no `impl` that a macro of this
+//! repository wrote.
 ghost use Rattle.std.specs.Prelude.{◌≡◌, Ok, [], ◌++◌, chars, nat_eq, IsOk, Some, refl};
 ghost use Rattle.std.specs.Cmp.{on_equiv, on_per, partial_equiv_from_equiv, on_total, on_po};
 ghost use Rattle.std.specs.Cmp.Lexicographic.{pointwise, nat_list_eq_equiv, slice_cmp, nat_list_cmp_total, texts_po, texts_ties, bytes_decides};
@@ -70,8 +71,9 @@ impl<const N: usize> Eq for ArrayString<N> {
     ghost laws = { on_equiv (λ s. s.text) nat_list_eq_equiv };
 }
 
-/// Makes a string as `from_str_truncate` does: what does not fit is **cut** off, also by `into`, and in
-/// Rust by std's `try_from`, which is then `Ok` of a cut text. `parse` and `try_from_str` refuse it.
+/// Makes a string as `from_str_truncate` does, also by `into`: what does not fit is **cut** off. Std makes
+/// a `try_from` of this, too, which in Rust returns `Ok` of a cut text. `parse` and `try_from_str` refuse
+/// a text that does not fit.
 impl<'a, const N: usize> From<&'a str> for ArrayString<N> {
     ghost from_gives = { λ string made. made.text ≡ cut (chars string.now) (cap N) };
 

@@ -1,7 +1,7 @@
-//! The calls that leave a test to the caller, of which most programs need none. They are safe, since each caller proves
-//! the precondition, and none tests what that says. An append only asks whether the text has to move to the start of its
-//! array first, and never of a text that is there. So the two constructors from an iterator, which append to a new
-//! string, ask nothing in their loops.
+//! The calls that leave a test to the caller, of which most programs need none. They are safe, because each caller
+//! proves the precondition. An append tests only whether the text first has to move to the start of its array, and not
+//! even that if the text begins there. So the two constructors from an iterator, which append to a new string, test
+//! nothing in their loops.
 ghost use Rattle.std.specs.Prelude.{◌≡◌, ◌+◌, ◌≤◌, ◌∷◌, [], ◌++◌, ℕ, List, IsTrue, chars, length};
 ghost use Rattle.std.specs.Borrow.{Bor};
 ghost use Rattle.std.specs.Iterator.{IsFiniteIterable};
@@ -110,7 +110,7 @@ impl<const N: usize> ArrayString<N> {
         ensures { self.new.text ≡ self.old.text ++ ch ∷ [] }
     {
         let end = self.end();
-        // The room that is required is all behind a text that begins at the start of the array.
+        // If the text begins at the start of the array, all room is behind it, and `ch` fits there by the precondition.
         if self.start > 0 && !Self::has_room(end, ch) {
             let (start, size) = (self.start as usize, self.size as usize);
             let size = Self::compact_and_push(&mut self.array, ch, start, size);

@@ -8,7 +8,7 @@
 //! stack. `N` is a constant, so the compiler leaves out the sizes that an array of `N` bytes can't have. `write_over`
 //! writes 16 bytes or more by a call, of `write_bytes`, which takes a slice and so stands once in a program.
 
-use crate::leaf::{bytes_of, move_bytes, move_long_run, put_bytes, write_bytes};
+use crate::leaf::{move_bytes, move_long_run, put_vector, vector_at, write_bytes};
 
 /// Moves `len` bytes of the array from the offset `from` to the offset `to`; the two runs may
 /// overlap. Each byte counts as one move, also if it is written twice on the way. If `from` is `to`,
@@ -70,10 +70,10 @@ fn move_short_run<const N: usize>(all: &mut [crate::leaf::Place], from: usize, t
 #[inline(always)]
 pub(crate) fn move_ends<const K: usize>(all: &mut [crate::leaf::Place], from: usize, to: usize, len: usize) {
     let rest = len - K;
-    let first = bytes_of::<K>(all, from);
-    let last = bytes_of::<K>(all, from + rest);
-    put_bytes(all, to, first);
-    put_bytes(all, to + rest, last);
+    let first = vector_at::<K>(all, from);
+    let last = vector_at::<K>(all, from + rest);
+    put_vector(all, to, first);
+    put_vector(all, to + rest, last);
 }
 
 /// Writes `given` over the bytes of the array from the offset `at` on. No other byte changes.
@@ -123,8 +123,8 @@ fn write_short_run<const N: usize>(all: &mut [crate::leaf::Place], at: usize, gi
 #[inline(always)]
 fn copy_ends<const K: usize>(all: &mut [crate::leaf::Place], at: usize, given: &[u8]) {
     let rest = given.len() - K;
-    let first = bytes_of::<K>(given, 0);
-    let last = bytes_of::<K>(given, rest);
-    put_bytes(all, at, first);
-    put_bytes(all, at + rest, last);
+    let first = vector_at::<K>(given, 0);
+    let last = vector_at::<K>(given, rest);
+    put_vector(all, at, first);
+    put_vector(all, at + rest, last);
 }

@@ -1,5 +1,6 @@
 // Made from crates/arraystring_core/src/drain.rt by rust/generate.py: change that, and run this.
-//! `Drain`: the characters that were removed from a string, from both ends. `traits` has its impls of traits.
+//! `Drain`: gives the characters that were removed from a string, from the front or from the back. `traits` has its
+//! impls of traits.
 
 use crate::leaf::part;
 use core::str;

@@ -1,6 +1,7 @@
 // Made from crates/arraystring_core/src/array_string/traits.rt by rust/generate.py: change that, and run this.
 //! The traits of a string: how it is printed, made, compared, hashed and appended to. Those that compare and hash
-//! stand in drain/traits.rt, too, since the gate takes no `impl` that a macro of this repository wrote.
+//! stand a second time in drain/traits.rt, for a `Drain`, because `rt ci` takes no `impl` that a macro of this
+//! repository wrote.
 
 use crate::proved::string::ArrayString;
 use crate::proved::base::error::OutOfBounds;
@@ -53,8 +54,9 @@ impl<const N: usize> fmt::Display for ArrayString<N> {
 impl<const N: usize> Eq for ArrayString<N> {
 }
 
-/// Makes a string as `from_str_truncate` does: what does not fit is **cut** off, also by `into`, and in
-/// Rust by std's `try_from`, which is then `Ok` of a cut text. `parse` and `try_from_str` refuse it.
+/// Makes a string as `from_str_truncate` does, also by `into`: what does not fit is **cut** off. Std makes
+/// a `try_from` of this, too, which in Rust returns `Ok` of a cut text. `parse` and `try_from_str` refuse
+/// a text that does not fit.
 impl<'a, const N: usize> From<&'a str> for ArrayString<N> {
     #[inline]
     fn from(string: &'a str) -> Self {

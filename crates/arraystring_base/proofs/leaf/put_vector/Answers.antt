@@ -1,6 +1,6 @@
 use Rattle.std.proofs.Common.{◌≡◌, ◌+◌, ◌-◌, length, take, drop, arith, length-take, length-drop, drop-drop, ℕ}
 use Rattle.std.proofs.lemmas.Simd.{put_chunk_whole}
-use Rattle.arraystring_base.proofs.leaf.put_bytes.Goals as goal
+use Rattle.arraystring_base.proofs.leaf.put_vector.Goals as goal
 
 pub returns : goal.returns
 returns g c =
