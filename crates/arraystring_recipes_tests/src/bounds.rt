@@ -1,9 +1,12 @@
 //! Callers with texts that are cut, filled up, counted, or of which each piece has a bound, on values worked out by hand.
 use crate::checks::{agree, check_made};
 use arraystring::ArrayString;
-use arraystring_recipes::counts::count_of;
+use arraystring_recipes::compared::same_bytes;
+use arraystring_recipes::counts::{count_digits, count_of, has_room, is_number, is_short};
+use arraystring_recipes::endings::{chop_newline, stem};
 use arraystring_recipes::fills::{filled_up, plain_start};
 use arraystring_recipes::headings::heading;
+use arraystring_recipes::marks::{around, around_arrow, place_of};
 use arraystring_recipes::markup::{hyphened, markup, markup_of_name};
 
 #[test]
@@ -84,4 +87,43 @@ fn characters_are_counted(rt: HostRuntime) {
     ] {
         agree(&rt, count_of(text, wanted), count);
     }
+}
+
+#[test]
+fn a_name_is_looked_over(rt: HostRuntime) {
+    let name = ArrayString::<8>::from_str_truncate("a1é23");
+    agree(&rt, count_digits(&name), 3);
+    agree(&rt, (is_number("123"), is_number("12é")), (true, false));
+    agree(&rt, (is_short(&name, 5), is_short(&name, 4)), (true, false));
+    agree(
+        &rt,
+        (has_room(&name, 'é'), has_room(&name, '€')),
+        (true, false),
+    );
+    agree(&rt, same_bytes(&name, &name), true);
+}
+
+#[test]
+fn a_mark_stands_in_a_text(rt: HostRuntime) {
+    agree(&rt, around("é::b::c", "::"), Some(("é", "b::c")));
+    agree(
+        &rt,
+        (place_of("é::b", "::"), place_of("éb", "::")),
+        (Some(2), None),
+    );
+    agree(&rt, around_arrow("a->b"), Some(("a", "b")));
+}
+
+#[test]
+fn an_ending_is_taken_off(rt: HostRuntime) {
+    for (before, is_chopped, after) in [
+        ("ab\n", true, "ab"),
+        ("ab", false, "ab"),
+        ("", false, ""),
+    ] {
+        let mut line = ArrayString::from_str_truncate(before);
+        agree(&rt, chop_newline(&mut line), is_chopped);
+        agree(&rt, line.as_str(), after);
+    }
+    agree(&rt, (stem("a.b.c"), stem("abc")), ("a.b", "abc"));
 }
