@@ -1,11 +1,13 @@
-//! The two moves of bytes: `shift`, inside an array, and `write_over`, of a given run into it. Each has a second form for
-//! what runs seldom, `shift_by_call` and `write_by_call`. What makes them fast is in this file and in `leaf`.
+//! The two moves of bytes: `shift` moves bytes inside an array, and `write_over` writes given bytes into one. Each has a
+//! second form, `shift_by_call` and `write_by_call`, for code that seldom runs. What makes them fast is in this file and
+//! in `leaf`.
 //!
-//! A run moves as its first `K` bytes and its last `K`, which may overlap, and both are read before the first is
-//! written. `memmove` moves short runs in this way too. A byte that both have is written twice, to one offset, and
-//! counts as one move. They are read as vectors, since those stay in registers; arrays of bytes would be put on the
-//! stack. `N` is a constant, so the compiler leaves out the sizes that an array of `N` bytes can't have. `write_over`
-//! writes 16 bytes or more by a call, of `write_bytes`, which takes a slice and so stands once in a program.
+//! A run, which is so many bytes side by side, moves as its first `K` bytes and its last `K`. The two may overlap, so
+//! both are read before the first is written. `memmove` moves short runs in this way too. A byte that both have is
+//! written twice, to one offset, and counts as one move. They are read as vectors, since those stay in registers; arrays
+//! of bytes would be put on the stack. `N` is a constant, so the compiler leaves out the sizes that an array of `N` bytes
+//! can't have. `write_over` writes 16 bytes or more by a call, of `write_bytes`, which takes a slice and so stands once in
+//! a program.
 ghost use Rattle.std.specs.Prelude.{◌≡◌, ◌+◌, ◌-◌, ◌^◌, ◌==◌, if◌then◌else◌, ◌≤◌, ◌<◌, ◌++◌, length, take, drop};
 
 use crate::leaf::{move_bytes, move_long_run, put_vector, vector_at, write_bytes};

@@ -15,11 +15,11 @@ pub fn command(line: &[u8]) -> Option<Command<'_>>
     ensures some { IfSome result (λ c. IsLineOf line.now c) }
     ensures none { IfNone result ((c : Command) → IsLineOf line.now c → ⊥) }
 {
-    command_of_text(str::from_utf8(line).ok()?)
+    command_of_str(str::from_utf8(line).ok()?)
 }
 
 /// The command of a line that is known to be UTF-8.
-pub(crate) fn command_of_text(text: &str) -> Option<Command<'_>>
+pub(crate) fn command_of_str(text: &str) -> Option<Command<'_>>
     ensures some { IfSome result (λ c. IsLineOf text.now c) }
     ensures none { IfNone result ((c : Command) → IsLineOf text.now c → ⊥) }
 {

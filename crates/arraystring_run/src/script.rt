@@ -8,7 +8,7 @@ ghost use Rattle.arraystring_run.specs.declared.commands.Command.{Command};
 
 use crate::Command;
 use crate::find::find_byte;
-use crate::line::command_of_text;
+use crate::line::command_of_str;
 use crate::player::PlayFault;
 use std::alloc::Global;
 use std::str;
@@ -58,5 +58,5 @@ fn command_between<'a>(
         Some(text) => &text[start..end],
         None => str::from_utf8(&script[start..end]).ok()?,
     };
-    command_of_text(line)
+    command_of_str(line)
 }

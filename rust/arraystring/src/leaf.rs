@@ -27,7 +27,7 @@ pub(crate) type Place = MaybeUninit<u8>;
 /// and the byte not yet written. Thanks to the 0, each place of the text that is left after the panic has a value.
 pub(crate) const UNWRITTEN: Place = if IS_TESTED { Place::new(0) } else { Place::uninit() };
 
-/// A byte, or a place that was written. It is laid out as a `u8`.
+/// A byte that can be read: a `u8` of a text, or a place of a string's array after it was written. Both are laid out as a `u8`.
 pub(crate) trait ByteOrPlace: Copy {
     fn value(self) -> u8;
 }

@@ -37,12 +37,12 @@ impl<const N: usize> Visitor<'_> for Whole<N> {
     }
 
     fn visit_bytes<E: Error>(self, bytes: &[u8]) -> Result<ArrayString<N>, E> {
-        let text = text_of(bytes, &self)?;
+        let text = text_of_bytes(bytes, &self)?;
         self.visit_str(text)
     }
 }
 
 /// The text whose UTF-8 the bytes are. A format that has no texts gives bytes in their place.
-pub(crate) fn text_of<'a, 'de, E: Error>(bytes: &'a [u8], visitor: &impl Visitor<'de>) -> Result<&'a str, E> {
+pub(crate) fn text_of_bytes<'a, 'de, E: Error>(bytes: &'a [u8], visitor: &impl Visitor<'de>) -> Result<&'a str, E> {
     from_utf8(bytes).map_err(|_| E::invalid_value(Unexpected::Bytes(bytes), visitor))
 }

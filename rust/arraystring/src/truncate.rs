@@ -16,7 +16,7 @@ use serde::de::{Deserializer, Error, Visitor};
 use serde::ser::Serializer;
 
 use crate::ArrayString;
-use crate::serde_traits::text_of;
+use crate::serde_traits::text_of_bytes;
 
 /// Writes the text.
 ///
@@ -50,7 +50,7 @@ impl<const N: usize> Visitor<'_> for Truncated<N> {
     }
 
     fn visit_bytes<E: Error>(self, bytes: &[u8]) -> Result<ArrayString<N>, E> {
-        let text = text_of(bytes, &self)?;
+        let text = text_of_bytes(bytes, &self)?;
         self.visit_str(text)
     }
 }

@@ -29,7 +29,7 @@ impl<const N: usize> ArrayString<N> {
         ensures { IsFiltered F.step f self.old.text self.new.text }
     {
         let (offset, size) = (self.start as usize, self.size as usize);
-        retain_at(&mut self.array, &mut self.size, offset, size, f);
+        retain_in_array(&mut self.array, &mut self.size, offset, size, f);
     }
 }
 
@@ -39,7 +39,7 @@ impl<const N: usize> ArrayString<N> {
 /// only to the left. At each call of `f` the `kept` bytes from `offset` on are those of the
 /// characters that were kept so far. If `f` panics, the text is those bytes.
 #[inline]
-fn retain_at<const N: usize, F: FnMut(char) -> bool + Drop>(
+fn retain_in_array<const N: usize, F: FnMut(char) -> bool + Drop>(
     array: &mut [u8; N],
     kept: &mut u8,
     offset: usize,

@@ -12,4 +12,4 @@ returns-in_err-ok-clause-none c =
 pub returns-clause-none : goal.returns-clause-none
 returns-clause-none c =
     let whole : c.in_ok-ok.field-0.now ≡ c.args.line.now = search rules in
-    subst (λ l. IfNone c.command_of_text.result ((d : Command) → IsLineOf l d → ⊥)) whole c.command_of_text.ensures.none
+    subst (λ l. IfNone c.command_of_str.result ((d : Command) → IsLineOf l d → ⊥)) whole c.command_of_str.ensures.none

@@ -20,4 +20,4 @@ returns-clause-none c =
           rw (w.line-is, w.range-line.ensures.value, text) refl
       | in-None+in_ok-line-in-None w ↦ search rules
     ] in
-    subst (λ l. IfNone c.command_of_text.result ((d : Command) → IsLineOf l d → ⊥)) same c.command_of_text.ensures.none
+    subst (λ l. IfNone c.command_of_str.result ((d : Command) → IsLineOf l d → ⊥)) same c.command_of_str.ensures.none

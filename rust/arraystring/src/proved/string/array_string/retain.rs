@@ -16,7 +16,7 @@ impl<const N: usize> ArrayString<N> {
     #[inline]
     pub fn retain<F: FnMut(char) -> bool>(&mut self, f: F) {
         let (offset, size) = (self.start as usize, self.size as usize);
-        retain_at(&mut self.array, &mut self.size, offset, size, f);
+        retain_in_array(&mut self.array, &mut self.size, offset, size, f);
     }
 }
 
@@ -26,7 +26,7 @@ impl<const N: usize> ArrayString<N> {
 /// only to the left. At each call of `f` the `kept` bytes from `offset` on are those of the
 /// characters that were kept so far. If `f` panics, the text is those bytes.
 #[inline]
-fn retain_at<const N: usize, F: FnMut(char) -> bool>(
+fn retain_in_array<const N: usize, F: FnMut(char) -> bool>(
     array: &mut [crate::leaf::Place; N],
     kept: &mut u8,
     offset: usize,

@@ -1,6 +1,6 @@
 use Rattle.std.proofs.Common.{◌-◌}
 use Rattle.arraystring_core.proofs.RetainLemmas.{IsPartRetained}
-use Rattle.arraystring_core.proofs.array_string.retain.retain_at.Given as goal
+use Rattle.arraystring_core.proofs.array_string.retain.retain_in_array.Given as goal
 
 abbrev pub invariant-loop-read : goal.invariant-loop-read
 invariant-loop-read g l =

@@ -4,8 +4,8 @@ use Rattle.std.proofs.lemmas.Str.{IsUtf8-nil, chars-nil}
 use Rattle.arraystring_base.specs.Text.{width}
 use Rattle.arraystring_core.proofs.RetainLemmas.{char-begins, callable-next, retained-moved, retained-left_out, unread, ascii-begins}
 use Rattle.arraystring_core.proofs.EndLemmas.{low-width}
-use Rattle.arraystring_core.proofs.array_string.retain.retain_at.Goals as goal
-use Rattle.arraystring_core.proofs.array_string.retain.retain_at.Goals.{then-f, else-f, then-f-2, else-f-2}
+use Rattle.arraystring_core.proofs.array_string.retain.retain_in_array.Goals as goal
+use Rattle.arraystring_core.proofs.array_string.retain.retain_in_array.Goals.{then-f, else-f, then-f-2, else-f-2}
 
 pub loop-read-init : goal.loop-read-init
 loop-read-init g c =
