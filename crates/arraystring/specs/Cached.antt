@@ -1,2 +1,2 @@
--- The names of `arraystring.specs.InnerResult`. What stands after `as` is an old name, which stays until the next release.
+-- These are the names of `arraystring.specs.InnerResult`. An old name stands after `as`, and stays until the next release.
 pub use Rattle.arraystring.specs.InnerResult.{inner_result, inner_result as held}

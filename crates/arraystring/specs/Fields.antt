@@ -1,12 +1,12 @@
 -- The parts of a text between the places where a character stands.
 use Rattle.std.specs.Prelude.{ℕ, List, [], ◌∷◌, if◌then◌else◌, ◌==◌}
 
--- a character in front of the first part
+-- the parts with the character d put in front of the first; if there is no part, d alone is the only one
 abbrev pub in_front : ℕ → List (List ℕ) → List (List ℕ)
 in_front d [] = (d ∷ []) ∷ []
 in_front d (part ∷ rest) = (d ∷ part) ∷ rest
 
--- the parts, which `c` separates: one more than there are `c` in the text
+-- the parts of a text between the characters `c`: one more than there are `c`
 abbrev pub fields : ℕ → List ℕ → List (List ℕ)
 fields c [] = [] ∷ []
 fields c (d ∷ t) = if d == c then [] ∷ fields c t else in_front d (fields c t)

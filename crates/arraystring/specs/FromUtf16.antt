@@ -1,2 +1,2 @@
--- The names of `arraystring_core.specs.FromUtf16`. What stands after `as` is an old name, which stays until the next release.
+-- These are the names of `arraystring_core.specs.FromUtf16`. An old name stands after `as`, and stays until the next release.
 pub use Rattle.arraystring_core.specs.FromUtf16.{GivesWhole, GivesPrefix, stop_by_next, stop_by_next as stop_at}

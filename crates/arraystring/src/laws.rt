@@ -95,6 +95,6 @@ pub fn well_formed_or_not(given: &[u8])
 pub fn keys_ascend<const N: usize, V>(entries: &BTreeMap<ArrayString<N>, V>)
     ensures { AllPairs IsBefore (map (λ key. key.text) (keys entries.now)) }
 {
-    // The order of a map is known only after a call on it.
+    // The prover knows the order of a map only after a call on it.
     let _ = entries.len();
 }

@@ -1,7 +1,7 @@
--- What a contract sees of `Steps`.
+-- A contract sees `Steps` as two counts.
 use Rattle.std.specs.Prelude.{ℕ}
 
--- how many calls of `look` were made, and how many bytes `shift` moved to another offset
+-- the number of calls of `look`, and the number of bytes that `shift` moved to another offset
 pub record Counts : Type 0 where
   pub looked : ℕ
   pub moved : ℕ

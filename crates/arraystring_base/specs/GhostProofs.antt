@@ -1,4 +1,4 @@
--- The proof that a ghost member of `Error` cites.
+-- The ghost member `respects_eq` of `Error` cites this proof, so that equal errors have equal hashes.
 use Rattle.std.specs.Prelude.{◌≡◌, true}
 use Rattle.std.proofs.Common.{true≢false, refl, sym}
 use Rattle.arraystring_base.specs.declared.error.Error.{Error}
@@ -6,7 +6,7 @@ use Rattle.arraystring_base.specs.declared.error.Error.TheVariants.{Utf8, Utf16,
 use Rattle.arraystring_base.specs.contracts.error.ErrorPartialEq.TheImpl.{ghosts}
 use Rattle.arraystring_base.specs.Names.{error_name}
 
--- equal errors have one name
+-- equal errors have the same name
 pub same_names : (a b : Error) → ghosts.eq a b ≡ true → error_name a ≡ error_name b
 same_names Utf8 Utf8 e = refl
 same_names Utf8 Utf16 e = absurd (true≢false (sym e))

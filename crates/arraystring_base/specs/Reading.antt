@@ -1,4 +1,4 @@
--- What a contract sees of `Units`: the reading of the units that are left, found from the last unit on.
+-- A contract sees `Units` as the reading of the units that are left. It is computed from the last unit back to the first.
 use Rattle.std.specs.Prelude.{ℕ, Bool, ◌+◌, ◌-◌, ◌*◌, List, [], ◌∷◌, nat_lt, nat_le, ◌&&◌, if◌then◌else◌}
 use Rattle.arraystring_base.specs.declared.utf16.Unit16.{Unit16}
 use Rattle.arraystring_base.specs.declared.utf16.Unit16.TheVariants.{Char, Lone}
@@ -27,7 +27,7 @@ read_before unit (Char c ∷ items) = single_item unit ∷ Char c ∷ items
 read_before unit (Lone next ∷ items) =
     if is_high unit && is_low next then Char (pair_character unit next) ∷ items else single_item unit ∷ Lone next ∷ items
 
--- the reading of units: the last is read first, and each other is put before what is read of those behind it
+-- the reading of units, from the last to the first: each is put before the reading of those behind it
 abbrev pub reading : List ℕ → List Unit16
 reading [] = []
 reading (unit ∷ units) = read_before unit (reading units)

@@ -11,7 +11,7 @@ abbrev pub IsText : List ℕ → Type 0
 IsText [] = ⊤
 IsText (c ∷ cs) = IsScalarValue c × IsText cs
 
--- how many bytes of UTF-8 a character takes
+-- the number of bytes of UTF-8 that a character takes
 unfoldable pub width : ℕ → ℕ
 width c = if nat_lt c 0x80 then 1 else if nat_lt c 0x800 then 2 else if nat_lt c 0x1_0000 then 3 else 4
 
@@ -27,7 +27,7 @@ utf8 c =
     if nat_lt c 0x1_0000 then (0xE0 + c / 4096) ∷ continuation (c / 64) ∷ continuation c ∷ [] else
     (0xF0 + c / 262144) ∷ continuation (c / 4096) ∷ continuation (c / 64) ∷ continuation c ∷ []
 
--- how many bytes of UTF-8 a text takes
+-- the number of bytes of UTF-8 that a text takes
 abbrev pub size : List ℕ → ℕ
 size [] = 0
 size (c ∷ cs) = width c + size cs

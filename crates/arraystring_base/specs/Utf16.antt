@@ -1,5 +1,5 @@
--- UTF-16 (Unicode Standard, sections 3.8 and 3.9): how units are read, where a reading stops, and the units of a text. Numbers are
--- natural numbers here, so that no sum overflows.
+-- The reading of UTF-16 (Unicode Standard, sections 3.8 and 3.9), the place where it stops, and the units of a text. Numbers are natural
+-- numbers here, so that no sum overflows.
 use Rattle.std.specs.Prelude.{◌≡◌, ℕ, ◌+◌, ◌-◌, ◌/◌, ◌%◌, ◌<◌, ◌≤◌, List, [], ◌∷◌, ◌++◌, map, nat_lt, nat_le, if◌then◌else◌}
 use Rattle.std.specs.List.{All}
 use Rattle.arraystring_base.specs.Text.{IsScalarValue, width, size}
@@ -24,7 +24,7 @@ abbrev pub text_units : List ℕ → List ℕ
 text_units [] = []
 text_units (c ∷ cs) = utf16 c ++ text_units cs
 
--- an item has what its case says: a `Char` a scalar value, and a `Lone` a surrogate
+-- the number in an item is what its case says: a scalar value in `Char`, a surrogate in `Lone`
 abbrev pub IsItem : Unit16 → Type 0
 IsItem (Char c) = IsScalarValue c
 IsItem (Lone unit) = (0xD800 ≤ unit) × (unit < 0xE000)
@@ -53,15 +53,15 @@ pub record IsReading (units : List ℕ) (items : List Unit16) : Type 0 where
   pub joined : units ≡ joined_units items
   pub apart : NoPairApart items
 
--- where a call stops that takes characters from items as long as they fit. A stop has the characters that were taken, and its case says
+-- the stop of a call that takes characters from items as long as they fit. A stop has the characters that were taken, and its case says
 -- what comes right behind them: nothing (`End`), a lone surrogate (`Fault`), or a character that no longer fits (`Full`)
 pub data Stop : Type 0 where
   End : List ℕ → Stop
   Fault : List ℕ → Stop
   Full : List ℕ → Stop
 
--- this is the stop in these items, with room for n bytes: they begin with its characters, which fit, and what comes right behind them
--- is what its case says
+-- a call that takes characters from these items, with room for n bytes, ends at this stop: the items begin with its characters, which fit,
+-- and its case says what comes right behind them
 abbrev pub StopsAt : List Unit16 → ℕ → Stop → Type 0
 StopsAt items n (End prefix) = (items ≡ map Char prefix) × (size prefix ≤ n)
 StopsAt items n (Fault prefix) =

@@ -103,8 +103,8 @@ pub fn text_from(text: &str, start: usize) -> &str
     &text[start..]
 }
 
-/// Moves `len` bytes by `shift`, for what runs seldom. (In Rust this is one `memmove` at any length, because its call is
-/// less code than the tests of the length in `shift`. Here `shift` is inlined, because a call would cost more.)
+/// Moves `len` bytes by `shift`, for code that runs seldom. (In Rust this is one `memmove` at any length, because its
+/// call is less code than the tests of the length in `shift`. Here `shift` is inlined, because a call would cost more.)
 #[inline(always)]
 pub(crate) fn move_bytes<const N: usize>(array: &mut [u8; N], from: usize, to: usize, len: usize)
     requires source { from + len ≤ N }
@@ -116,7 +116,7 @@ pub(crate) fn move_bytes<const N: usize>(array: &mut [u8; N], from: usize, to: u
 }
 
 /// Moves `len` bytes: 16 or more, and at most `N`. The compiler leaves out the branches for sizes above `N`. (In Rust
-/// this is one `memmove`. The kit has none that is fast, so here the bytes go through vectors.)
+/// this is one `memmove`. The kit has no fast one, so here the bytes go through vectors.)
 #[inline(always)]
 pub(crate) fn move_long_run<const N: usize>(all: &mut [u8], from: usize, to: usize, len: usize)
     requires source { from + len ≤ length all.old }
@@ -159,8 +159,8 @@ fn move_pairs<const K: usize>(all: &mut [u8], from: usize, to: usize, len: usize
     put_pair(all, to + rest, before_end, end);
 }
 
-/// Writes any number of bytes. The proved build never inlines it, so its code stands there once. The parameters are in
-/// the order of those of a call that appends, because no register is then moved for it.
+/// Writes any number of bytes. The proved build never inlines it, so its code stands there once. The parameters stand
+/// in the same order as in a call that appends, so that no register has to be moved for it.
 #[inline(never)]
 pub(crate) fn write_bytes(all: &mut [u8], given: &[u8], at: usize)
     requires { at + length given.now ≤ length all.old }

@@ -244,7 +244,7 @@ pub fn encode<const N: usize>(ch: char, array: &mut [u8; N], at: usize) -> usize
     encode_wide(ch, all, at)
 }
 
-/// Writes the UTF-8 of a character that is not ASCII. The compiler inlines it where it serves: a cold function only
+/// Writes the UTF-8 of a character that is not ASCII. The compiler inlines it where that pays, and a cold function only
 /// calls it.
 #[tactic(auto, unfolding(crate::specs::Text::width, crate::specs::Text::utf8))]
 fn encode_wide(ch: char, all: &mut [u8], at: usize) -> usize

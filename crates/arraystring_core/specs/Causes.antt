@@ -1,10 +1,10 @@
--- Why an edit is refused: the tests that it makes in turn, and the cause of the first that holds.
+-- An edit makes tests in turn, and the first that holds gives the cause of its refusal.
 use Rattle.std.specs.Prelude.{ℕ, List, [], ◌∷◌, Bool, not, ◌&&◌, Option, Some, None, if◌then◌else◌, nat_lt, nat_le}
 use Rattle.arraystring_base.specs.Text.{size, boundary}
 use Rattle.arraystring_base.specs.declared.error.Error.{Error}
 use Rattle.arraystring_base.specs.declared.error.Error.TheVariants as error
 
--- why an edit is refused: an index or a range that is not in the text (`Past`), a result that does not fit (`Room`), or an index inside a
+-- the cause of a refusal: an index or a range that is not in the text (`Past`), a result that does not fit (`Room`), or an index inside a
 -- character (`Inside`)
 pub data Cause : Type 0 where
   Past : Cause
@@ -17,7 +17,7 @@ error_of Past = error.OutOfBounds
 error_of Room = error.OutOfBounds
 error_of Inside = error.Utf8
 
--- a test: whether it holds, so that the edit is refused, and the cause that it gives then
+-- a test of an edit: if it `holds`, the edit is refused, for the `cause` of the first test that holds
 pub record Test : Type 0 where
   pub holds : Bool
   pub cause : Cause
@@ -42,7 +42,7 @@ inside_character t i = record { holds = nat_lt i (size t) && not (boundary t i);
 abbrev pub no_room : ℕ → ℕ → Test
 no_room result_size n = record { holds = nat_lt n result_size; cause = Room }
 
--- the cause that the first test that holds gives; none if no test holds
+-- the cause of the first test that holds; `None` if no test holds
 abbrev pub first_cause : List Test → Option Cause
 first_cause [] = None
 first_cause (test ∷ rest) = if test.holds then Some test.cause else first_cause rest

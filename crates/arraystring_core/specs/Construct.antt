@@ -1,4 +1,4 @@
--- What a constructor makes of a text.
+-- The result of a constructor that takes the whole text, or refuses it.
 use Rattle.std.specs.Prelude.{◌≡◌, ℕ, ◌<◌, ◌≤◌, List, Result, MatchResult}
 use Rattle.arraystring_base.specs.Text.{size}
 use Rattle.arraystring_base.specs.declared.error.Error.{Error}

@@ -1,4 +1,4 @@
--- What a contract sees of a `Drain`.
+-- The view that a contract has of a `Drain`.
 use Rattle.std.specs.Prelude.{ℕ, ◌++◌, List, [], ◌∷◌, Option, Some, None, Result, Ok, Err, drop}
 use Rattle.arraystring_base.specs.Text.{front, back}
 use Rattle.arraystring_base.specs.declared.error.Error.{Error}
@@ -12,7 +12,7 @@ pub record Drained : Type 0 where
   pub yielded : List ℕ
   pub spare : List ℕ
 
--- the drain that gave from the front what the removed string has before the boundary i, so that the part from i on is left
+-- the drain of the removed string after it gave the part before the boundary i from the front, so that the part from i on is left
 abbrev pub drain_from : Stored → ℕ → Drained
 drain_from removed i = record { left = back removed.text i; yielded = front removed.text i; spare = removed.spare }
 
@@ -30,8 +30,8 @@ pub data End : Type 0 where
   Front : End
   Back : End
 
--- what a walk over a drain gave from the front (`fronts`) and from the back (`backs`), each in the order in which it was given, and the
--- characters that it left (`left`)
+-- the result of a walk over a drain, which is a row of calls of `next` and `next_back`: the characters from the front (`fronts`) and from
+-- the back (`backs`), each in the order in which they were given, and those that are left (`left`)
 pub record Walked : Type 0 where
   pub fronts : List ℕ
   pub left : List ℕ

@@ -1,4 +1,4 @@
--- What each edit does to a text: its tests in their order, what it returns, and the text after.
+-- Each edit of a text: its tests in their order, its result, and the text after.
 use Rattle.std.specs.Prelude.{◌≡◌, ℕ, ◌+◌, ◌-◌, List, [], ◌∷◌, ◌++◌, Bool, Option, Some, None, Result, Ok, Err, OnOk, OnErr, if◌then◌else◌, is_none, slice_index_or, drop, map}
 use Rattle.std.specs.Char.{to_ascii_uppercase, to_ascii_lowercase}
 use Rattle.std.specs.declared.fmt.Error.{Error as FmtError}
@@ -8,7 +8,7 @@ use Rattle.arraystring_base.specs.declared.error.Error.{Error}
 use Rattle.arraystring_base.specs.declared.error.Error.TheVariants as error
 use Rattle.arraystring_base.specs.declared.error.OutOfBounds.{OutOfBounds}
 use Rattle.arraystring_base.specs.declared.error.Utf8.{Utf8}
--- callers import these words from here
+-- callers import these definitions from here
 pub use Rattle.arraystring_core.specs.Causes.{Cause, Past, Room, Inside, error_of, Test, past_text, past_text as past, reversed_range, reversed_range as crossed, at_end, inside_character, inside_character as inside, no_room, first_cause}
 pub use Rattle.arraystring_core.specs.Held.{NoneHolds, FirstHolds}
 pub use Rattle.arraystring_core.specs.Parts.{first_of, last_of, all_but_last, without_leading, without_trailing, part, part_in}
@@ -26,7 +26,7 @@ abbrev pub ok_unless : {A : Type 0} → Option Cause → A → Result A Error
 ok_unless None value = Ok value
 ok_unless (Some cause) value = Err (error_of cause)
 
--- what the edit returns: its result if no test holds, and else the error of the first test that holds
+-- the value that the edit returns: its result if no test holds, and else the error of the first test that holds
 abbrev pub result_of : {A : Type 0} → Edit A → Result A Error
 result_of edit = ok_unless (first_cause edit.tests) edit.result
 
@@ -46,8 +46,8 @@ abbrev pub from_out_of_bounds : {A : Type 0} → Result A OutOfBounds → Result
 from_out_of_bounds (Ok value) = Ok value
 from_out_of_bounds (Err e) = Err error.OutOfBounds
 
--- the result of `write_str`, with its `fmt::Error` of std, which says here that the text does not fit, as a case of `Error`, as `Makes`
--- takes it
+-- the result of `write_str`, as `Makes` takes it: its `fmt::Error` of std, which says here that the text does not fit, becomes
+-- `OutOfBounds`, a case of `Error`
 abbrev pub from_fmt_error : {A : Type 0} → Result A FmtError → Result A Error
 from_fmt_error (Ok value) = Ok value
 from_fmt_error (Err e) = Err error.OutOfBounds
@@ -68,7 +68,7 @@ with_text (Err e) = Err e
 abbrev pub addition : List ℕ → List ℕ → ℕ → Edit (Unit {0})
 addition t given n = record { tests = no_room (size t + size given) n ∷ []; result = tt; after = t ++ given }
 
--- what fits of `given` is put at the end
+-- the longest prefix of `given` that fits is put at the end
 abbrev pub addition_of_cut : List ℕ → List ℕ → ℕ → Edit (Unit {0})
 addition_of_cut t given n = record { tests = []; result = tt; after = t ++ cut given (n - size t) }
 
@@ -84,7 +84,7 @@ insertion t i given n = record {
   after = front t i ++ (given ++ back t i);
 }
 
--- what fits of `given` is put at i
+-- the longest prefix of `given` that fits is put at i
 abbrev pub insertion_of_cut : List ℕ → ℕ → List ℕ → ℕ → Edit (Unit {0})
 insertion_of_cut t i given n = record {
   tests = past_text t i ∷ inside_character t i ∷ [];
@@ -100,8 +100,8 @@ truncation t i = record { tests = inside_character t i ∷ []; result = tt; afte
 abbrev pub trimming : (ℕ → Bool) → List ℕ → Edit (Unit {0})
 trimming passes t = record { tests = []; result = tt; after = without_leading passes (without_trailing passes t) }
 
--- the character that begins at i is taken out and returned. (The last 0 in `result` stands for an index at which no character begins. No
--- call returns it, because a test holds there)
+-- the character that begins at i is taken out and returned. (If i is at the end or past it, `slice_index_or` gives its last argument, 0,
+-- but then the first test holds, and no call returns the 0)
 abbrev pub removal : List ℕ → ℕ → Edit ℕ
 removal t i = record {
   tests = at_end t i ∷ inside_character t i ∷ [];

@@ -1,4 +1,4 @@
--- What the constructors from UTF-16 return where the reading of the units stops.
+-- The results of the constructors from UTF-16, by the stop of the reading.
 use Rattle.std.specs.Prelude.{◌≡◌, Option, Some, None, List, ℕ, Result, IsOkAnd, IsErrAnd, IsErr}
 use Rattle.arraystring_base.specs.Utf16.{Stop, End, Fault, Full}
 use Rattle.arraystring_base.specs.declared.error.Error.{Error}
@@ -8,14 +8,14 @@ use Rattle.arraystring_base.specs.declared.utf16.Unit16.{Unit16}
 use Rattle.arraystring_base.specs.declared.utf16.Unit16.TheVariants.{Char, Lone}
 use Rattle.arraystring_core.specs.Stored.{Stored}
 
--- what `try_from_utf16` returns where the reading stops so: the whole text, or the error of what comes first, a lone surrogate or a
--- character that does not fit
+-- the result of `try_from_utf16` at this stop: the whole text, or the error of what comes first, which is a lone surrogate or a character
+-- that does not fit
 abbrev pub GivesWhole : Stop → Result Stored Error → Type 0
 GivesWhole (End prefix) result = IsOkAnd result (λ string. string.text ≡ prefix)
 GivesWhole (Fault prefix) result = IsErrAnd result (λ e. e ≡ error.Utf16)
 GivesWhole (Full prefix) result = IsErrAnd result (λ e. e ≡ error.OutOfBounds)
 
--- what `from_utf16` returns where the reading stops so: the prefix that fits, or an error if a lone surrogate comes right behind it
+-- the result of `from_utf16` at this stop: the prefix that fits, or an error if a lone surrogate comes right behind it
 abbrev pub GivesPrefix : Stop → Result Stored Utf16 → Type 0
 GivesPrefix (End prefix) result = IsOkAnd result (λ string. string.text ≡ prefix)
 GivesPrefix (Fault prefix) result = IsErr result

@@ -1,4 +1,4 @@
--- The proofs that ghost members of `ArrayString` and `Drain` cite: the fields can be computed from what a contract sees of a value.
+-- The proofs that ghost members of `ArrayString` and `Drain` cite: the fields can be computed from the view that a contract has of a value.
 use Rattle.std.proofs.Common.{◌≡◌, ℕ, List, ◌++◌, length, take, drop, ap, ◌∙◌, arith, IsUtf8, length-take-le, length-drop, take-append-drop, take_at}
 use Rattle.std.proofs.lemmas.List.{drop_at}
 use Rattle.std.proofs.lemmas.Str.{IsUtf8-had}
@@ -9,7 +9,7 @@ use Rattle.arraystring_core.specs.Stored.{Stored}
 use Rattle.arraystring_core.specs.Layout.{string_in, IsStored, IsDrained, array_of}
 use Rattle.arraystring_core.specs.Drained.{drain_from, removed_of}
 
--- what a contract sees of a string has the bytes and the size of its text, and the array can be computed from it
+-- the view of a string has the bytes and the size of its text, and the array can be computed from it
 module _ {array_size : ℕ} {array : List ℕ} {start n : ℕ} (is : IsStored array_size array start n) where
   pub stored-utf8 : IsUtf8 (take n (drop start array))
   stored-utf8 = IsUtf8-had _ is.utf8
@@ -32,8 +32,8 @@ module _ {array_size : ℕ} {array : List ℕ} {start n : ℕ} (is : IsStored ar
       ∙ ap (λ b. front ++ (b ++ back)) stored-bytes
       ∙ ap (λ d. front ++ d) (take-append-drop n (drop start array)) ∙ take-append-drop start array
 
--- from what a contract sees of a drain can be computed: the removed string, the size of what was given from the front, the array, and the
--- size of the removed text
+-- the removed string, the size of what was given from the front, the array and the size of the removed text can be computed from the view
+-- of a drain
 module _ {array_size : ℕ} {array : List ℕ} {start n i : ℕ} (is : IsDrained array_size array start n i) where
   drained-removed : removed_of (drain_from (string_in array start n) i) ≡ string_in array start n
   drained-removed = ap with_spare (front-back (string_in array start n).text i)

@@ -1,4 +1,4 @@
--- What laws say of the tests that an edit makes: that none holds, or which is the first that does. No contract uses these words.
+-- Laws say with these words that no test of an edit holds, or which is the first that does. No contract uses them.
 use Rattle.std.specs.Prelude.{◌≡◌, ◌⊎◌, ⊤, List, [], ◌∷◌, true, false}
 use Rattle.arraystring_core.specs.Causes.{Cause, Test}
 

@@ -18,7 +18,7 @@ text_within value n = option_map (λ given. cut (chars given) n) (as_str value)
 abbrev pub whole_text : Data → Option (List ℕ)
 whole_text value = option_map chars (as_str value)
 
--- why the text of a JSON value, which is `given`, is not taken whole into n bytes: there is no text, or it is larger
+-- the reason why `given`, the text of a JSON value, is not taken whole into n bytes: there is no text, or it is larger
 abbrev pub IsWhyRefused : Option (List ℕ) → ℕ → ValueError → Type 0
 IsWhyRefused given n NotText = given ≡ None
 IsWhyRefused given n OutOfBounds = IsSomeAnd given (λ t. n < size t)

@@ -1,4 +1,4 @@
--- How a text lies in the array of an `ArrayString` or a `Drain`.
+-- The place of a text in the array of an `ArrayString` or a `Drain`.
 use Rattle.std.specs.Prelude.{◌≡◌, ℕ, ◌+◌, ◌≤◌, List, ◌∷◌, ◌++◌, length, take, drop, chars, slice_index, IsUtf8, IsTrue}
 use Rattle.arraystring_base.specs.Text.{bytes, cap, boundary}
 use Rattle.arraystring_core.specs.Stored.{Stored}
@@ -11,15 +11,15 @@ string_in array start n = record {
   spare = start ∷ (take start array ++ drop n (drop start array));
 }
 
--- what holds of every string: its array has `array_size` bytes, and the n bytes from `start` on, its text, are UTF-8 and end within the
+-- the invariant of a string: its array has `array_size` bytes, and the n bytes from `start` on, its text, are UTF-8 and end within the
 -- capacity
 pub record IsStored (array_size : ℕ) (array : List ℕ) (start n : ℕ) : Type 0 where
   pub within : start + n ≤ cap array_size
   pub length : length array ≡ array_size
   pub utf8 : ∥ IsUtf8 (take n (drop start array)) ∥₁
 
--- what holds of every `Drain`: the n bytes of its array from `start` on are the removed text, without what was given from the back, and
--- i, before which lies what was given from the front, is a boundary of that text
+-- the invariant of a `Drain`: the n bytes of its array from `start` on are the removed text, without what was given from the back, and i,
+-- before which lies what was given from the front, is a boundary of that text
 pub record IsDrained (array_size : ℕ) (array : List ℕ) (start n i : ℕ) : Type 0 where
   pub in_array : IsStored array_size array start n
   pub at : IsTrue (boundary (string_in array start n).text i)

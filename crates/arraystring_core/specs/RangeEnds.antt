@@ -3,8 +3,8 @@ use Rattle.std.specs.Prelude.{◌≡◌, ℕ, ◌+◌, min}
 use Rattle.std.specs.declared.ops.Bound.{Bound}
 use Rattle.std.specs.declared.ops.Bound.TheVariants.{Included, Excluded, Unbounded}
 
--- `claim` holds of the two bounds that the methods of a range return. They are `start_of` and `end_of` of the range if it `has` bounds,
--- and else unknown (an inclusive range that was iterated to its end has none, nor has a range type whose contract names none)
+-- `claim` holds of the two bounds that the methods of a range return. They are `start_of` and `end_of` of the range if `has` holds of it,
+-- and else unknown (as for an inclusive range that was iterated to its end, or a range type whose contract names no bounds)
 pub record OfReturnedBounds {R : Type 0} (has : R → Type 0) (start_of end_of : R → Bound ℕ) (range : R)
     (claim : Bound ℕ → Bound ℕ → Type 0) : Type 0 where
   pub start : Bound ℕ

@@ -1,4 +1,4 @@
--- A closure that is called with characters.
+-- These are conditions on a closure that is called with characters.
 use Rattle.std.specs.Prelude.{◌≡◌, ℕ, Bool, List, ◌∷◌, ◌++◌}
 use Rattle.std.specs.List.{FoldsTo}
 

@@ -1,4 +1,4 @@
--- What a replacement does to a text and to a count of moves.
+-- The effect of a replacement on a text and on a count of moves.
 use Rattle.std.specs.Prelude.{◌≡◌, ◌≢◌, ℕ, ◌+◌, ◌-◌, ◌≤◌, List, ◌++◌, min}
 use Rattle.arraystring_base.specs.Text.{size, front, back}
 use Rattle.arraystring_base.specs.Counts.{Counts}

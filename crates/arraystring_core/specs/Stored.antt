@@ -1,4 +1,4 @@
--- What a contract sees of an `ArrayString`.
+-- The view that a contract has of an `ArrayString`.
 use Rattle.std.specs.Prelude.{ℕ, List, []}
 
 -- `text`: the characters of the text. `spare`: numbers from which, together with the text, the fields of a string can be computed. No

@@ -1,4 +1,4 @@
--- What a call takes from an iterator that is passed in, and the text of the pieces that it gives.
+-- The items that a call takes from an iterator that is passed in, and the text of the pieces that the iterator gives.
 use Rattle.std.specs.Prelude.{◌≡◌, ℕ, ◌<◌, ◌≤◌, List, [], ◌∷◌, ◌++◌, ◌⊎◌, Option, map, chars}
 use Rattle.std.specs.Iterator.{Drains, Yields, AlwaysYields}
 use Rattle.std.specs.Borrow.{Bor}
@@ -38,6 +38,6 @@ module _ {U T A : Type 0} (becomes : U → T → Type 0) (steps : T → Option A
   abbrev pub Fits : (List A → List ℕ) → U → ℕ → Type 0
   Fits spelled iter room = (it : T) → becomes iter it → (items : List A) (rest : T) → Yields steps it items rest → size (spelled items) ≤ room
 
-  -- all items that come are known: `all` is the list of their values, which `value` tells
+  -- the iterator gives items whose values are `all`; `value` gives the value of an item
   abbrev pub Gives : {B : Type 0} → (A → B) → U → List B → Type 0
   Gives value iter all = (it : T) → becomes iter it → AlwaysYields steps value it all

@@ -26,7 +26,7 @@ use crate::{ArrayString, Drain};
 pub fn text_fits<const N: usize>(string: &ArrayString<N>)
     ensures { size string.now.text ≤ cap N }
 {
-    // Outside of the module of a type, its invariant is known of a value only after a call on it.
+    // Outside the module of a type, the prover knows its invariant only after a call on the value.
     let _ = string.len();
 }
 
@@ -36,7 +36,7 @@ pub fn text_fits<const N: usize>(string: &ArrayString<N>)
 pub fn text_spelled<const N: usize>(string: &ArrayString<N>)
     ensures { chars (bytes string.now.text) ≡ string.now.text }
 {
-    // As in `text_fits`.
+    // This call makes the invariant known, as in `text_fits`.
     let _ = string.as_str();
 }
 
@@ -53,7 +53,7 @@ pub fn left_given<const N: usize>(drained: &Drain<N>)
 pub fn left_fits<const N: usize>(drained: &Drain<N>)
     ensures { size drained.now.left ≤ cap N }
 {
-    // As in `text_fits`.
+    // This call makes the invariant known, as in `text_fits`.
     let _ = drained.as_str();
 }
 

@@ -26,8 +26,8 @@ pub(crate) fn saturating_ends<R: RangeBounds<u8> + Drop>(range: R, len: u8) -> (
     (start, end)
 }
 
-/// The ends of a range in a text of `len` bytes. An excluded start and an included end count as the next index, also
-/// as 256, which is past every text.
+/// The ends of a range in a text of `len` bytes. An excluded start and an included end count as the next index,
+/// which may be 256, and is then past every text.
 #[inline]
 pub(crate) fn plain_ends<R: RangeBounds<u8> + Drop>(range: R, len: u8) -> (usize, usize)
     ensures { OfReturnedBounds R.has_bounds R.start_bound R.end_bound range (λ start end.

@@ -1,4 +1,4 @@
--- When two runs of the same commands agree.
+-- Two runs of the same commands agree if their replies do.
 use Rattle.std.specs.Prelude.{◌≡◌, ◌≤◌, ⊤, ℕ, List, [], ◌∷◌, take, Option, Some, None}
 use Rattle.arraystring_run.specs.Runs.{ReplyView}
 use Rattle.arraystring_run.specs.declared.commands.Command.{Command}

@@ -1,4 +1,4 @@
--- What is promised of a script that was played, to its end or not.
+-- The promise for a script that was played, to its end or not.
 use Rattle.std.specs.Prelude.{◌≡◌, ◌≢◌, ℕ, ⊤, List, Option, IfSome, Result, IfErr, OnOk}
 use Rattle.std.specs.Io.KnownBytes.{Appends}
 use Rattle.arraystring_run.specs.Printing.{run_printed}
@@ -22,9 +22,9 @@ IsPlayed input n old new = (cs : List Command) × AreLinesOf (lines input) cs ×
 abbrev pub IsPartPlayed : List ℕ → ℕ → Option (List ℕ) → Option (List ℕ) → Type 0
 IsPartPlayed input n old new = (cs : List Command) × AreLinesOf (lines input) cs × AppendsPrefix old new (run_printed cs n)
 
--- what `played`, which `play` returned at the capacity n, says of the script `given` and of the bytes of the writer before and after, if
--- the contracts of the streams tell these: that the script was played; which line is bad; that after a fault other than `Write` the
--- writer is as before (`SameOutput`); and that after `Write` a prefix was appended
+-- `played` is what `play` returned at the capacity n, and `old` and `new` are the bytes of the writer before and after. `Ok` says that the
+-- script `given` was played, and `BadLine` which line is bad. After any fault but `Write` the writer is as before (`SameOutput`), and after
+-- `Write` a prefix was appended. Nothing is said of bytes that the contracts of the streams do not tell
 pub record IsOutcome (n : ℕ) (given old new : Option (List ℕ)) (SameOutput : Type 0) (played : Result (Unit {0}) PlayFault)
     : Type 0 where
   pub whole : OnOk played (IfSome given (λ input. IsPlayed input n old new))

@@ -1,4 +1,4 @@
--- What the program does with the word that it is given: the capacity, the faults that it reports, and its exit status.
+-- The program: the capacity that its word names, the faults that it reports, and its exit status.
 use Rattle.std.specs.Prelude.{◌≡◌, ◌≢◌, ◌≤◌, ◌⊎◌, ℕ, List, [], ◌++◌, if◌then◌else◌, Option, Some, None, IfSome, IsSomeAnd, Result, Ok, Err, codes, decimal, nat_eq}
 use Rattle.std.specs.Borrow.{Bor}
 use Rattle.std.specs.Cmp.Lexicographic.{pointwise}
@@ -18,7 +18,7 @@ capacity_named (Some word) =
     if pointwise nat_eq word.now (codes "cache") then Some 63 else
     if pointwise nat_eq word.now (codes "max") then Some 255 else None
 
--- how many bytes a capacity has room for
+-- the number of bytes for which a capacity has room
 abbrev pub bytes_of : Capacity → ℕ
 bytes_of Small = 23
 bytes_of Cache = 63
@@ -36,14 +36,14 @@ status_of (Err Write) = 4
 abbrev pub usage_line : List ℕ
 usage_line = with_newline (codes "usage: arraystring_run small or cache or max")
 
--- the line that a program prints of a fault (CALLING.md, The program)
+-- the line that a program prints for a fault (CALLING.md, The program)
 abbrev pub fault_line : PlayFault → List ℕ
 fault_line (BadLine k) = with_newline (codes "bad line " ++ decimal k)
 fault_line Memory = with_newline (codes "out of memory")
 fault_line Read = with_newline (codes "read failed")
 fault_line Write = with_newline (codes "write failed")
 
--- what a program writes to its standard error after `play` returned this
+-- the text that a program writes to its standard error after this result of `play`
 abbrev pub report_of : {A : Type 0} → Result A PlayFault → List ℕ
 report_of (Ok _) = []
 report_of (Err e) = fault_line e
@@ -60,7 +60,7 @@ abbrev pub status_at : Option (Result (Unit {0}) PlayFault) → ℕ
 status_at None = 2
 status_at (Some played) = status_of played
 
--- what a program writes to its standard error: `None` stands for a word that names no capacity, so that no script is played
+-- the text that a program writes to its standard error: `None` stands for a word that names no capacity, so that no script is played
 abbrev pub report_at : Option (Result (Unit {0}) PlayFault) → List ℕ
 report_at None = usage_line
 report_at (Some played) = report_of played
@@ -79,8 +79,8 @@ pub record Service : Type 1 where
   pub SameErrors : Type 0
   pub status : ℕ
 
--- what is promised of a run of the program, by its exit status: whether the script was played, and what was written to the output and
--- to the standard error
+-- the promise for a run of the program, by its exit status: whether the script was played, and what was written to the output and to the
+-- standard error
 pub record IsServed (s : Service) : Type 0 where
   pub other_word : capacity_named s.word ≡ None
       → (s.status ≡ 2) × s.SameInput × AppendsPrefix s.errors_before s.errors_after usage_line

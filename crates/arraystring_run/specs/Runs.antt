@@ -19,7 +19,7 @@ pub data ReplyView : Type 0 where
   Number : ℕ → ReplyView
   Refused : Error → ReplyView
 
--- what contracts see of a reply
+-- the view that contracts have of a reply
 abbrev pub view_of : {N : ℕ} → Reply N → ReplyView
 view_of reply.Done = Done
 view_of (reply.Char c) = Char c
@@ -123,12 +123,12 @@ is_tight (command.InsertStr i given) t n = is_made (insertion_of_cut t i (chars 
 is_tight (command.ReplaceRange start end given) t n = lacks_room (replacement t start end (chars given.now) n)
 is_tight _ t n = false
 
--- what a run of commands, of which each edits the text that the one before left, comes to: all replies, and the text at the end
+-- the result of a run of commands: all replies, and the text at the end. Each command edits the text that the one before left
 pub record RunResult : Type 0 where
   pub replies : List ReplyView
   pub text : List ℕ
 
--- what a run of commands that begins with the text t, at the capacity n, comes to
+-- the result of a run of these commands that begins with the text t, at the capacity n
 abbrev pub after : List Command → List ℕ → ℕ → RunResult
 after [] t n = record { replies = []; text = t }
 after (c ∷ cs) t n =

@@ -1,4 +1,4 @@
--- What a write that failed may have written.
+-- A write that failed may have written a prefix of its bytes.
 use Rattle.std.specs.Prelude.{◌≡◌, ℕ, List, ◌++◌, Option}
 use Rattle.std.specs.Io.KnownBytes.{Appends}
 

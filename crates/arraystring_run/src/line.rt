@@ -123,7 +123,7 @@ fn number(text: &str) -> Option<u8>
     ensures some { IfSome result (λ n. IsNumber text.now n) }
     ensures none { IfNone result ((n : ℕ) → IsNumber text.now n → ⊥) }
 {
-    // `parse` would take a sign and any count of zeros.
+    // `parse` alone would take a `+` and any number of leading zeros.
     if text.len() > 3 || text.starts_with('+') {
         return None;
     }

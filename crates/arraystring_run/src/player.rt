@@ -30,8 +30,8 @@ pub enum PlayFault {
 /// How many bytes are read at a time.
 const CHUNK: usize = 8192;
 
-/// The greatest `N` of which a text is made, because no memory can hold an array of more bytes. `N` is a constant, so
-/// the compiler decides the test for each `N` that a program names.
+/// The greatest `N` for which `play` makes a text, because no memory can hold an array of more bytes. `N` is a
+/// constant, so the compiler decides the test for each `N` that a program names.
 const LARGEST: usize = usize::MAX / 4;
 
 /// Plays a script on the empty text. It does this in order:

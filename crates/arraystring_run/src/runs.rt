@@ -48,8 +48,8 @@ pub fn run<const N: usize>(
 {
     text_fits(text);
     let mut replies = Vec::with_capacity(alloc, commands.len())?;
-    // For no commands `add_replies` is not called: it needs the size of a reply, which the prover knows only from a list that has
-    // room for one.
+    // Without commands `add_replies` is not called: its proof needs the size of a reply, which the prover knows only from a list
+    // with room for one.
     let mut first_tight = None;
     if !commands.is_empty() {
         first_tight = add_replies(text, commands, &mut replies);
@@ -157,8 +157,8 @@ pub fn run_both<const N: usize, const M: usize>(
     text_fits(second);
     let mut second_replies = Vec::with_capacity(alloc, commands.len())?;
     let first_outcome = run(alloc, first, commands)?;
-    // For no commands `add_replies` is not called: it needs the size of a reply, which the prover knows only from a list that has
-    // room for one.
+    // Without commands `add_replies` is not called: its proof needs the size of a reply, which the prover knows only from a list
+    // with room for one.
     let mut first_tight = None;
     if !commands.is_empty() {
         first_tight = add_replies(second, commands, &mut second_replies);
@@ -173,8 +173,8 @@ pub fn run_both<const N: usize, const M: usize>(
     ))
 }
 
-/// The first tight position, if `first` is that of the commands before `position`, and `is_tight` says whether the one
-/// there is tight.
+/// The first tight position, if `first` is that of the commands before `position`, and `is_tight` says whether the
+/// command there is tight.
 fn earlier_position(first: Option<usize>, is_tight: bool, position: usize) -> Option<usize>
     ensures { result ≡ earlier_of first (if is_tight then Some position else None) }
 {

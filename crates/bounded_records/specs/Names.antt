@@ -12,7 +12,7 @@ fault_name Count = codes "Count"
 fault_name Utf8 = codes "Utf8"
 fault_name Padding = codes "Padding"
 
--- the name under which a fault of a user is printed, which says why two texts make no user
+-- the name under which a `UserFault`, the reason why two texts make no user, is printed
 abbrev pub user_fault_name : UserFault → List ℕ
 user_fault_name Username = codes "Username"
 user_fault_name Role = codes "Role"

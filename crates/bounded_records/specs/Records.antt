@@ -30,7 +30,7 @@ username_field bs = take 21 bs
 abbrev pub role_field : List ℕ → List ℕ
 role_field bs = drop 21 bs
 
--- how many bytes of text a field has, which its first byte says
+-- the number of bytes of text in a field, which its first byte says
 abbrev pub count : List ℕ → ℕ
 count field = slice_index field 0
 

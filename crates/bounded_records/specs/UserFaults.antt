@@ -1,4 +1,4 @@
--- Why a username and a role make no user.
+-- The reasons why a username and a role make no user.
 use Rattle.std.specs.Prelude.{ℕ, ◌<◌, ◌≤◌, List}
 use Rattle.arraystring.specs.Text.{size}
 use Rattle.bounded_records.specs.declared.user.UserFault.{UserFault}

@@ -1,4 +1,4 @@
--- What an iterator over a directory gives: calls of `next` give what is left in order, and calls of `next_back` give it in reverse.
+-- An iterator over a directory gives what is left, in order by `next`, and in reverse by `next_back`.
 use Rattle.std.specs.Prelude.{◌≡◌, ℕ, true, List, map}
 use Rattle.std.specs.Iterator.{YieldsFirstBy, YieldsLastBy}
 use Rattle.std.specs.Iterator.Runs.{EveryRun, ItemsMapTo, ItemsMapToReversed}
@@ -8,18 +8,18 @@ use Rattle.bounded_records.specs.declared.user.User.{User}
 use Rattle.bounded_records.specs.Users.{texts}
 
 module _ {A B : Type 0} (view : A → B) where
-  -- calls of `next` in a row give items that are, seen by `view`, the first of what was left, in order; all of it, if the last call gave
-  -- `None`
+  -- the items that calls of `next` in a row give are, seen by `view`, the first of those that were left, in order, and all of them if the
+  -- last call gave `None`
   abbrev pub GivesInOrder : Type 0
   GivesInOrder = EveryRun (YieldsFirstBy view (λ left. left)) (λ run. ItemsMapTo run view run.from)
 
-  -- calls of `next_back` in a row give items that are, seen by `view`, the last of what was left, in reverse; all of it, if the last call
-  -- gave `None`
+  -- the items that calls of `next_back` in a row give are, seen by `view`, the last of those that were left, in reverse, and all of them if
+  -- the last call gave `None`
   abbrev pub GivesInReverse : Type 0
   GivesInReverse = EveryRun (YieldsLastBy view (λ left. left)) (λ run. ItemsMapToReversed run view run.from)
 
 module _ {A B : Type 0} (view : A → B) where
-  -- calls of `next` up to `None` give items that are, copied out of their references and seen by `view`, what was left, in order
+  -- the items that calls of `next` give up to `None` are, copied out of their references and seen by `view`, all that was left, in order
   abbrev pub GivesCopiesInOrder : Type 0
   GivesCopiesInOrder =
       EveryRun (YieldsFirstBy (λ (item : Bor A). view item.now) (λ left. left))

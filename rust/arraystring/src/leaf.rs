@@ -23,8 +23,8 @@ macro_rules! required {
 /// A byte of the array of a string. It has no value before one is written.
 pub(crate) type Place = MaybeUninit<u8>;
 
-/// What a place of a new array holds: no value, or 0 if `IS_TESTED`. Then a wrong index panics, perhaps when the size is already raised
-/// and the byte not yet written. Thanks to the 0, each place of the text that is left after the panic has a value.
+/// The content of a place in a new array: no value, or 0 if `IS_TESTED`. Where accesses are tested, a wrong index panics, perhaps when the
+/// size is already raised and the byte not yet written. Thanks to the 0, each place of the text that is left after the panic has a value.
 pub(crate) const UNWRITTEN: Place = if IS_TESTED { Place::new(0) } else { Place::uninit() };
 
 /// A byte that can be read: a `u8` of a text, or a place of a string's array after it was written. Both are laid out as a `u8`.
@@ -42,7 +42,7 @@ impl ByteOrPlace for u8 {
 impl ByteOrPlace for Place {
     #[inline(always)]
     fn value(self) -> u8 {
-        // SAFETY: the proved code reads the bytes of texts, which were written.
+        // SAFETY: the proved code reads only bytes of texts, and these were written.
         unsafe { self.assume_init() }
     }
 }
@@ -56,7 +56,7 @@ impl ByteOrPlace for Place {
 #[inline(always)]
 pub(crate) fn byte(bytes: &[impl ByteOrPlace], at: usize) -> u8 {
     required!(at < bytes.len());
-    // SAFETY: the index is within, as is required.
+    // SAFETY: the index is within `bytes`, as is required.
     unsafe { bytes.get_unchecked(at) }.value()
 }
 
@@ -69,8 +69,8 @@ pub(crate) fn byte(bytes: &[impl ByteOrPlace], at: usize) -> u8 {
 #[inline(always)]
 pub(crate) fn put_array<const K: usize>(all: &mut [Place], at: usize, bytes: [u8; K]) {
     required!(at <= all.len(), K <= all.len() - at);
-    // SAFETY: the run is within, as is required. A byte is laid out as a place. (It does not map the bytes to places for `put_vector`,
-    // because `encode_wide` would then have a call in it, and rustc would not inline `encode_wide` in another crate.)
+    // SAFETY: the run is within `all`, as is required, and a byte is laid out as a place. (To map the bytes to places for `put_vector`
+    // would put a call into `encode_wide`, which rustc then would not inline in another crate.)
     unsafe { all.as_mut_ptr().add(at).cast::<[u8; K]>().write(bytes) };
 }
 
@@ -161,7 +161,7 @@ pub(crate) fn text_from(text: &str, start: usize) -> &str {
 pub(crate) fn move_bytes<const N: usize>(array: &mut [Place; N], from: usize, to: usize, len: usize) {
     required!(from <= N, len <= N - from, to <= N, len <= N - to);
     let bytes = array.as_mut_ptr();
-    // SAFETY: both runs are within, as is required. They may overlap.
+    // SAFETY: both runs are within `array`, as is required, and `ptr::copy` lets them overlap.
     unsafe { ptr::copy(bytes.add(from), bytes.add(to), len) };
 }
 
@@ -179,7 +179,7 @@ pub(crate) fn move_bytes<const N: usize>(array: &mut [Place; N], from: usize, to
 pub(crate) fn move_long_run<const N: usize>(all: &mut [Place], from: usize, to: usize, len: usize) {
     required!(from <= all.len(), len <= all.len() - from, to <= all.len(), len <= all.len() - to, len <= N, 16 <= len);
     let bytes = all.as_mut_ptr();
-    // SAFETY: both runs are within, as is required. They may overlap.
+    // SAFETY: both runs are within `all`, as is required, and `ptr::copy` lets them overlap.
     unsafe { ptr::copy(bytes.add(from), bytes.add(to), len) };
 }
 
@@ -192,7 +192,7 @@ pub(crate) fn move_long_run<const N: usize>(all: &mut [Place], from: usize, to: 
 #[inline(always)]
 pub(crate) fn write_bytes(all: &mut [Place], given: &[u8], at: usize) {
     required!(at <= all.len(), given.len() <= all.len() - at);
-    // SAFETY: the target is within, as is required. It is lent to be written, and so lies apart from what is given.
+    // SAFETY: the target is within `all`, as is required. It is borrowed mutably, so it does not overlap `given`.
     unsafe { ptr::copy_nonoverlapping(given.as_ptr().cast(), all.as_mut_ptr().add(at), given.len()) };
 }
 
@@ -205,7 +205,7 @@ pub(crate) fn write_bytes(all: &mut [Place], given: &[u8], at: usize) {
 #[inline(always)]
 pub(crate) fn vector_at<const K: usize>(given: &[impl ByteOrPlace], at: usize) -> [Place; K] {
     required!(at <= given.len(), K <= given.len() - at);
-    // SAFETY: the run is within, as is required. A byte is laid out as a place, and a place may have any value, or none.
+    // SAFETY: the run is within `given`, as is required. A byte is laid out as a place, and a place may have any value, or none.
     unsafe { given.as_ptr().add(at).cast::<[Place; K]>().read() }
 }
 
@@ -218,6 +218,6 @@ pub(crate) fn vector_at<const K: usize>(given: &[impl ByteOrPlace], at: usize) -
 #[inline(always)]
 pub(crate) fn put_vector<const K: usize>(all: &mut [Place], at: usize, bytes: [Place; K]) {
     required!(at <= all.len(), K <= all.len() - at);
-    // SAFETY: the run is within, as is required.
+    // SAFETY: the run is within `all`, as is required.
     unsafe { all.as_mut_ptr().add(at).cast::<[Place; K]>().write(bytes) };
 }

@@ -24,7 +24,7 @@ impl<const N: usize> ArrayString<N> {
     #[inline]
     pub fn as_mut_str(&mut self) -> &mut str {
         let (start, end) = (self.0.start as usize, self.0.start as usize + self.0.size as usize);
-        // SAFETY: these bytes are the text, as the fields of the core's string say.
+        // SAFETY: these bytes are the text, so UTF-8, as the fields of the core's string say.
         unsafe { from_utf8_unchecked_mut(part_mut(&mut self.0.array, start, end)) }
     }
 }

@@ -163,7 +163,7 @@ impl<const N: usize> ArrayString<N> {
     }
 }
 
-/// What is added to a string, as long as it may still be taken back. `drop` takes it back, so that nothing of it stays where something is
+/// An addition to a string, as long as it may still be taken back. `drop` takes it back, so that nothing of it stays where something is
 /// refused, or where a `Display` or an iterator panics. Only `keep` makes it stay.
 struct Draft<'a, const N: usize> {
     string: &'a mut ArrayString<N>,
@@ -213,7 +213,7 @@ impl<const N: usize> Write for Prefix<'_, N> {
 impl<const N: usize> Drop for Draft<'_, N> {
     #[inline]
     fn drop(&mut self) {
-        // The text ended at this length before, so it is a boundary, and nothing is refused.
+        // The text ended at `len` before, so that is a boundary, and nothing is refused.
         let _ = self.string.truncate(self.len);
     }
 }

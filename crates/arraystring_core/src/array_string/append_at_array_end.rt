@@ -10,7 +10,8 @@ use arraystring_base::utils::{Steps, encode, shift_by_call, truncate_str, write_
 
 impl<const N: usize> ArrayString<N> {
     /// Whether there is room for `ch` after `len` bytes. ASCII has a test of its own, which the
-    /// compiler joins with that of `encode`. The width of others is not tested if four more fit.
+    /// compiler joins with that of `encode`. If four more bytes fit, the width of any other
+    /// character is not tested.
     #[inline(always)]
     pub(super) fn has_room(len: usize, ch: char) -> bool
         requires { len ≤ 255 }

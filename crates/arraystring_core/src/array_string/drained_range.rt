@@ -76,8 +76,8 @@ impl<const N: usize> ArrayString<N> {
     ) -> Result<Drain<N>, Error>
         requires looks { steps.old.looked ≤ 2 ^ 63 }
         requires moves { steps.old.moved ≤ 2 ^ 63 }
-        // The edit, and then the moves: none if the range begins at 0; at most the bytes after the range; if
-        // the range is not empty, at least the bytes before it or those after it, whichever are fewer.
+        // Besides the edit, this bounds the moves: none if the range begins at 0; at most the bytes after
+        // it; if something is removed, at least the bytes before the range or after it, whichever are fewer.
         ensures edit { OfReturnedBounds R.has_bounds R.start_bound R.end_bound range (λ start end.
             let t = self.old.text in
             let from = saturated_start start in let to = saturated_end end (size t) in

@@ -32,7 +32,7 @@ impl<const N: usize> ArrayString<N> {
     {
         let end = self.end();
         if Self::has_room(end, ch) {
-            // ASCII has a sum of its own, because one for all widths would make a loop of pushes longer.
+            // The sum for ASCII is separate, because one for all widths would make a loop of pushes longer.
             if ch.is_ascii() {
                 self.size += 1;
                 encode(ch, &mut self.array, end);

@@ -79,8 +79,8 @@ impl<const N: usize> ArrayString<N> {
     ) -> Result<(), Error>
         requires looks { steps.old.looked ≤ 2 ^ 63 }
         requires moves { steps.old.moved ≤ 2 ^ 63 }
-        // The edit, and then the moves: if the text does not grow, at most the bytes after the range; if its
-        // size changes, at least the bytes before the range or those after it, whichever are fewer.
+        // Besides the edit, this bounds the moves: if the text does not grow, at most the bytes after the
+        // range; if its size changes, at least the bytes before the range or after it, whichever are fewer.
         ensures edit { OfReturnedBounds R.has_bounds R.start_bound R.end_bound range (λ start end.
             let t = self.old.text in
             let from = saturated_start start in let to = saturated_end end (size t) in

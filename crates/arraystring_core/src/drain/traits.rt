@@ -84,7 +84,7 @@ impl<const N: usize> Iterator for Drain<N> {
         if self.front == self.size {
             return None;
         }
-        // A byte of ASCII is its character; `chars` reads the others.
+        // An ASCII byte is a whole character; `chars` reads any other.
         let first = byte(&self.array, self.start as usize + self.front as usize);
         if first < 0x80 {
             self.front += 1;

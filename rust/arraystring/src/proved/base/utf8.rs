@@ -154,7 +154,7 @@ pub fn encode<const N: usize>(ch: char, array: &mut [crate::leaf::Place; N], at:
     encode_wide(ch, all, at)
 }
 
-/// Writes the UTF-8 of a character that is not ASCII. The compiler inlines it where it serves: a cold function only
+/// Writes the UTF-8 of a character that is not ASCII. The compiler inlines it where that pays, and a cold function only
 /// calls it.
 fn encode_wide(ch: char, all: &mut [crate::leaf::Place], at: usize) -> usize {
     let code = ch as u32;

@@ -7,7 +7,8 @@ use crate::proved::base::utils::{encode, shift_by_call, truncate_str, write_by_c
 
 impl<const N: usize> ArrayString<N> {
     /// Whether there is room for `ch` after `len` bytes. ASCII has a test of its own, which the
-    /// compiler joins with that of `encode`. The width of others is not tested if four more fit.
+    /// compiler joins with that of `encode`. If four more bytes fit, the width of any other
+    /// character is not tested.
     #[inline(always)]
     pub(super) fn has_room(len: usize, ch: char) -> bool {
         let capacity = Self::capacity() as usize;

@@ -15,7 +15,7 @@ impl<const N: usize> ArrayString<N> {
     pub fn try_push(&mut self, ch: char) -> Result<(), OutOfBounds> {
         let end = self.end();
         if Self::has_room(end, ch) {
-            // ASCII has a sum of its own, because one for all widths would make a loop of pushes longer.
+            // The sum for ASCII is separate, because one for all widths would make a loop of pushes longer.
             if ch.is_ascii() {
                 self.size += 1;
                 encode(ch, &mut self.array, end);

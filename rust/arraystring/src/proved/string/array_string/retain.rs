@@ -37,7 +37,7 @@ fn retain_in_array<const N: usize, F: FnMut(char) -> bool>(
     let mut read = 0;
     // At the start of each turn no byte from `read` on was written over.
     while read < size {
-        // A byte of ASCII is its character; `first_char` reads the others.
+        // An ASCII byte is a whole character; `first_char` reads any other.
         let first = byte(array, offset + read);
         if first < 0x80 {
             if f(first as char) {
@@ -47,9 +47,9 @@ fn retain_in_array<const N: usize, F: FnMut(char) -> bool>(
             }
             read += 1;
         } else {
-            // SAFETY: the `size` bytes from `offset` on were UTF-8 at the start. No byte from `read` on was
-            // written over, since `*kept <= read`: each turn adds to it at most what it adds to `read`. `read` goes on by whole
-            // characters, so one begins there, whatever the closure answers.
+            // SAFETY: the text was UTF-8 at the start, and its bytes from `read` on are unchanged, because all writes
+            // end at `*kept` or before, and `*kept <= read`: a turn adds no more to `*kept` than to `read`. `read` goes
+            // on by whole characters, so one begins there, whatever the closure answers.
             let text = unsafe { str::from_utf8_unchecked(part(array, offset + read, size - read)) };
             let (ch, width) = first_char(text);
             if f(ch) {
