@@ -10,7 +10,7 @@ as it is, with its comments, and rustc compiles it or refuses it. A comment befo
  3. counter    So does the module `steps`: the parameter `steps: &mut Steps`, arguments `steps` and `&mut Steps::new()`, and `steps.f(..);`.
  4. counted    `f`, which stands above `f_counted` and only calls it, gets its body. A call of `f_counted` is one of `f`.
  5. paths      `std` is `core`, `crate` and a crate's name a module of `crate::proved`, but for `leaf`, which is by hand.
- 6. places     `[u8` behind `mut` or as the type of an `array` is of `leaf::Place`, which may have no value; `[0; N]` of `leaf::UNWRITTEN`.
+ 6. places     `[u8` behind `mut` or as the type of an `array` is of `leaf::MaybeByte`, which may have no value; `[0; N]` of `leaf::NEW_BYTE`.
  7. fields     A struct with an array is `#[repr(C)]` and has it last: no write into it seems to change a number. A field is `pub(crate)`.
  8. constants  `as_str` and `as_bytes` are `const`: in Rattle an index is none, and in Rust it is `leaf::part`.
  9. examples   `# Examples` is left out of a comment: it would be a test of rustdoc, which sees no private module.
@@ -240,9 +240,9 @@ def in_rust(t, module):
         elif t.at(at, {'crate', *CRATES}, '::'):
             t[at][1] = 'crate' if t.at(at + 2, BY_HAND) else f'crate::proved::{CRATES.get(t[at][1], module)}'
         elif t.at(at, 'mut', '[', 'u8') or t.at(at, ':', '[', 'u8') and t.at(at - 1, 'array'):
-            t[at + 2][1] = f'crate::{BY_HAND}::Place'
+            t[at + 2][1] = f'crate::{BY_HAND}::MaybeByte'
         elif t.at(at, '[', '0', ';'):
-            t[at + 1][1] = f'crate::{BY_HAND}::UNWRITTEN'
+            t[at + 1][1] = f'crate::{BY_HAND}::NEW_BYTE'
         elif t.at(at, 'fn', CONSTANT, '(', '&', 'self', ')') and not t.at(at - 1, 'const'):
             t[at][1] = 'const fn'
         elif t.at(at, 'fmt', '<', 'W', ':', 'fmt', '::', 'Write', '>'):

@@ -21,7 +21,7 @@ MADE = {
     '#[derive(Clone, Drop, Debug)]\nstruct A<F: Fn(u8) -> u8> {\n    ghost is: { a ≤ 3 },\n    a: F,\n}':
         '#[derive(Clone, Debug)]\nstruct A<F: Fn(u8) -> u8> {\n    pub(crate) a: F,\n}',
     'struct A {\n    /// It.\n    array: [u8; 3],\n    pub a: B<u8, u8>,\n}':
-        '#[repr(C)]\nstruct A {\n    pub a: B<u8, u8>,\n    /// It.\n    pub(crate) array: [crate::leaf::Place; 3],\n}',
+        '#[repr(C)]\nstruct A {\n    pub a: B<u8, u8>,\n    /// It.\n    pub(crate) array: [crate::leaf::MaybeByte; 3],\n}',
     'fn f(a: u8) -> [u8; 2] {\n    f_counted(a, &mut Steps::new())\n}\n\n'
     'fn f_counted(a: u8, steps: &mut Steps) -> [u8; 2] {\n    steps.count(a);\n    Self::g_counted(steps)\n}\n\n'
     'fn g() {\n}\n\nfn g_counted(steps: &mut Steps) {\n}':

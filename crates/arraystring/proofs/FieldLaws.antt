@@ -9,17 +9,17 @@ use Rattle.std.specs.Borrow.{Bor}
 use Rattle.arraystring_base.proofs.FindLaws.{split_once-first}
 use Rattle.arraystring_base.specs.Text.{size}
 use Rattle.arraystring_base.proofs.TextLaws.{width-bounds, size-borrowed}
-use Rattle.arraystring.specs.Fields.{fields, in_front}
+use Rattle.arraystring.specs.Fields.{fields, prepend_to_first_part}
 
 -- a text without the character is one part
 fields-one : (c : ℕ) (t : List ℕ) → NonePass (λ d. d == c) t → fields c t ≡ t ∷ []
 fields-one c [] none = refl
-fields-one c (d ∷ t) none = rw none.0 (ap (in_front d) (fields-one c t none.1))
+fields-one c (d ∷ t) none = rw none.0 (ap (prepend_to_first_part d) (fields-one c t none.1))
 
 -- what stands before the first one is a part, and the others are those of the text behind it
 fields-parts : (c : ℕ) (front back : List ℕ) → NonePass (λ d. d == c) front → fields c (front ++ c ∷ back) ≡ front ∷ fields c back
 fields-parts c [] back none = rw (eq-eqb c c refl) refl
-fields-parts c (d ∷ front) back none = rw none.0 (ap (in_front d) (fields-parts c front back none.1))
+fields-parts c (d ∷ front) back none = rw none.0 (ap (prepend_to_first_part d) (fields-parts c front back none.1))
 
 -- `split_once` found the character from `i` to `j`
 pub fields-found : (c j : ℕ) (bs : List ℕ) → (encode_utf8 c ++ drop j bs ≡ encode_utf8 c ++ drop j bs)
@@ -46,7 +46,7 @@ fields-few : (c : ℕ) (t : List ℕ) → length (fields c t) ≤ size t + 1
 fields-few c [] = omega arith
 fields-few c (d ∷ t) = go (d == c) (fields c t) (fields-few c t)
   where
-    go : (b : Bool) (rest : List (List ℕ)) → length rest ≤ size t + 1 → length (if b then [] ∷ rest else in_front d rest) ≤ size (d ∷ t) + 1
+    go : (b : Bool) (rest : List (List ℕ)) → length rest ≤ size t + 1 → length (if b then [] ∷ rest else prepend_to_first_part d rest) ≤ size (d ∷ t) + 1
     go true rest few = omega (arith, width-bounds d)
     go false [] few = omega (arith, width-bounds d)
     go false (part ∷ rest) few = omega (arith, width-bounds d)

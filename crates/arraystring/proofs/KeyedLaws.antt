@@ -9,10 +9,10 @@ use Rattle.std.specs.Bool.{nat_eq}
 use Rattle.std.specs.Borrow.{Bor}
 use Rattle.std.proofs.lemmas.Bool.{cases_Bool, false_from_ne_true}
 use Rattle.std.proofs.lemmas.Cmp.{nat_list_eq_equiv}
-use Rattle.arraystring_core.specs.Stored.{Stored}
+use Rattle.arraystring_core.specs.Stored.{StringView}
 
 -- `test` looks for one text and `query` for another. Either they are the same, or what is under the other did not change.
-abbrev pub After : {V : Type 0} → (Stored → Bool) → (Stored → Bool) → List ℕ → List ℕ → List (Stored × V) → List (Stored × V) → Type 0
+abbrev pub After : {V : Type 0} → (StringView → Bool) → (StringView → Bool) → List ℕ → List ℕ → List (StringView × V) → List (StringView × V) → Type 0
 After test query text t old new =
     ((t ≡ text) × (lookup query new ≡ lookup test new) × (lookup query old ≡ lookup test old))
     ⊎ ((t ≢ text) × (lookup query new ≡ lookup query old))
@@ -23,8 +23,8 @@ apart a b k differ same =
     false_from_ne_true _ (λ e. absurd (cc (differ, (bytes_decides a b).1 ((bytes_decides a k).0 same ∙ sym ((bytes_decides b k).0 e)))))
 
 -- `by` says how a map looks for a text
-module _ {V : Type 0} (by : List ℕ → Stored → Bool) (is : (l : List ℕ) (k : Stored) → by l k ≡ bytes_eq l k.text) (text t : List ℕ) where
-  after : (old new : List (Stored × V)) → KeepsOthers (λ a b. by a.text b) (by text) old new → After (by text) (by t) text t old new
+module _ {V : Type 0} (by : List ℕ → StringView → Bool) (is : (l : List ℕ) (k : StringView) → by l k ≡ bytes_eq l k.text) (text t : List ℕ) where
+  after : (old new : List (StringView × V)) → KeepsOthers (λ a b. by a.text b) (by text) old new → After (by text) (by t) text t old new
   unfolding KeepsOthers
   after old new keeps = go (cases_Bool (bytes_eq text t))
     where
@@ -40,7 +40,7 @@ module _ {V : Type 0} (by : List ℕ → Stored → Bool) (is : (l : List ℕ) (
 
 -- The laws have the form that `grind` finds: it looks for the change and for the question, which the first two parts show, and for each
 -- as std's calls and a caller's clause write it. So a call that takes the key, and one that borrows it, have a law each.
-module _ {V : Type 0} (key : Stored) (t : List ℕ) (old new : List (Stored × V)) where
+module _ {V : Type 0} (key : StringView) (t : List ℕ) (old new : List (StringView × V)) where
   -- `insert` of a `BTreeMap`
   pub ordered-put : KeepsOthers (eq_by_cmp (λ a b. slice_cmp nat_cmp a.text b.text)) (is_at (λ k. slice_cmp nat_cmp key.text k.text)) old new
       → KeepsOthers (eq_by_cmp (λ a b. slice_cmp nat_cmp a.text b.text)) (is_at (λ k. slice_cmp nat_cmp key.text k.text)) old new
@@ -56,7 +56,7 @@ module _ {V : Type 0} (key : Stored) (t : List ℕ) (old new : List (Stored × V
       × After (λ k. pointwise nat_eq key.text k.text) (λ k. bytes_eq t k.text) key.text t old new
   hashed-put keeps = (keeps, refl, after (λ l k. pointwise nat_eq l k.text) (λ l k. refl) key.text t old new keeps)
 
-module _ {V : Type 0} (key : Bor Stored) (t : List ℕ) (old new : List (Stored × V)) where
+module _ {V : Type 0} (key : Bor StringView) (t : List ℕ) (old new : List (StringView × V)) where
   -- `remove` of a `BTreeMap`
   pub ordered-out : KeepsOthers (eq_by_cmp (λ a b. slice_cmp nat_cmp a.text b.text)) (is_at (λ k. slice_cmp nat_cmp key.now.text k.text)) old new
       → KeepsOthers (eq_by_cmp (λ a b. slice_cmp nat_cmp a.text b.text)) (is_at (λ k. slice_cmp nat_cmp key.now.text k.text)) old new

@@ -12,48 +12,48 @@ use Rattle.std.proofs.lemmas.Map.Keys.{Less-from_sorted}
 use Rattle.std.proofs.lemmas.Map.Lookups.{exact_bytes}
 use Rattle.std.proofs.lemmas.Map.Views.{tells_apart}
 use Rattle.arraystring_base.specs.Text.{IsBefore}
-use Rattle.arraystring_core.specs.Stored.{Stored, string_of}
+use Rattle.arraystring_core.specs.Stored.{StringView, string_of}
 use Rattle.arraystring_base.proofs.OrderLaws.{order-says}
 
 -- whether a key has the text t
-abbrev pub has_text : List ℕ → Stored → Bool
-has_text t = is_at (λ (key : Stored). slice_cmp nat_cmp t key.text)
+abbrev pub has_text : List ℕ → StringView → Bool
+has_text t = is_at (λ (key : StringView). slice_cmp nat_cmp t key.text)
 
 -- each text is that of a key: what is so of the text of each key is so of each text
-pub each-text : (P : List ℕ → Type 0) → ((key : Stored) → P key.text) → (t : List ℕ) → P t
+pub each-text : (P : List ℕ → Type 0) → ((key : StringView) → P key.text) → (t : List ℕ) → P t
 each-text P is t = is (string_of t)
 
 -- the entries before and after a call that changes what is under one key
-module _ {X : Type 0} (old new : List (Stored × X)) (text : List ℕ) where
+module _ {X : Type 0} (old new : List (StringView × X)) (text : List ℕ) where
   -- under that key is what the call puts there, and under each other what was
-  pub updated-text : (value : Option X) → ((key : Stored) → lookup (has_text key.text) new ≡ cond (has_text text key) value (lookup (has_text key.text) old))
+  pub updated-text : (value : Option X) → ((key : StringView) → lookup (has_text key.text) new ≡ cond (has_text text key) value (lookup (has_text key.text) old))
       → (t : List ℕ) → lookup (has_text t) new ≡ cond (eq_by_cmp (slice_cmp nat_cmp) text t) value (lookup (has_text t) old)
   updated-text value =
       each-text (λ t. lookup (has_text t) new ≡ cond (eq_by_cmp (slice_cmp nat_cmp) text t) value (lookup (has_text t) old))
 
   -- what is under another text stays
-  pub updated-others : ((key : Stored) → has_text text key ≡ false → lookup (has_text key.text) new ≡ lookup (has_text key.text) old)
+  pub updated-others : ((key : StringView) → has_text text key ≡ false → lookup (has_text key.text) new ≡ lookup (has_text key.text) old)
       → (t : List ℕ) → t ≢ text → lookup (has_text t) new ≡ lookup (has_text t) old
   updated-others is =
       each-text (λ t. t ≢ text → lookup (has_text t) new ≡ lookup (has_text t) old)
       (λ key other. is key (false_from_ne_true _ (λ same. other (sym (tells_apart exact_bytes text key.text same)))))
 
 -- a text that is before those of some keys is before each of these texts
-texts-after : (t : List ℕ) (keys : List Stored) → AllByRecursion (λ key. slice_cmp nat_cmp t key.text ≡ Less) keys
+texts-after : (t : List ℕ) (keys : List StringView) → AllByRecursion (λ key. slice_cmp nat_cmp t key.text ≡ Less) keys
     → AllByRecursion (λ u. slice_cmp nat_cmp t u ≡ Less) (map (λ key. key.text) keys)
 texts-after t [] less = tt
 texts-after t (key ∷ keys) less = (less.0, texts-after t keys less.1)
 
 -- the texts of keys in order are in order
-texts-sorted : (keys : List Stored) → IsStrictlySortedBy (λ a b. slice_cmp nat_cmp a.text b.text) keys
+texts-sorted : (keys : List StringView) → IsStrictlySortedBy (λ a b. slice_cmp nat_cmp a.text b.text) keys
     → IsStrictlySortedBy (slice_cmp nat_cmp) (map (λ key. key.text) keys)
 unfolding IsStrictlySortedBy
 texts-sorted [] sorted = tt
 texts-sorted (key ∷ keys) sorted = (texts-after key.text keys sorted.0, texts-sorted keys sorted.1)
 
 -- and ascend
-pub keys-ascend : (keys : List Stored) → IsStrictlySortedBy (λ a b. slice_cmp nat_cmp a.text b.text) keys
+pub keys-ascend : (keys : List StringView) → IsStrictlySortedBy (λ a b. slice_cmp nat_cmp a.text b.text) keys
     → AllPairs IsBefore (map (λ key. key.text) keys)
 keys-ascend keys sorted i j d lt within =
-    let texts = map (λ (key : Stored). key.text) keys in
+    let texts = map (λ (key : StringView). key.text) keys in
     order-says _ _ Less (sym (Less-from_sorted (slice_cmp nat_cmp) texts i j d (texts-sorted keys sorted) lt within))

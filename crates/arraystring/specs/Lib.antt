@@ -2,7 +2,7 @@ pub use Rattle.arraystring_core.specs.Text
 pub mod Utf16
 pub use Rattle.arraystring_core.specs.Counts
 pub use Rattle.arraystring_core.specs.Names
-pub use Rattle.arraystring_core.specs.Stored
+pub mod Stored
 pub use Rattle.arraystring_core.specs.Parts
 pub use Rattle.arraystring_core.specs.WhiteSpace
 pub use Rattle.arraystring_core.specs.Causes

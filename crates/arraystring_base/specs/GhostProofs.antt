@@ -7,13 +7,13 @@ use Rattle.arraystring_base.specs.contracts.error.ErrorPartialEq.TheImpl.{ghosts
 use Rattle.arraystring_base.specs.Names.{error_name}
 
 -- equal errors have the same name
-pub same_names : (a b : Error) → ghosts.eq a b ≡ true → error_name a ≡ error_name b
-same_names Utf8 Utf8 e = refl
-same_names Utf8 Utf16 e = absurd (true≢false (sym e))
-same_names Utf8 OutOfBounds e = absurd (true≢false (sym e))
-same_names Utf16 Utf8 e = absurd (true≢false (sym e))
-same_names Utf16 Utf16 e = refl
-same_names Utf16 OutOfBounds e = absurd (true≢false (sym e))
-same_names OutOfBounds Utf8 e = absurd (true≢false (sym e))
-same_names OutOfBounds Utf16 e = absurd (true≢false (sym e))
-same_names OutOfBounds OutOfBounds e = refl
+pub equal_errors_have_equal_names : (a b : Error) → ghosts.eq a b ≡ true → error_name a ≡ error_name b
+equal_errors_have_equal_names Utf8 Utf8 e = refl
+equal_errors_have_equal_names Utf8 Utf16 e = absurd (true≢false (sym e))
+equal_errors_have_equal_names Utf8 OutOfBounds e = absurd (true≢false (sym e))
+equal_errors_have_equal_names Utf16 Utf8 e = absurd (true≢false (sym e))
+equal_errors_have_equal_names Utf16 Utf16 e = refl
+equal_errors_have_equal_names Utf16 OutOfBounds e = absurd (true≢false (sym e))
+equal_errors_have_equal_names OutOfBounds Utf8 e = absurd (true≢false (sym e))
+equal_errors_have_equal_names OutOfBounds Utf16 e = absurd (true≢false (sym e))
+equal_errors_have_equal_names OutOfBounds OutOfBounds e = refl

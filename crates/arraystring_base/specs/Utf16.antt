@@ -25,9 +25,9 @@ text_units [] = []
 text_units (c ∷ cs) = utf16 c ++ text_units cs
 
 -- the number in an item is what its case says: a scalar value in `Char`, a surrogate in `Lone`
-abbrev pub IsItem : Unit16 → Type 0
-IsItem (Char c) = IsScalarValue c
-IsItem (Lone unit) = (0xD800 ≤ unit) × (unit < 0xE000)
+abbrev pub IsValidItem : Unit16 → Type 0
+IsValidItem (Char c) = IsScalarValue c
+IsValidItem (Lone unit) = (0xD800 ≤ unit) × (unit < 0xE000)
 
 -- the units of an item
 abbrev pub item_units : Unit16 → List ℕ
@@ -49,7 +49,7 @@ NoPairApart items =
 -- (`text_reading`)
 pub record IsReading (units : List ℕ) (items : List Unit16) : Type 0 where
   pub each_unit : All (λ unit. unit < 0x1_0000) units
-  pub each_item : All IsItem items
+  pub each_item : All IsValidItem items
   pub joined : units ≡ joined_units items
   pub apart : NoPairApart items
 

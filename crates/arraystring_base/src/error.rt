@@ -4,7 +4,7 @@ ghost use Rattle.std.specs.Prelude.{◌≡◌, ◌++◌, Some, codes};
 ghost use Rattle.std.proofs.Common.{ap};
 ghost use Rattle.std.specs.Hash as fed;
 ghost use Rattle.arraystring_base.specs.Names.{error_name};
-ghost use Rattle.arraystring_base.specs.GhostProofs.{same_names};
+ghost use Rattle.arraystring_base.specs.GhostProofs.{equal_errors_have_equal_names};
 ghost use Rattle.arraystring_base.specs.declared.error.Error.TheVariants as cases;
 
 use std::error::Error as StdError;
@@ -108,7 +108,7 @@ impl From<Utf8Error> for Error {
 impl Hash for Error {
     ghost hash_input = { λ e. fed.str (error_name e) };
 
-    ghost respects_eq = { λ x y h. ap fed.str (same_names x y h) };
+    ghost respects_eq = { λ x y h. ap fed.str (equal_errors_have_equal_names x y h) };
 
     #[inline]
     fn hash<H: Hasher>(&self, state: &mut H) {

@@ -8,7 +8,7 @@
 ghost use Rattle.std.specs.Prelude.{◌≡◌, ◌+◌, ◌-◌, ◌<◌, ◌≤◌, ◌++◌, IsCharBoundary, length, map, take, drop, slice_index};
 ghost use Rattle.std.specs.Char.{to_ascii_uppercase, to_ascii_lowercase};
 
-use crate::moves::{move_ends, shift};
+use crate::moves::{move_by_two_vectors, shift};
 use crate::steps::Steps;
 use std::simd::Simd;
 
@@ -83,7 +83,7 @@ pub fn make_lower(all: &mut [u8], start: usize, end: usize)
 ///
 /// `end` must be a boundary of the text.
 #[inline(always)]
-pub fn text_to(text: &str, end: usize) -> &str
+pub fn text_before_boundary(text: &str, end: usize) -> &str
     requires { IsCharBoundary text.now end }
     ensures { result.now ≡ take end text.now }
 {
@@ -96,7 +96,7 @@ pub fn text_to(text: &str, end: usize) -> &str
 ///
 /// `start` must be a boundary of the text.
 #[inline(always)]
-pub fn text_from(text: &str, start: usize) -> &str
+pub fn text_from_boundary(text: &str, start: usize) -> &str
     requires { IsCharBoundary text.now start }
     ensures { result.now ≡ drop start text.now }
 {
@@ -127,13 +127,13 @@ pub(crate) fn move_long_run<const N: usize>(all: &mut [u8], from: usize, to: usi
         ≡ take to all.old ++ (take len (drop from all.old) ++ drop (to + len) all.old) }
 {
     if N <= 32 || len <= 32 {
-        move_ends::<16>(all, from, to, len);
+        move_by_two_vectors::<16>(all, from, to, len);
     } else if N <= 64 || len <= 64 {
-        move_ends::<32>(all, from, to, len);
+        move_by_two_vectors::<32>(all, from, to, len);
     } else if N <= 128 || len <= 128 {
-        move_ends::<64>(all, from, to, len);
+        move_by_two_vectors::<64>(all, from, to, len);
     } else if N <= 256 || len <= 256 {
-        move_pairs::<64>(all, from, to, len);
+        move_by_four_vectors::<64>(all, from, to, len);
     } else {
         all.copy_within(from..from + len, to);
     }
@@ -142,7 +142,7 @@ pub(crate) fn move_long_run<const N: usize>(all: &mut [u8], from: usize, to: usi
 /// Moves `len` bytes, which are from `2 * K` to `4 * K`: the first `2 * K` and the last `2 * K`, each as two vectors. Both may
 /// overlap, so all four vectors are read before the first is written.
 #[inline(always)]
-fn move_pairs<const K: usize>(all: &mut [u8], from: usize, to: usize, len: usize)
+fn move_by_four_vectors<const K: usize>(all: &mut [u8], from: usize, to: usize, len: usize)
     requires source { from + len ≤ length all.old }
     requires target { to + len ≤ length all.old }
     requires least { K + K ≤ len }
@@ -155,8 +155,8 @@ fn move_pairs<const K: usize>(all: &mut [u8], from: usize, to: usize, len: usize
     let after_front = vector_at::<K>(all, from + K);
     let before_end = vector_at::<K>(all, from + rest);
     let end = vector_at::<K>(all, from + rest + K);
-    put_pair(all, to, front, after_front);
-    put_pair(all, to + rest, before_end, end);
+    put_two_vectors(all, to, front, after_front);
+    put_two_vectors(all, to + rest, before_end, end);
 }
 
 /// Writes any number of bytes. The proved build never inlines it, so its code stands there once. The parameters stand
@@ -190,7 +190,12 @@ pub(crate) fn put_vector<const K: usize>(all: &mut [u8], at: usize, bytes: Simd<
 /// Writes the `2 * K` bytes of two vectors into `all`, from index `at` on.
 #[tactic(auto, using(crate::proofs::MoveLemmas::written_as_one))]
 #[inline(always)]
-fn put_pair<const K: usize>(all: &mut [u8], at: usize, first: Simd<u8, K>, second: Simd<u8, K>)
+fn put_two_vectors<const K: usize>(
+    all: &mut [u8],
+    at: usize,
+    first: Simd<u8, K>,
+    second: Simd<u8, K>,
+)
     requires { at + (K + K) ≤ length all.old }
     ensures { all.new
         ≡ take at all.old ++ ((first.entry ++ second.entry) ++ drop (at + (K + K)) all.old) }

@@ -70,7 +70,7 @@ pub fn shift_by_call<const N: usize>(
     ensures looked { steps.new.looked ≡ steps.old.looked }
 {
     move_bytes(array, from, to, len);
-    steps.count_run(from, to, len);
+    steps.count_moves_of_run(from, to, len);
 }
 
 /// Moves `len` bytes: fewer than 16, and at most `N`. `N` is a constant, so the compiler leaves out the branches for more bytes.
@@ -85,20 +85,25 @@ fn move_short_run<const N: usize>(all: &mut [u8], from: usize, to: usize, len: u
 {
     if N >= 4 && len >= 4 {
         if N >= 8 && len >= 8 {
-            move_ends::<8>(all, from, to, len);
+            move_by_two_vectors::<8>(all, from, to, len);
         } else {
-            move_ends::<4>(all, from, to, len);
+            move_by_two_vectors::<4>(all, from, to, len);
         }
     } else if N >= 2 && len >= 2 {
-        move_ends::<2>(all, from, to, len);
+        move_by_two_vectors::<2>(all, from, to, len);
     } else if len == 1 {
-        move_ends::<1>(all, from, to, len);
+        move_by_two_vectors::<1>(all, from, to, len);
     }
 }
 
 /// Moves `len` bytes, from `K` to `2 * K` of them: the first `K` and the last `K`, which may overlap.
 #[inline(always)]
-pub(crate) fn move_ends<const K: usize>(all: &mut [u8], from: usize, to: usize, len: usize)
+pub(crate) fn move_by_two_vectors<const K: usize>(
+    all: &mut [u8],
+    from: usize,
+    to: usize,
+    len: usize,
+)
     requires source { from + len ≤ length all.old }
     requires target { to + len ≤ length all.old }
     requires least { K ≤ len }
@@ -158,20 +163,20 @@ fn write_short_run<const N: usize>(all: &mut [u8], at: usize, given: &[u8])
     let len = given.len();
     if N >= 4 && len >= 4 {
         if N >= 8 && len >= 8 {
-            copy_ends::<8>(all, at, given);
+            write_by_two_vectors::<8>(all, at, given);
         } else {
-            copy_ends::<4>(all, at, given);
+            write_by_two_vectors::<4>(all, at, given);
         }
     } else if N >= 2 && len >= 2 {
-        copy_ends::<2>(all, at, given);
+        write_by_two_vectors::<2>(all, at, given);
     } else if len == 1 {
-        copy_ends::<1>(all, at, given);
+        write_by_two_vectors::<1>(all, at, given);
     }
 }
 
 /// Writes `given`, from `K` to `2 * K` bytes: the first `K` and the last `K`, which may overlap.
 #[inline(always)]
-fn copy_ends<const K: usize>(all: &mut [u8], at: usize, given: &[u8])
+fn write_by_two_vectors<const K: usize>(all: &mut [u8], at: usize, given: &[u8])
     requires room { at + length given.now ≤ length all.old }
     requires least { K ≤ length given.now }
     requires most { length given.now - K ≤ K }

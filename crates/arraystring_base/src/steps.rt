@@ -101,7 +101,7 @@ impl Steps {
     }
 
     /// Counts the moves of `len` bytes from one offset to another: none if they stay.
-    pub(crate) fn count_run(&mut self, from: usize, to: usize, len: usize)
+    pub(crate) fn count_moves_of_run(&mut self, from: usize, to: usize, len: usize)
         requires { self.old.moved + len < 2 ^ 64 }
         ensures moved { self.new.moved ≡ self.old.moved + (if from == to then 0 else len) }
         ensures looked { self.new.looked ≡ self.old.looked }

@@ -83,12 +83,12 @@ fn pair(high: u16, rest: &[u16]) -> Option<(char, &[u16])>
     ensures none { IfNone result ((low : ℕ) (more : List ℕ)
         → rest.now ≡ low ∷ more → IsHigh high → IsLow low → ⊥) }
 {
-    if !is_high(high) {
+    if !is_high_surrogate(high) {
         return None;
     }
     let (second, rest) = rest.split_first()?;
     let low = *second;
-    if !is_low(low) {
+    if !is_low_surrogate(low) {
         return None;
     }
     let ch = char::from_u32(0x1_0000 + (high as u32 - 0xD800) * 0x400 + (low as u32 - 0xDC00))?;
@@ -97,7 +97,7 @@ fn pair(high: u16, rest: &[u16]) -> Option<(char, &[u16])>
 
 /// Whether a unit is a surrogate that begins a pair.
 #[inline]
-fn is_high(unit: u16) -> bool
+fn is_high_surrogate(unit: u16) -> bool
     ensures { IsTrue result ↔ IsHigh unit }
 {
     matches!(unit, 0xD800..=0xDBFF)
@@ -105,7 +105,7 @@ fn is_high(unit: u16) -> bool
 
 /// Whether a unit is a surrogate that ends a pair.
 #[inline]
-fn is_low(unit: u16) -> bool
+fn is_low_surrogate(unit: u16) -> bool
     ensures { IsTrue result ↔ IsLow unit }
 {
     matches!(unit, 0xDC00..=0xDFFF)

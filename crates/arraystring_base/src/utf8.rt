@@ -3,7 +3,7 @@
 ghost use Rattle.std.specs.Prelude.{◌≡◌, ◌+◌, ◌-◌, ◌^◌, ◌≤◌, ◌<◌, ◌↔◌, ◌++◌, ◌∷◌, [], ℕ, List, length, slice_index, take, drop, chars, IsTrue, IfSome, IfNone, IsCharBoundary};
 ghost use Rattle.arraystring_base.specs.Text.{bytes, cut, utf8, width, size, boundary};
 
-use crate::leaf::{byte, put_array, text_to};
+use crate::leaf::{byte, put_array, text_before_boundary};
 use crate::steps::Steps;
 use std::char;
 
@@ -54,7 +54,7 @@ pub fn truncate_str_counted<'a>(text: &'a str, size: u8, steps: &mut Steps) -> &
         return text;
     }
     let end = last_boundary(text, limit, steps);
-    text_to(text, end)
+    text_before_boundary(text, end)
 }
 
 /// The last boundary that is not past `limit`. It looks once at each byte from `limit` back to it.
@@ -73,7 +73,7 @@ fn last_boundary(text: &str, limit: usize, steps: &mut Steps) -> usize
     let mut end = limit;
     // The first byte of a text continues no character, and at most three bytes in a row do. The bound is for
     // the compiler, which unrolls the loop.
-    while continues(look(all, end, steps)) && limit - end < 3 {
+    while is_continuation(look(all, end, steps)) && limit - end < 3 {
         end -= 1;
     }
     end
@@ -107,7 +107,7 @@ pub fn look(bytes: &[u8], at: usize, steps: &mut Steps) -> u8
 
 /// Whether a byte continues a character that began before it.
 #[inline]
-fn continues(byte: u8) -> bool
+fn is_continuation(byte: u8) -> bool
     ensures { IsTrue result ↔ ((128 ≤ byte) × (byte < 192)) }
 {
     matches!(byte, 0x80..=0xBF)
@@ -241,13 +241,13 @@ pub fn encode<const N: usize>(ch: char, array: &mut [u8; N], at: usize) -> usize
         put_array(all, at, [code as u8]);
         return 1;
     }
-    encode_wide(ch, all, at)
+    encode_non_ascii(ch, all, at)
 }
 
 /// Writes the UTF-8 of a character that is not ASCII. The compiler inlines it where that pays, and a cold function only
 /// calls it.
 #[tactic(auto, unfolding(crate::specs::Text::width, crate::specs::Text::utf8))]
-fn encode_wide(ch: char, all: &mut [u8], at: usize) -> usize
+fn encode_non_ascii(ch: char, all: &mut [u8], at: usize) -> usize
     requires room { at + width ch ≤ length all.old }
     requires wide { 0x80 ≤ ch }
     ensures width { result ≡ width ch }

@@ -6,12 +6,12 @@ use Rattle.std.proofs.lemmas.Str.Ascii.{uppercase_ascii, lowercase_ascii, upperc
 use Rattle.arraystring_base.specs.Text.{IsScalarValue, IsText, size, utf8, bytes, front, back, boundary}
 use Rattle.arraystring_base.proofs.TextLaws.{bytes-utf8, chars-bytes, text-chars}
 use Rattle.arraystring_base.proofs.BoundaryLaws.{boundary-is, boundary-end, front-start, front-end, back-start, back-end}
-use Rattle.arraystring_core.specs.Stored.{Stored}
-use Rattle.arraystring_core.specs.Layout.{string_in, IsStored}
+use Rattle.arraystring_core.specs.Stored.{StringView}
+use Rattle.arraystring_core.specs.Layout.{string_in, IsStringLayout}
 use Rattle.arraystring_core.specs.GhostProofs.{stored-utf8, stored-bytes}
 use Rattle.arraystring_core.proofs.StoredLaws.{opened-within}
 use Rattle.arraystring_core.specs.Edits.{part}
-use Rattle.arraystring_core.specs.Ascii.{in_case}
+use Rattle.arraystring_core.specs.Ascii.{to_case}
 use Rattle.arraystring_core.specs.declared.array_string.ascii.Case.{Case}
 use Rattle.arraystring_core.specs.declared.array_string.ascii.Case.TheVariants.{Upper, Lower}
 use Rattle.arraystring_core.proofs.PartLemmas.{part_stored}
@@ -22,7 +22,7 @@ pub record IsAsciiChange (f : ℕ → ℕ) : Type 0 where
   pub low : (c : ℕ) → c < 128 → f c < 128
   pub high : (c : ℕ) → 128 ≤ c → f c ≡ c
 
-pub case-change : (case : Case) → IsAsciiChange (in_case case)
+pub case-change : (case : Case) → IsAsciiChange (to_case case)
 case-change Upper = record { low = uppercase_ascii; high = λ c ge. (uppercase_is c).2 (omega arith) }
 case-change Lower = record { low = lowercase_ascii; high = λ c ge. (lowercase_is c).2 (omega arith) }
 
@@ -52,7 +52,7 @@ module _ (f : ℕ → ℕ) (is : IsAsciiChange f) where
   changed-chars t s = chars-bytes (changed-utf8 t s) (sym (bytes-change t))
 
 -- the bytes from start to end of the text that stands from p on are changed
-module _ {f : ℕ → ℕ} (is : IsAsciiChange f) {array_size : ℕ} {array : List ℕ} {p n : ℕ} (in_array : IsStored array_size array p n) {v : Stored}
+module _ {f : ℕ → ℕ} (is : IsAsciiChange f) {array_size : ℕ} {array : List ℕ} {p n : ℕ} (in_array : IsStringLayout array_size array p n) {v : StringView}
     (e : string_in array p n ≡ v) {start end : ℕ} (order : start ≤ end) (b : boundary v.text start ≡ true) (d : boundary v.text end ≡ true)
     {after : List ℕ}
     (written : after ≡ take (p + start) array ++ (map f (take (p + end - (p + start)) (drop (p + start) array)) ++ drop (p + end) array)) where

@@ -6,12 +6,12 @@ use Rattle.arraystring_base.proofs.TextLaws.{size-append}
 use Rattle.arraystring_base.proofs.CutLaws.{cut-all, cut-past}
 use Rattle.arraystring_base.specs.declared.error.Error.{Error}
 use Rattle.arraystring_base.specs.declared.error.OutOfBounds.{OutOfBounds}
-use Rattle.arraystring_core.specs.Stored.{Stored}
+use Rattle.arraystring_core.specs.Stored.{StringView}
 use Rattle.arraystring_core.specs.Edits.{from_out_of_bounds}
 use Rattle.arraystring_core.specs.Construct.{IsWholeOrRefused}
 
 -- what does not fit is refused
-pub refused-made : (result : Result Stored OutOfBounds) (t : List ℕ) (n : ℕ) → IsErr result → n < size t → IsWholeOrRefused t n (from_out_of_bounds result)
+pub refused-made : (result : Result StringView OutOfBounds) (t : List ℕ) (n : ℕ) → IsErr result → n < size t → IsWholeOrRefused t n (from_out_of_bounds result)
 refused-made (Ok s) t n err past = absurd (cc)
 refused-made (Err e) t n err past = (past, refl)
 
@@ -24,7 +24,7 @@ pub settled-cut : (t all : List ℕ) (n : ℕ) → IsAllOrPast t all n → cut t
 settled-cut t all n (inl ends) = ap (λ l. cut l n) ends.0
 settled-cut t all n (inr stops) = sym (ap (λ l. cut l n) stops.1 ∙ cut-past t stops.0 n stops.2)
 
-pub made-more : (result : Result Stored Error) (t all : List ℕ) (n : ℕ) → IsAllOrPast t all n
+pub made-more : (result : Result StringView Error) (t all : List ℕ) (n : ℕ) → IsAllOrPast t all n
     → IsWholeOrRefused t n result → IsWholeOrRefused all n result
 made-more result t all n (inl ends) made = subst (λ l. IsWholeOrRefused l n result) ends.0 made
 made-more (Ok s) t all n (inr stops) made = absurd (omega arith)

@@ -3,8 +3,8 @@ use Rattle.std.proofs.Common.{◌≡◌, ℕ, ◌+◌, ◌-◌, ◌≤◌, ◌++
 use Rattle.std.proofs.lemmas.Bool.{ltb-false}
 use Rattle.arraystring_base.specs.Text.{size, front, back, boundary}
 use Rattle.arraystring_base.proofs.BoundaryLaws.{boundary-in_front}
-use Rattle.arraystring_core.specs.Stored.{Stored}
-use Rattle.arraystring_core.specs.Layout.{string_in, IsStored}
+use Rattle.arraystring_core.specs.Stored.{StringView}
+use Rattle.arraystring_core.specs.Layout.{string_in, IsStringLayout}
 use Rattle.arraystring_core.specs.Edits.{part, draining, first_cause, ok_unless, Makes}
 use Rattle.arraystring_core.proofs.StoredLaws.{opened-size}
 use Rattle.arraystring_core.proofs.EditLaws.{makes, none-holds, inside-failed}
@@ -12,7 +12,7 @@ use Rattle.arraystring_core.proofs.CauseLemmas.{no_cause}
 use Rattle.arraystring_core.proofs.SpanLemmas.{StoredAt, dropped, kept}
 
 -- the part between two boundaries of a stored text, where it is in the array
-module _ {array_size : ℕ} {array : List ℕ} {p n : ℕ} (is : IsStored array_size array p n) {v : Stored} (e : string_in array p n ≡ v)
+module _ {array_size : ℕ} {array : List ℕ} {p n : ℕ} (is : IsStringLayout array_size array p n) {v : StringView} (e : string_in array p n ≡ v)
     {start end : ℕ} (order : start ≤ end) (b : boundary v.text start ≡ true) (d : boundary v.text end ≡ true) where
   pub part_stored : StoredAt array_size array (p + start) (end - start) (part v.text start end)
   part_stored =
@@ -23,16 +23,16 @@ module _ {array_size : ℕ} {array : List ℕ} {p n : ℕ} (is : IsStored array_
       record { in_array = there.in_array; shown = there.shown ∙ ap (λ t. back t start) front_is.shown }
 
 -- the part was not refused, and where the array holds it
-pub record IsTakable (array_size : ℕ) (array : List ℕ) (p n : ℕ) (v : Stored) (start end : ℕ) : Type 0 where
+pub record IsTakable (array_size : ℕ) (array : List ℕ) (p n : ℕ) (v : StringView) (start end : ℕ) : Type 0 where
   pub order : start ≤ end
   pub within : end ≤ n
   pub starts : boundary v.text start ≡ true
   pub ends : boundary v.text end ≡ true
-  pub in_array : IsStored array_size array (p + start) (end - start)
+  pub in_array : IsStringLayout array_size array (p + start) (end - start)
   pub made : (left new : List ℕ) → left ≡ (string_in array (p + start) (end - start)).text → new ≡ front v.text start ++ back v.text end
       → Makes (draining v.text start end) v.text (Ok left) new
 
-pub takable : {array_size : ℕ} {array : List ℕ} {p n : ℕ} → IsStored array_size array p n → {v : Stored} → string_in array p n ≡ v → (start end : ℕ)
+pub takable : {array_size : ℕ} {array : List ℕ} {p n : ℕ} → IsStringLayout array_size array p n → {v : StringView} → string_in array p n ≡ v → (start end : ℕ)
     → Ok (tt {0}) ≡ ok_unless (first_cause (draining v.text start end).tests) (tt {0}) → IsTakable array_size array p n v start end
 takable is {v = v} e start end checked =
     let edit = draining v.text start end in

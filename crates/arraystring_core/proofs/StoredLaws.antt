@@ -4,12 +4,12 @@ use Rattle.std.proofs.Common.{◌≡◌, ℕ, ◌+◌, ◌≤◌, List, take, dr
 use Rattle.arraystring_base.specs.Text.{size, bytes, boundary, IsText}
 use Rattle.arraystring_base.proofs.TextLaws.{text-chars, chars-bytes, bytes-utf8}
 use Rattle.arraystring_base.proofs.BoundaryLaws.{boundary-within}
-use Rattle.arraystring_core.specs.Stored.{Stored}
-use Rattle.arraystring_core.specs.Layout.{string_in, IsStored, start_of}
+use Rattle.arraystring_core.specs.Stored.{StringView}
+use Rattle.arraystring_core.specs.Layout.{string_in, IsStringLayout, start_of}
 use Rattle.arraystring_core.specs.GhostProofs as ghost_proof
 
 -- the value that a contract sees
-module _ {array_size : ℕ} {array : List ℕ} {start n : ℕ} (is : IsStored array_size array start n) {v : Stored} (e : string_in array start n ≡ v) where
+module _ {array_size : ℕ} {array : List ℕ} {start n : ℕ} (is : IsStringLayout array_size array start n) {v : StringView} (e : string_in array start n ≡ v) where
   pub opened-bytes : bytes v.text ≡ take n (drop start array)
   opened-bytes = ap (λ s. bytes s.text) (sym e) ∙ ghost_proof.stored-bytes is
 
@@ -23,7 +23,7 @@ module _ {array_size : ℕ} {array : List ℕ} {start n : ℕ} (is : IsStored ar
   opened-end = ap (λ s. start_of s + size s.text) (sym e) ∙ ap (λ k. start + k) (ghost_proof.stored-size is)
 
   pub opened-text : IsText v.text
-  opened-text = subst (λ (s : Stored). IsText s.text) e (text-chars (ghost_proof.stored-utf8 is))
+  opened-text = subst (λ (s : StringView). IsText s.text) e (text-chars (ghost_proof.stored-utf8 is))
 
 -- UTF-8 of a text spells it
 pub text_spelled : (t : List ℕ) → IsText t → chars (bytes t) ≡ t

@@ -13,8 +13,8 @@ use Rattle.arraystring_base.specs.Text.{size, bytes, cut}
 use Rattle.arraystring_base.proofs.TextLaws.{size-append, bytes-append, chars-bytes}
 use Rattle.arraystring_base.proofs.CutLaws.{cut-past}
 use Rattle.arraystring_base.specs.declared.error.Error.{Error}
-use Rattle.arraystring_core.specs.Stored.{Stored}
-use Rattle.arraystring_core.specs.Drained.{Drained}
+use Rattle.arraystring_core.specs.Stored.{StringView}
+use Rattle.arraystring_core.specs.Drained.{DrainView}
 use Rattle.arraystring_core.specs.Construct.{IsWholeOrRefused}
 use Rattle.arraystring_core.proofs.ConstructLaws.{IsAllOrPast, settled-cut, made-more}
 use Rattle.arraystring_core.specs.Taken.{joined_texts, joined_pieces, piece_text, TakesAll, Takes, Fits, Gives}
@@ -81,7 +81,7 @@ module _ {U T : Type 0} (becomes : U → T → Type 0) (steps : T → Option ℕ
     pub chars-cut : cut taken room ≡ cut all room
     chars-cut = settled-cut taken all room (chars-given.settled taken room takes)
 
-    pub chars-made : (result : Result Stored Error) → IsWholeOrRefused taken room result → IsWholeOrRefused all room result
+    pub chars-made : (result : Result StringView Error) → IsWholeOrRefused taken room result → IsWholeOrRefused all room result
     chars-made result = made-more result taken all room (chars-given.settled taken room takes)
 
 -- and of pieces
@@ -100,7 +100,7 @@ module _ {U T : Type 0} (becomes : U → T → Type 0) (steps : T → Option (Bo
     pub pieces-cut : cut (joined_pieces taken) room ≡ cut (joined_texts all) room
     pieces-cut = settled-cut (joined_pieces taken) (joined_texts all) room (pieces-given.settled taken room takes)
 
-    pub pieces-made : (result : Result Stored Error) → IsWholeOrRefused (joined_pieces taken) room result → IsWholeOrRefused (joined_texts all) room result
+    pub pieces-made : (result : Result StringView Error) → IsWholeOrRefused (joined_pieces taken) room result → IsWholeOrRefused (joined_texts all) room result
     pieces-made result = made-more result (joined_pieces taken) (joined_texts all) room (pieces-given.settled taken room takes)
 
 -- the same, if the values are seen by a function more
@@ -122,8 +122,8 @@ pub text-gives : (s it : Chars) (bs : List ℕ) → IsUtf8 bs → s.rest.now ≡
 text-gives s it bs u rest e = Chars-gives (chars bs) it (encodes-chars bs u ∙ sym (ap (λ i. i.rest.now) e ∙ rest))
 
 -- a `Drain` gives the characters that are left
-pub drain-gives : (s it : Drained) (left : List ℕ) → s.left ≡ left → it ≡ s → AlwaysYields (YieldsFirst (λ d. d.left)) (λ c. c) it left
-drain-gives s it left is e = (YieldsList-from_first (λ c. c) (λ (d : Drained). d.left) left (ap (λ d. d.left) e ∙ is)).runs
+pub drain-gives : (s it : DrainView) (left : List ℕ) → s.left ≡ left → it ≡ s → AlwaysYields (YieldsFirst (λ d. d.left)) (λ c. c) it left
+drain-gives s it left is e = (YieldsList-from_first (λ c. c) (λ (d : DrainView). d.left) left (ap (λ d. d.left) e ∙ is)).runs
 
 pub ruleset past_the_room = (cut-past, cut-joined_past)
 

@@ -5,7 +5,7 @@ use Rattle.std.proofs.lemmas.List.{append-nil, map-append}
 use Rattle.arraystring_base.specs.Text.{width, size, cut}
 use Rattle.arraystring_base.proofs.TextLaws.{size-append}
 use Rattle.arraystring_base.proofs.CutLaws.{cut-all, cut-past_part}
-use Rattle.arraystring_core.specs.Taken.{IsFirstPast, joined_pieces, piece_text}
+use Rattle.arraystring_core.specs.Taken.{OnlyLastDoesNotFit, joined_pieces, piece_text}
 use Rattle.arraystring_core.proofs.TakenLaws.{joined-append}
 
 -- one more character, and one more piece
@@ -60,7 +60,7 @@ module _ {A : Type 0} {spelled : List A → List ℕ} {one : A → List ℕ} (sp
     fits = omega (arith, sum, next-sum);
   }
 
-  pub added-past : n < size now + size (one x) → IsFirstPast spelled (n - size old) (items ++ x ∷ [])
+  pub added-past : n < size now + size (one x) → OnlyLastDoesNotFit spelled (n - size old) (items ++ x ∷ [])
   added-past over =
       let fits : size (spelled items) ≤ n - size old = omega arith in
       let past : n - size old < size (spelled (items ++ x ∷ [])) = omega (arith, sum, next-sum) in

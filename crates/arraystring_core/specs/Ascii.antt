@@ -5,6 +5,6 @@ use Rattle.arraystring_core.specs.declared.array_string.ascii.Case.{Case}
 use Rattle.arraystring_core.specs.declared.array_string.ascii.Case.TheVariants.{Upper, Lower}
 
 -- a character in a case: a letter of ASCII in that case, and each other character as it is
-abbrev pub in_case : Case → ℕ → ℕ
-in_case Upper = to_ascii_uppercase
-in_case Lower = to_ascii_lowercase
+abbrev pub to_case : Case → ℕ → ℕ
+to_case Upper = to_ascii_uppercase
+to_case Lower = to_ascii_lowercase

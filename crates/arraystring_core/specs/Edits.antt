@@ -3,7 +3,7 @@ use Rattle.std.specs.Prelude.{◌≡◌, ℕ, ◌+◌, ◌-◌, List, [], ◌∷
 use Rattle.std.specs.Char.{to_ascii_uppercase, to_ascii_lowercase}
 use Rattle.std.specs.declared.fmt.Error.{Error as FmtError}
 use Rattle.arraystring_base.specs.Text.{size, cut, front, back}
-use Rattle.arraystring_core.specs.Stored.{Stored}
+use Rattle.arraystring_core.specs.Stored.{StringView}
 use Rattle.arraystring_base.specs.declared.error.Error.{Error}
 use Rattle.arraystring_base.specs.declared.error.Error.TheVariants as error
 use Rattle.arraystring_base.specs.declared.error.OutOfBounds.{OutOfBounds}
@@ -58,7 +58,7 @@ from_utf8_error (Ok value) = Ok value
 from_utf8_error (Err e) = Err error.Utf8
 
 -- the result of a call that returns a string, with the text in place of the string, as `Makes` takes it
-abbrev pub with_text : Result Stored Error → Result (List ℕ) Error
+abbrev pub with_text : Result StringView Error → Result (List ℕ) Error
 with_text (Ok s) = Ok s.text
 with_text (Err e) = Err e
 

@@ -6,17 +6,17 @@ use Rattle.arraystring_base.specs.declared.error.Error.TheVariants as error
 use Rattle.arraystring_base.specs.declared.error.Utf16.{Utf16}
 use Rattle.arraystring_base.specs.declared.utf16.Unit16.{Unit16}
 use Rattle.arraystring_base.specs.declared.utf16.Unit16.TheVariants.{Char, Lone}
-use Rattle.arraystring_core.specs.Stored.{Stored}
+use Rattle.arraystring_core.specs.Stored.{StringView}
 
 -- the result of `try_from_utf16` at this stop: the whole text, or the error of what comes first, which is a lone surrogate or a character
 -- that does not fit
-abbrev pub GivesWhole : Stop → Result Stored Error → Type 0
+abbrev pub GivesWhole : Stop → Result StringView Error → Type 0
 GivesWhole (End prefix) result = IsOkAnd result (λ string. string.text ≡ prefix)
 GivesWhole (Fault prefix) result = IsErrAnd result (λ e. e ≡ error.Utf16)
 GivesWhole (Full prefix) result = IsErrAnd result (λ e. e ≡ error.OutOfBounds)
 
 -- the result of `from_utf16` at this stop: the prefix that fits, or an error if a lone surrogate comes right behind it
-abbrev pub GivesPrefix : Stop → Result Stored Utf16 → Type 0
+abbrev pub GivesPrefix : Stop → Result StringView Utf16 → Type 0
 GivesPrefix (End prefix) result = IsOkAnd result (λ string. string.text ≡ prefix)
 GivesPrefix (Fault prefix) result = IsErr result
 GivesPrefix (Full prefix) result = IsOkAnd result (λ string. string.text ≡ prefix)

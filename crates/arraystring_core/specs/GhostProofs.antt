@@ -5,12 +5,12 @@ use Rattle.std.proofs.lemmas.Str.{IsUtf8-had}
 use Rattle.arraystring_base.specs.Text.{size, bytes}
 use Rattle.arraystring_base.proofs.TextLaws.{size-is, bytes-chars}
 use Rattle.arraystring_base.proofs.BoundaryLaws.{front-back, front-size}
-use Rattle.arraystring_core.specs.Stored.{Stored}
-use Rattle.arraystring_core.specs.Layout.{string_in, IsStored, IsDrained, array_of}
-use Rattle.arraystring_core.specs.Drained.{drain_from, removed_of}
+use Rattle.arraystring_core.specs.Stored.{StringView}
+use Rattle.arraystring_core.specs.Layout.{string_in, IsStringLayout, IsDrainLayout, array_of}
+use Rattle.arraystring_core.specs.Drained.{drain_after_front, removed_of}
 
 -- the view of a string has the bytes and the size of its text, and the array can be computed from it
-module _ {array_size : ℕ} {array : List ℕ} {start n : ℕ} (is : IsStored array_size array start n) where
+module _ {array_size : ℕ} {array : List ℕ} {start n : ℕ} (is : IsStringLayout array_size array start n) where
   pub stored-utf8 : IsUtf8 (take n (drop start array))
   stored-utf8 = IsUtf8-had _ is.utf8
 
@@ -34,18 +34,18 @@ module _ {array_size : ℕ} {array : List ℕ} {start n : ℕ} (is : IsStored ar
 
 -- the removed string, the size of what was given from the front, the array and the size of the removed text can be computed from the view
 -- of a drain
-module _ {array_size : ℕ} {array : List ℕ} {start n i : ℕ} (is : IsDrained array_size array start n i) where
-  drained-removed : removed_of (drain_from (string_in array start n) i) ≡ string_in array start n
+module _ {array_size : ℕ} {array : List ℕ} {start n i : ℕ} (is : IsDrainLayout array_size array start n i) where
+  drained-removed : removed_of (drain_after_front (string_in array start n) i) ≡ string_in array start n
   drained-removed = ap with_spare (front-back (string_in array start n).text i)
     where
-      with_spare : List ℕ → Stored
+      with_spare : List ℕ → StringView
       with_spare t = record { text = t; spare = (string_in array start n).spare }
 
-  pub drained-front : size (drain_from (string_in array start n) i).yielded ≡ i
+  pub drained-front : size (drain_after_front (string_in array start n) i).yielded ≡ i
   drained-front = front-size (string_in array start n).text i is.at
 
-  pub drained-array : array_of (removed_of (drain_from (string_in array start n) i)) ≡ array
+  pub drained-array : array_of (removed_of (drain_after_front (string_in array start n) i)) ≡ array
   drained-array = ap array_of drained-removed ∙ stored-all is.in_array
 
-  pub drained-size : size (removed_of (drain_from (string_in array start n) i)).text ≡ n
+  pub drained-size : size (removed_of (drain_after_front (string_in array start n) i)).text ≡ n
   drained-size = ap (λ r. size r.text) drained-removed ∙ stored-size is.in_array

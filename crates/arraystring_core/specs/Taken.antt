@@ -18,8 +18,8 @@ abbrev pub joined_pieces : List (Bor (List ℕ)) → List ℕ
 joined_pieces pieces = joined_texts (map piece_text pieces)
 
 -- the last of the items does not fit into the room behind those before it, which fit; `spelled` makes the text of items
-abbrev pub IsFirstPast : {A : Type 0} → (List A → List ℕ) → ℕ → List A → Type 0
-IsFirstPast {A} spelled room items = (before : List A) × (last : A) × (items ≡ before ++ last ∷ [])
+abbrev pub OnlyLastDoesNotFit : {A : Type 0} → (List A → List ℕ) → ℕ → List A → Type 0
+OnlyLastDoesNotFit {A} spelled room items = (before : List A) × (last : A) × (items ≡ before ++ last ∷ [])
     × (size (spelled before) ≤ room) × (room < size (spelled items))
 
 -- `becomes` says into which iterators the value that is passed in may turn, and `steps` what one call of `next` may give
@@ -32,7 +32,7 @@ module _ {U T A : Type 0} (becomes : U → T → Type 0) (steps : T → Option A
   -- among them (`what_comes_past_the_room`)
   abbrev pub Takes : (List A → List ℕ) → U → ℕ → List A → Type 0
   Takes spelled iter room items = (it : T) × becomes iter it
-      × ((Drains steps it items × (size (spelled items) ≤ room)) ⊎ ((rest : T) × Yields steps it items rest × IsFirstPast spelled room items))
+      × ((Drains steps it items × (size (spelled items) ≤ room)) ⊎ ((rest : T) × Yields steps it items rest × OnlyLastDoesNotFit spelled room items))
 
   -- whatever items come, they fit into the room
   abbrev pub Fits : (List A → List ℕ) → U → ℕ → Type 0

@@ -100,15 +100,15 @@ pub struct ArrayString<const N: usize> {
 
 impl<const N: usize> Model for ArrayString<N> {
     ghost use Rattle.arraystring_base.specs.Text.{size as text_size};
-    ghost use Rattle.arraystring_core.specs.Stored.{Stored};
-    ghost use Rattle.arraystring_core.specs.Layout.{string_in, IsStored, start_of, array_of};
+    ghost use Rattle.arraystring_core.specs.Stored.{StringView};
+    ghost use Rattle.arraystring_core.specs.Layout.{string_in, IsStringLayout, start_of, array_of};
     ghost use Rattle.arraystring_core.specs.GhostProofs.{stored-size, stored-all};
 
-    ghost Value = { Stored };
+    ghost Value = { StringView };
 
     ghost view = { λ s. string_in s.array s.start s.size };
 
-    ghost invariant = { λ s. IsStored N s.array s.start s.size };
+    ghost invariant = { λ s. IsStringLayout N s.array s.start s.size };
 
     ghost inverse = { λ v.
         record { array = array_of v; start = start_of v; size = text_size v.text } };

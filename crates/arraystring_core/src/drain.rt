@@ -2,7 +2,7 @@
 //! impls of traits.
 ghost use Rattle.std.specs.Prelude.{◌≡◌, ◌≤◌, chars};
 ghost use Rattle.arraystring_base.specs.Text.{bytes, cap, size, IsText};
-ghost use Rattle.arraystring_core.specs.Layout.{string_in, IsStored};
+ghost use Rattle.arraystring_core.specs.Layout.{string_in, IsStringLayout};
 
 use arraystring_base::leaf::part;
 use std::marker::Model;
@@ -32,15 +32,15 @@ pub struct Drain<const N: usize> {
 
 impl<const N: usize> Model for Drain<N> {
     ghost use Rattle.arraystring_base.specs.Text.{size as text_size};
-    ghost use Rattle.arraystring_core.specs.Layout.{string_in, IsDrained, start_of, array_of};
-    ghost use Rattle.arraystring_core.specs.Drained.{Drained, drain_from, removed_of};
+    ghost use Rattle.arraystring_core.specs.Layout.{string_in, IsDrainLayout, start_of, array_of};
+    ghost use Rattle.arraystring_core.specs.Drained.{DrainView, drain_after_front, removed_of};
     ghost use Rattle.arraystring_core.specs.GhostProofs.{drained-front, drained-array, drained-size};
 
-    ghost Value = { Drained };
+    ghost Value = { DrainView };
 
-    ghost view = { λ d. drain_from (string_in d.array d.start d.size) d.front };
+    ghost view = { λ d. drain_after_front (string_in d.array d.start d.size) d.front };
 
-    ghost invariant = { λ d. IsDrained N d.array d.start d.size d.front };
+    ghost invariant = { λ d. IsDrainLayout N d.array d.start d.size d.front };
 
     ghost inverse = { λ v. let removed = removed_of v in
         record {
@@ -62,7 +62,7 @@ impl<const N: usize> Drain<N> {
     /// Returns a drain of which the `size` bytes of the array from `start` on are left.
     #[inline(always)]
     pub(crate) fn new(array: [u8; N], start: u8, size: u8) -> Self
-        requires { IsStored N array start size }
+        requires { IsStringLayout N array start size }
         ensures { result.left ≡ (string_in array.entry start size).text }
     {
         Drain {

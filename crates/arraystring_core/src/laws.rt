@@ -12,11 +12,11 @@ ghost use Rattle.arraystring_base.specs.declared.error.Error.{Error};
 ghost use Rattle.arraystring_base.specs.declared.error.Utf16.{Utf16};
 ghost use Rattle.arraystring_base.specs.declared.utf16.Unit16.{Unit16};
 ghost use Rattle.arraystring_base.specs.Utf16.{IsReading, first_stop, lossy_text, text_units};
-ghost use Rattle.arraystring_core.specs.Drained.{Drained, End, walk_of};
+ghost use Rattle.arraystring_core.specs.Drained.{DrainView, End, walk_of};
 ghost use Rattle.arraystring_core.specs.Edits.{first_cause, first_of, last_of, part, popping, replacement, split, trimming, is_white_space};
 ghost use Rattle.arraystring_core.specs.FromUtf16.{GivesWhole, GivesPrefix};
 ghost use Rattle.arraystring_core.specs.Json.{json_text, text_within, whole_text};
-ghost use Rattle.arraystring_core.specs.Stored.{Stored};
+ghost use Rattle.arraystring_core.specs.Stored.{StringView};
 ghost use Rattle.arraystring_core.specs.Taken.{joined_texts};
 
 use crate::{ArrayString, Drain};
@@ -44,7 +44,7 @@ pub fn text_spelled<const N: usize>(string: &ArrayString<N>)
 #[tactic(auto, using(crate::proofs::TakenLaws::drain_gives))]
 #[inline]
 pub fn left_given<const N: usize>(drained: &Drain<N>)
-    ensures { (it : Drained) → it.left ≡ drained.now.left
+    ensures { (it : DrainView) → it.left ≡ drained.now.left
         → AlwaysYields (YieldsFirst (λ d. d.left)) (λ c. c) it drained.now.left }
 {}
 
@@ -82,10 +82,10 @@ pub fn pieces_make_one_text(whole: &str)
 pub fn units_read_back()
     ensures reading { (t : List ℕ) → IsText t
         → (items : List Unit16) × IsReading (text_units t) items }
-    ensures whole { (t : List ℕ) (n : ℕ) (items : List Unit16) (result : Result Stored Error)
+    ensures whole { (t : List ℕ) (n : ℕ) (items : List Unit16) (result : Result StringView Error)
         → IsText t → size t ≤ n → IsReading (text_units t) items
         → GivesWhole (first_stop items n) result → IsOkAnd result (λ string. string.text ≡ t) }
-    ensures prefix { (t : List ℕ) (n : ℕ) (items : List Unit16) (result : Result Stored Utf16)
+    ensures prefix { (t : List ℕ) (n : ℕ) (items : List Unit16) (result : Result StringView Utf16)
         → IsText t → size t ≤ n → IsReading (text_units t) items
         → GivesPrefix (first_stop items n) result → IsOkAnd result (λ string. string.text ≡ t) }
     ensures lossy { (t : List ℕ) (n : ℕ) (items : List Unit16)

@@ -19,10 +19,10 @@ capacity_named (Some word) =
     if pointwise nat_eq word.now (codes "max") then Some 255 else None
 
 -- the number of bytes for which a capacity has room
-abbrev pub bytes_of : Capacity → ℕ
-bytes_of Small = 23
-bytes_of Cache = 63
-bytes_of Max = 255
+abbrev pub byte_count_of : Capacity → ℕ
+byte_count_of Small = 23
+byte_count_of Cache = 63
+byte_count_of Max = 255
 
 -- the exit status that a result of `play` gives (CALLING.md, The program)
 abbrev pub status_of : {A : Type 0} → Result A PlayFault → ℕ
@@ -56,14 +56,14 @@ pub record IsOutcomeAt (named : Option ℕ) (given old new : Option (List ℕ)) 
   pub outcome : IfSome named (λ n. IsSomeAnd played (IsOutcome n given old new SameOutput))
 
 -- the exit status of a program: `None` stands for a word that names no capacity, so that no script is played
-abbrev pub status_at : Option (Result (Unit {0}) PlayFault) → ℕ
-status_at None = 2
-status_at (Some played) = status_of played
+abbrev pub status_of_program : Option (Result (Unit {0}) PlayFault) → ℕ
+status_of_program None = 2
+status_of_program (Some played) = status_of played
 
 -- the text that a program writes to its standard error: `None` stands for a word that names no capacity, so that no script is played
-abbrev pub report_at : Option (Result (Unit {0}) PlayFault) → List ℕ
-report_at None = usage_line
-report_at (Some played) = report_of played
+abbrev pub report_of_program : Option (Result (Unit {0}) PlayFault) → List ℕ
+report_of_program None = usage_line
+report_of_program (Some played) = report_of played
 
 -- one run of the program: its word, the bytes of its input, the bytes of its output and of its standard error before and after, as far
 -- as they are known, the claims that each of these three streams is as before, and the exit status

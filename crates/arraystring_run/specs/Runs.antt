@@ -66,8 +66,8 @@ abbrev pub without : ℕ → List ℕ → List ℕ
 without c t = filter (λ d. not (d == c)) t
 
 -- the end of a range that includes the byte at `last`: the next index, but at most 255
-abbrev pub end_through : ℕ → ℕ
-end_through last = min (last + 1) 255
+abbrev pub end_of_inclusive : ℕ → ℕ
+end_of_inclusive last = min (last + 1) 255
 
 -- the effect of a command on t at the capacity n
 abbrev pub effect : Command → List ℕ → ℕ → Effect
@@ -85,7 +85,7 @@ effect (command.InsertStr i given) t n = apply_unit (insertion_of_cut t i (chars
 effect (command.SplitOff i) t n = apply Text (split t i) t
 effect command.Clear t n = apply_unit clearing t
 effect (command.Drain start end) t n = apply Text (draining t start end) t
-effect (command.DrainThrough start last) t n = apply Text (draining t start (end_through last)) t
+effect (command.DrainThrough start last) t n = apply Text (draining t start (end_of_inclusive last)) t
 effect (command.DrainBack start end) t n = apply (λ removed. Text (reverse removed)) (draining t start end) t
 effect (command.ReplaceRange start end given) t n = apply_unit (replacement t start end (chars given.now) n) t
 effect command.Upper t n = apply_unit (uppercase t) t
@@ -96,13 +96,13 @@ effect command.Capacity t n = reply_and_text (Number n) t
 effect command.AsStr t n = reply_and_text (Text t) t
 
 -- whether a cause is `Room`
-abbrev pub is_room : Option Cause → Bool
-is_room (Some Room) = true
-is_room _ = false
+abbrev pub is_cause_room : Option Cause → Bool
+is_cause_room (Some Room) = true
+is_cause_room _ = false
 
 -- whether an edit is refused for want of room: the first of its tests that holds has the cause `Room`
 abbrev pub lacks_room : {A : Type 0} → Edit A → Bool
-lacks_room row = is_room (first_cause row.tests)
+lacks_room row = is_cause_room (first_cause row.tests)
 
 -- whether an edit is made, which it is if none of its tests holds
 abbrev pub is_made : {A : Type 0} → Edit A → Bool
@@ -141,9 +141,9 @@ first_tight_from k [] t n = None
 first_tight_from k (c ∷ cs) t n = if is_tight c t n then Some k else first_tight_from (k + 1) cs (effect c t n).text n
 
 -- the first of two positions if it is there, and else the second
-abbrev pub earlier_of : Option ℕ → Option ℕ → Option ℕ
-earlier_of None next = next
-earlier_of (Some k) next = Some k
+abbrev pub first_or_else : Option ℕ → Option ℕ → Option ℕ
+first_or_else None next = next
+first_or_else (Some k) next = Some k
 
 -- in a run that begins with the text t, at the capacity n, no command is tight on the text that the commands before it leave
 abbrev pub NoneTight : List Command → List ℕ → ℕ → Type 0

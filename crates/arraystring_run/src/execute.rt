@@ -2,7 +2,7 @@
 ghost use Rattle.std.specs.Prelude.{◌≡◌, reverse};
 ghost use Rattle.arraystring.specs.Text.{cap};
 ghost use Rattle.arraystring.specs.Edits.{from_out_of_bounds, from_utf8_error, with_text, part_in};
-ghost use Rattle.arraystring.specs.Drained.{with_left};
+ghost use Rattle.arraystring.specs.Drained.{result_with_left};
 ghost use Rattle.arraystring_run.specs.Runs.{view_of, reply_of, char_or_none, text_or_none, Done, Char, Text, effect, without};
 
 use crate::{Command, Reply};
@@ -134,7 +134,7 @@ fn reply_to_split_off<const N: usize>(outcome: Result<ArrayString<N>, Error>) ->
 
 /// The reply to `drain`, with the characters in order.
 fn reply_to_drain<const N: usize>(outcome: Result<Drain<N>, Error>) -> Reply<N>
-    ensures { view_of result ≡ reply_of Text (with_left outcome.entry) }
+    ensures { view_of result ≡ reply_of Text (result_with_left outcome.entry) }
 {
     match outcome {
         Ok(removed) => {
@@ -147,7 +147,7 @@ fn reply_to_drain<const N: usize>(outcome: Result<Drain<N>, Error>) -> Reply<N>
 
 /// The reply to `drain`, with the characters from the last to the first.
 fn reply_to_drain_back<const N: usize>(outcome: Result<Drain<N>, Error>) -> Reply<N>
-    ensures { view_of result ≡ reply_of (λ left. Text (reverse left)) (with_left outcome.entry) }
+    ensures { view_of result ≡ reply_of (λ left. Text (reverse left)) (result_with_left outcome.entry) }
 {
     match outcome {
         Ok(removed) => Reply::Text(reversed_text(removed)),

@@ -4,7 +4,7 @@ ghost use Rattle.std.specs.Prelude.{◌≡◌, ◌≢◌, ◌+◌, ◌<◌, ◌�
 use std::simd::Simd;
 
 /// How many bytes are compared at a time.
-const BLOCK: usize = 16;
+const BLOCK_SIZE: usize = 16;
 
 /// The index of the first byte that is `wanted`; the length if none is. Blocks that lack it are
 /// passed over whole.
@@ -14,10 +14,10 @@ pub(crate) fn find_byte(wanted: u8, bytes: &[u8]) -> usize
     ensures before { (i : ℕ) → i < result → slice_index bytes.now i ≢ wanted }
 {
     let mut at = 0;
-    while bytes.len() - at >= BLOCK {
+    while bytes.len() - at >= BLOCK_SIZE {
         let before = position_in_block(wanted, bytes, at);
         at += before;
-        if before < BLOCK {
+        if before < BLOCK_SIZE {
             return at;
         }
     }
@@ -35,10 +35,10 @@ fn position_in_block(wanted: u8, bytes: &[u8], at: usize) -> usize
     ensures found { result < 16 → slice_index bytes.now (at + result) ≡ wanted }
     ensures before { (i : ℕ) → at ≤ i → i < at + result → slice_index bytes.now i ≢ wanted }
 {
-    let block = Simd::<u8, BLOCK>::from_slice(&bytes[at..]);
+    let block = Simd::<u8, BLOCK_SIZE>::from_slice(&bytes[at..]);
     let found = block.simd_eq(Simd::splat(wanted)).to_bitmask();
     if found == 0 {
-        return BLOCK;
+        return BLOCK_SIZE;
     }
     found.trailing_zeros() as usize
 }

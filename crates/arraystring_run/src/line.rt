@@ -24,8 +24,8 @@ pub(crate) fn command_of_str(text: &str) -> Option<Command<'_>>
     ensures none { IfNone result ((c : Command) → IsLineOf text.now c → ⊥) }
 {
     match split_at_space(text) {
-        Some((word, rest)) => command_given(word, rest),
-        None => command_alone(text),
+        Some((word, rest)) => command_with_arguments(word, rest),
+        None => command_without_arguments(text),
     }
 }
 
@@ -43,7 +43,7 @@ fn split_at_space(text: &str) -> Option<(&str, &str)>
 }
 
 /// The command of a line that is one word.
-fn command_alone(word: &str) -> Option<Command<'static>>
+fn command_without_arguments(word: &str) -> Option<Command<'static>>
     requires { IsOneWord word.now }
     ensures some { IfSome result (λ c. IsLineOf word.now c) }
     ensures none { IfNone result ((c : Command) → IsLineOf word.now c → ⊥) }
@@ -62,9 +62,9 @@ fn command_alone(word: &str) -> Option<Command<'static>>
 }
 
 /// The command of a word that is followed by one space and `rest`. A word that takes a number and more behind it is in no
-/// arm of this `match`, but in one of `command_given_more`, and a word that takes two numbers alone in one of
+/// arm of this `match`, but in one of `command_of_number_and_more`, and a word that takes two numbers alone in one of
 /// `command_of_range`. One `match` of all words is too much for the check (docs/DECISIONS.md).
-fn command_given<'a>(word: &str, rest: &'a str) -> Option<Command<'a>>
+fn command_with_arguments<'a>(word: &str, rest: &'a str) -> Option<Command<'a>>
     requires { IsOneWord word.now }
     ensures some { IfSome result (λ c. IsLineOf (word.now ++ space ∷ rest.now) c) }
     ensures none { IfNone result ((c : Command) → IsLineOf (word.now ++ space ∷ rest.now) c → ⊥) }
@@ -77,25 +77,25 @@ fn command_given<'a>(word: &str, rest: &'a str) -> Option<Command<'a>>
         "remove" => Some(Command::Remove(number(rest)?)),
         "retain_not" => Some(Command::RetainNot(only_char(rest)?)),
         "split_off" => Some(Command::SplitOff(number(rest)?)),
-        _ => command_given_more(word, rest),
+        _ => command_of_number_and_more(word, rest),
     }
 }
 
 /// The command of a word that takes two arguments or more, of which the first is a number. The word is
 /// followed by one space and `rest`.
-fn command_given_more<'a>(word: &str, rest: &'a str) -> Option<Command<'a>>
+fn command_of_number_and_more<'a>(word: &str, rest: &'a str) -> Option<Command<'a>>
     requires { IsOneWord word.now }
     ensures some { IfSome result (λ c. IsLineOf (word.now ++ space ∷ rest.now) c) }
     ensures none { IfNone result ((c : Command)
         → 2 ≤ length (arguments c) → IsLineOf (word.now ++ space ∷ rest.now) c → ⊥) }
 {
-    let (start, rest) = number_before(rest)?;
+    let (start, rest) = number_before_space(rest)?;
     match word {
         "try_insert" => Some(Command::TryInsert(start, only_char(rest)?)),
         "try_insert_str" => Some(Command::TryInsertStr(start, rest)),
         "insert_str" => Some(Command::InsertStr(start, rest)),
         "replace_range" => {
-            let (end, given) = number_before(rest)?;
+            let (end, given) = number_before_space(rest)?;
             Some(Command::ReplaceRange { start, end, given })
         }
         _ => command_of_range(word, start, number(rest)?),
@@ -131,7 +131,7 @@ fn number(text: &str) -> Option<u8>
 }
 
 /// The number before the first space, and what is after that space.
-fn number_before(text: &str) -> Option<(u8, &str)>
+fn number_before_space(text: &str) -> Option<(u8, &str)>
     ensures some { IfSome result (λ parts. IsNumberBefore text.now parts.0 parts.1.now) }
     ensures none { IfNone result ((n : ℕ) (rest : List ℕ) → IsNumberBefore text.now n rest → ⊥) }
 {

@@ -28,11 +28,11 @@ pub enum PlayFault {
 }
 
 /// How many bytes are read at a time.
-const CHUNK: usize = 8192;
+const CHUNK_SIZE: usize = 8192;
 
 /// The greatest `N` for which `play` makes a text, because no memory can hold an array of more bytes. `N` is a
 /// constant, so the compiler decides the test for each `N` that a program names.
-const LARGEST: usize = usize::MAX / 4;
+const LARGEST_CAPACITY: usize = usize::MAX / 4;
 
 /// Plays a script on the empty text. It does this in order:
 ///
@@ -94,7 +94,7 @@ fn play_commands<const N: usize, O: Write>(
     ensures unwritten { IfErr result (λ e. e ≢ PlayFault.Write → output.new ≡ output.old) }
     ensures no_line { IfErr result (λ e. IfBadLine e (λ _. ⊥)) }
 {
-    if N > LARGEST {
+    if N > LARGEST_CAPACITY {
         return Err(PlayFault::Memory);
     }
     let mut text = ArrayString::<N>::new();
@@ -116,7 +116,7 @@ fn read_all<I: Read>(alloc: Global, input: &mut I) -> Result<Vec<u8>, PlayFault>
     ensures no_line { IfErr result (λ e. IfBadLine e (λ _. ⊥)) }
 {
     let mut bytes = Vec::new(alloc);
-    let mut chunk = [0u8; CHUNK];
+    let mut chunk = [0u8; CHUNK_SIZE];
     for _ in 0..u64::MAX {
         match input.read(&mut chunk) {
             Ok(0) => return Ok(bytes),

@@ -5,11 +5,11 @@ ghost use Rattle.std.specs.Io.KnownBytes.{Appends};
 ghost use Rattle.arraystring.specs.Text.{bytes};
 ghost use Rattle.arraystring_run.specs.Runs.{view_of};
 ghost use Rattle.arraystring_run.specs.ScriptLines.{with_newline};
-ghost use Rattle.arraystring_run.specs.Printing.{reply_line, all_printed};
-ghost use Rattle.arraystring_run.specs.Writing.{AppendsPrefix, IsPassed};
+ghost use Rattle.arraystring_run.specs.Printing.{reply_line, lines_of_replies_and_text};
+ghost use Rattle.arraystring_run.specs.Writing.{AppendsPrefix, GoesThroughBuffer};
 
 use crate::Reply;
-use crate::waiting::Waiting;
+use crate::output_buffer::OutputBuffer;
 use crate::writing::write_text;
 use arraystring::ArrayString;
 use std::fmt::{Display, Write as _};
@@ -25,11 +25,11 @@ pub(crate) fn write_all_replies<const N: usize, O: Write>(
 ) -> io::Result<()>
     ensures whole { OnOk result
         (Appends (O.contents output.old) (O.contents output.new)
-        (all_printed (map view_of replies.now) last.now.text)) }
+        (lines_of_replies_and_text (map view_of replies.now) last.now.text)) }
     ensures part { AppendsPrefix (O.contents output.old) (O.contents output.new)
-        (all_printed (map view_of replies.now) last.now.text) }
+        (lines_of_replies_and_text (map view_of replies.now) last.now.text) }
 {
-    let mut waiting = Waiting::new();
+    let mut waiting = OutputBuffer::new();
     for reply in replies {
         put_reply(&mut waiting, output, reply)?;
     }
@@ -40,47 +40,47 @@ pub(crate) fn write_all_replies<const N: usize, O: Write>(
 
 /// Puts the line of a reply behind the bytes that wait to be written.
 fn put_reply<const N: usize, O: Write>(
-    waiting: &mut Waiting,
+    waiting: &mut OutputBuffer,
     output: &mut O,
     reply: &Reply<N>,
 ) -> io::Result<()>
     ensures whole { OnOk result
-        (IsPassed (O.contents output.old) (O.contents output.new) waiting.old waiting.new
+        (GoesThroughBuffer (O.contents output.old) (O.contents output.new) waiting.old waiting.new
         (with_newline (reply_line (view_of reply.now)))) }
     ensures part { AppendsPrefix (O.contents output.old) (O.contents output.new)
         (waiting.old ++ with_newline (reply_line (view_of reply.now))) }
 {
     match reply {
         Reply::Done => waiting.put(output, "done\n"),
-        Reply::Char(ch) => put_line_of(waiting, output, "char ", *ch),
+        Reply::Char(ch) => put_word_and_value(waiting, output, "char ", *ch),
         Reply::NoChar => waiting.put(output, "no char\n"),
         Reply::Text(text) => put_text_line(waiting, output, "text ", text.as_str()),
         Reply::NoText => waiting.put(output, "no text\n"),
-        Reply::Number(number) => put_line_of(waiting, output, "number ", *number),
-        Reply::Refused(error) => put_line_of(waiting, output, "refused ", *error),
+        Reply::Number(number) => put_word_and_value(waiting, output, "number ", *number),
+        Reply::Refused(error) => put_word_and_value(waiting, output, "refused ", *error),
     }
 }
 
 /// Puts a line of a word and a short value behind the bytes that wait to be written.
-fn put_line_of<D: Display + Drop, O: Write>(
-    waiting: &mut Waiting,
+fn put_word_and_value<D: Display + Drop, O: Write>(
+    waiting: &mut OutputBuffer,
     output: &mut O,
     word: &str,
     value: D,
 ) -> io::Result<()>
     ensures whole { OnOk result (IfSome (D.output value)
-        (λ bs. IsPassed (O.contents output.old) (O.contents output.new) waiting.old waiting.new
+        (λ bs. GoesThroughBuffer (O.contents output.old) (O.contents output.new) waiting.old waiting.new
         (with_newline (word.now ++ bs)))) }
     ensures part { IfSome (D.output value)
         (λ bs. AppendsPrefix (O.contents output.old) (O.contents output.new)
         (waiting.old ++ with_newline (word.now ++ bs))) }
 {
-    let line = line_of(word, value)?;
+    let line = line_of_word_and_value(word, value)?;
     waiting.put(output, line.as_str())
 }
 
 /// Writes a line of a word and a short value at once.
-pub(crate) fn write_line_of<D: Display + Drop, O: Write>(
+pub(crate) fn write_word_and_value<D: Display + Drop, O: Write>(
     output: &mut O,
     word: &str,
     value: D,
@@ -92,13 +92,16 @@ pub(crate) fn write_line_of<D: Display + Drop, O: Write>(
         (λ bs. AppendsPrefix (O.contents output.old) (O.contents output.new)
         (with_newline (word.now ++ bs))) }
 {
-    let line = line_of(word, value)?;
+    let line = line_of_word_and_value(word, value)?;
     write_text(output, line.as_str())
 }
 
 /// Returns the line of a word and a short value. There is room for `bad line `, the 20 digits of a `usize`
 /// and a line feed.
-fn line_of<D: Display + Drop>(word: &str, value: D) -> Result<ArrayString<30>, fmt::Error>
+fn line_of_word_and_value<D: Display + Drop>(
+    word: &str,
+    value: D,
+) -> Result<ArrayString<30>, fmt::Error>
     ensures { IfOk result (λ line. IfSome (D.output value)
         (λ bs. bytes line.text ≡ with_newline (word.now ++ bs))) }
 {
@@ -110,13 +113,13 @@ fn line_of<D: Display + Drop>(word: &str, value: D) -> Result<ArrayString<30>, f
 /// Puts a line of a word and a text behind the bytes that wait to be written.
 #[inline(always)]
 fn put_text_line<O: Write>(
-    waiting: &mut Waiting,
+    waiting: &mut OutputBuffer,
     output: &mut O,
     word: &str,
     text: &str,
 ) -> io::Result<()>
     ensures whole { OnOk result
-        (IsPassed (O.contents output.old) (O.contents output.new) waiting.old waiting.new
+        (GoesThroughBuffer (O.contents output.old) (O.contents output.new) waiting.old waiting.new
         (with_newline (word.now ++ text.now))) }
     ensures part { AppendsPrefix (O.contents output.old) (O.contents output.new)
         (waiting.old ++ with_newline (word.now ++ text.now)) }

@@ -2,7 +2,7 @@
 ghost use Rattle.std.specs.Prelude.{◌≡◌, ◌+◌, ◌<◌, ◌≤◌, [], ◌∷◌, ◌++◌, length, map, vec_len, vec_capacity, if◌then◌else◌, IfOk, IsOk, OnOk, OnErr, MatchOption, Some, None};
 ghost use Rattle.std.specs.Vec.{vec_ptr};
 ghost use Rattle.arraystring.specs.Text.{cap, size};
-ghost use Rattle.arraystring_run.specs.Runs.{view_of, effect, is_tight, after, first_tight_from, earlier_of, NoneTight, IsFirstTight};
+ghost use Rattle.arraystring_run.specs.Runs.{view_of, effect, is_tight, after, first_tight_from, first_or_else, NoneTight, IsFirstTight};
 ghost use Rattle.arraystring_run.specs.Agreement.{commands_before, AllAgree, IsNoSooner};
 
 use crate::execute::execute;
@@ -48,11 +48,11 @@ pub fn run<const N: usize>(
 {
     text_fits(text);
     let mut replies = Vec::with_capacity(alloc, commands.len())?;
-    // Without commands `add_replies` is not called: its proof needs the size of a reply, which the prover knows only from a list
+    // Without commands `execute_all` is not called: its proof needs the size of a reply, which the prover knows only from a list
     // with room for one.
     let mut first_tight = None;
     if !commands.is_empty() {
-        first_tight = add_replies(text, commands, &mut replies);
+        first_tight = execute_all(text, commands, &mut replies);
     }
     text_fits(text);
     Ok(Outcome {
@@ -63,7 +63,7 @@ pub fn run<const N: usize>(
 
 /// Executes the commands in order, and adds each reply to a list that has room for all of them and
 /// is not moved.
-fn add_replies<const N: usize>(
+fn execute_all<const N: usize>(
     text: &mut ArrayString<N>,
     commands: &[Command<'_>],
     replies: &mut Vec<Reply<N>>,
@@ -79,15 +79,15 @@ fn add_replies<const N: usize>(
 {
     let mut first_tight = None;
     for (position, command) in commands.iter().enumerate() {
-        let is_tight = add_reply(text, command, replies);
-        first_tight = earlier_position(first_tight, is_tight, position);
+        let is_tight = execute_and_add_reply(text, command, replies);
+        first_tight = first_tight_so_far(first_tight, is_tight, position);
     }
     first_tight
 }
 
 /// Executes a command, and adds the reply to a list that has room for it and is not moved. Returns
 /// whether the command is tight, as `Outcome` explains it.
-fn add_reply<const N: usize>(
+fn execute_and_add_reply<const N: usize>(
     text: &mut ArrayString<N>,
     command: &Command<'_>,
     replies: &mut Vec<Reply<N>>,
@@ -157,11 +157,11 @@ pub fn run_both<const N: usize, const M: usize>(
     text_fits(second);
     let mut second_replies = Vec::with_capacity(alloc, commands.len())?;
     let first_outcome = run(alloc, first, commands)?;
-    // Without commands `add_replies` is not called: its proof needs the size of a reply, which the prover knows only from a list
+    // Without commands `execute_all` is not called: its proof needs the size of a reply, which the prover knows only from a list
     // with room for one.
     let mut first_tight = None;
     if !commands.is_empty() {
-        first_tight = add_replies(second, commands, &mut second_replies);
+        first_tight = execute_all(second, commands, &mut second_replies);
     }
     text_fits(second);
     Ok((
@@ -175,8 +175,8 @@ pub fn run_both<const N: usize, const M: usize>(
 
 /// The first tight position, if `first` is that of the commands before `position`, and `is_tight` says whether the
 /// command there is tight.
-fn earlier_position(first: Option<usize>, is_tight: bool, position: usize) -> Option<usize>
-    ensures { result ≡ earlier_of first (if is_tight then Some position else None) }
+fn first_tight_so_far(first: Option<usize>, is_tight: bool, position: usize) -> Option<usize>
+    ensures { result ≡ first_or_else first (if is_tight then Some position else None) }
 {
     match first {
         Some(_) => first,

@@ -16,23 +16,23 @@ pub(crate) fn is_tight<const N: usize>(text: &ArrayString<N>, command: Command<'
     text_fits(text);
     match command {
         Command::TryPush(ch) => lacks_room(text, ch.len_utf8()),
-        Command::TryPushStr(given) => lacks_room(text, size_of(given)),
-        Command::PushStr(given) => lacks_room(text, size_of(given)),
+        Command::TryPushStr(given) => lacks_room(text, size_of_text(given)),
+        Command::PushStr(given) => lacks_room(text, size_of_text(given)),
         Command::TryInsert(index, ch) => index <= text.len() && lacks_room(text, ch.len_utf8()),
         Command::TryInsertStr(index, given) => index <= text.len()
-            && lacks_room(text, size_of(given)),
+            && lacks_room(text, size_of_text(given)),
         Command::InsertStr(index, given) => {
-            is_char_boundary(text, index).is_ok() && lacks_room(text, size_of(given))
+            is_char_boundary(text, index).is_ok() && lacks_room(text, size_of_text(given))
         }
         Command::ReplaceRange { start, end, given } => {
-            lacks_room_for_range(text, start, end, size_of(given))
+            lacks_room_for_range(text, start, end, size_of_text(given))
         }
         _ => false,
     }
 }
 
 /// How many bytes a text has.
-fn size_of(given: &str) -> usize
+fn size_of_text(given: &str) -> usize
     ensures { result ≡ size (chars given.now) }
 {
     given.len()

@@ -12,33 +12,33 @@ use Rattle.std.proofs.lemmas.Bool.{false_from_ne_true, cond_both}
 use Rattle.std.proofs.lemmas.List.{nil_from_length, length-map}
 use Rattle.std.proofs.lemmas.Map.Lookups.{exact_bytes}
 use Rattle.std.proofs.lemmas.Map.Views.{tells_apart}
-use Rattle.arraystring.specs.Stored.{Stored}
+use Rattle.arraystring.specs.Stored.{StringView}
 use Rattle.arraystring.proofs.MapLaws.{has_text, updated-text}
 use Rattle.bounded_records.specs.declared.user.User.{User}
-use Rattle.bounded_records.specs.Users.{by_text, texts}
+use Rattle.bounded_records.specs.Users.{entries_as_texts, texts}
 
 abbrev Users : Type 0
 Users = finite.FinMap (slice_cmp nat_cmp) (List ℕ × List ℕ)
 
 -- the map from the texts
-abbrev pub users_of : List (Stored × User) → Users
-users_of es = finite.from_entries (by_text es)
+abbrev pub users_of : List (StringView × User) → Users
+users_of es = finite.from_entries (entries_as_texts es)
 
 texts-cond : (b : Bool) (x y : Option User) → option_map texts (cond b x y) ≡ cond b (option_map texts x) (option_map texts y)
 texts-cond true x y = refl
 texts-cond false x y = refl
 
-find-by_text : (es : List (Stored × User)) (q : List ℕ) → find (slice_cmp nat_cmp) q (by_text es) ≡ option_map texts (lookup (has_text q) es)
-find-by_text [] q = refl
-find-by_text (e ∷ es) q =
-    cc (find-by_text es q, texts-cond (has_text q e.0) (Some e.1) (lookup (has_text q) es))
+find-entries_as_texts : (es : List (StringView × User)) (q : List ℕ) → find (slice_cmp nat_cmp) q (entries_as_texts es) ≡ option_map texts (lookup (has_text q) es)
+find-entries_as_texts [] q = refl
+find-entries_as_texts (e ∷ es) q =
+    cc (find-entries_as_texts es q, texts-cond (has_text q e.0) (Some e.1) (lookup (has_text q) es))
 
-pub get_users : (es : List (Stored × User)) (q : List ℕ) → finite.get (users_of es) q ≡ option_map texts (lookup (has_text q) es)
-get_users es q = finite.get-from_entries nat_list_cmp_total (by_text es) q ∙ find-by_text es q
+pub get_users : (es : List (StringView × User)) (q : List ℕ) → finite.get (users_of es) q ≡ option_map texts (lookup (has_text q) es)
+get_users es q = finite.get-from_entries nat_list_cmp_total (entries_as_texts es) q ∙ find-entries_as_texts es q
 
 -- what is found under each text after a change to what is under one
-updated-users : (old new : List (Stored × User)) (t : List ℕ) (value : Option User)
-    → ((q : Stored) → lookup (has_text q.text) new ≡ cond (has_text t q) value (lookup (has_text q.text) old))
+updated-users : (old new : List (StringView × User)) (t : List ℕ) (value : Option User)
+    → ((q : StringView) → lookup (has_text q.text) new ≡ cond (has_text t q) value (lookup (has_text q.text) old))
     → (q : List ℕ) → finite.get (users_of new) q
     ≡ cond (eq_by_cmp (slice_cmp nat_cmp) q t) (option_map texts value) (finite.get (users_of old) q)
 updated-users old new t value is q = cc (
@@ -50,8 +50,8 @@ updated-users old new t value is q = cc (
 )
 
 -- one user more
-pub insert_users : (old new : List (Stored × User)) (k : Stored) (u : User)
-    → ((q : Stored) → lookup (has_text q.text) new ≡ cond (has_text k.text q) (Some u) (lookup (has_text q.text) old))
+pub insert_users : (old new : List (StringView × User)) (k : StringView) (u : User)
+    → ((q : StringView) → lookup (has_text q.text) new ≡ cond (has_text k.text q) (Some u) (lookup (has_text q.text) old))
     → users_of new ≡ finite.insert (users_of old) k.text (texts u)
 insert_users old new k u is =
     finite.same_map nat_list_cmp_total exact_bytes _ _
@@ -59,8 +59,8 @@ insert_users old new k u is =
     ∙ sym (finite.get-insert nat_list_cmp_total (users_of old) k.text (texts u) q))
 
 -- one user less
-pub remove_users : (old new : List (Stored × User)) (t : List ℕ)
-    → ((q : Stored) → lookup (has_text q.text) new ≡ cond (has_text t q) None (lookup (has_text q.text) old))
+pub remove_users : (old new : List (StringView × User)) (t : List ℕ)
+    → ((q : StringView) → lookup (has_text q.text) new ≡ cond (has_text t q) None (lookup (has_text q.text) old))
     → users_of new ≡ finite.remove (users_of old) t
 remove_users old new t is =
     finite.same_map nat_list_cmp_total exact_bytes _ _
@@ -84,7 +84,7 @@ module _ (m : Users) (t : List ℕ) (u : List ℕ × List ℕ) where
       (λ same. rw (tells_apart exact_bytes q t same) (sym is)) (λ other. refl)))
 
 -- only the empty map has no user
-pub no_users : (es : List (Stored × User)) → users_of es ≡ finite.empty → es ≡ []
+pub no_users : (es : List (StringView × User)) → users_of es ≡ finite.empty → es ≡ []
 no_users [] is = refl
 no_users (e ∷ es) is =
     absurd (cc (
@@ -116,15 +116,15 @@ module _ (m : Users) (t : List ℕ) where
       omega (arith, rw some at (finite.len-remove nat_list_cmp_total m t), has_one _ refl some)
 
 -- the texts of keys
-abbrev pub key_texts : List Stored → List (List ℕ)
+abbrev pub key_texts : List StringView → List (List ℕ)
 key_texts ks = map (λ k. k.text) ks
 
 -- the map's keys are these texts
 entries-empty : finite.entries (finite.empty {X = List ℕ × List ℕ} {R = slice_cmp nat_cmp}) ≡ []
 entries-empty = nil_from_length _ (sym (finite.len-entries _) ∙ finite.len-empty (slice_cmp nat_cmp) (List ℕ × List ℕ))
 
-entries-users : (es : List (Stored × User)) → IsStrictlySortedBy (λ a b. slice_cmp nat_cmp a.text b.text) (keys_of es)
-    → finite.entries (users_of es) ≡ by_text es
+entries-users : (es : List (StringView × User)) → IsStrictlySortedBy (λ a b. slice_cmp nat_cmp a.text b.text) (keys_of es)
+    → finite.entries (users_of es) ≡ entries_as_texts es
 unfolding IsStrictlySortedBy
 entries-users [] is = entries-empty
 entries-users (e ∷ []) is =
@@ -133,16 +133,16 @@ entries-users (e ∷ f ∷ es) is =
     finite.entries-insert nat_list_cmp_total (users_of (f ∷ es)) e.0.text (texts e.1)
     ∙ ap (put (slice_cmp nat_cmp) e.0.text (texts e.1)) (entries-users (f ∷ es) is.1) ∙ rw is.0.0 refl
 
-first-texts : (es : List (Stored × User)) → keys_of (by_text es) ≡ key_texts (keys_of es)
+first-texts : (es : List (StringView × User)) → keys_of (entries_as_texts es) ≡ key_texts (keys_of es)
 first-texts [] = refl
 first-texts (e ∷ es) = cc (first-texts es)
 
-pub keys_users : (es : List (Stored × User)) → IsStrictlySortedBy (λ a b. slice_cmp nat_cmp a.text b.text) (keys_of es)
+pub keys_users : (es : List (StringView × User)) → IsStrictlySortedBy (λ a b. slice_cmp nat_cmp a.text b.text) (keys_of es)
     → finite.keys (users_of es) ≡ key_texts (keys_of es)
 keys_users es is = ap keys_of (entries-users es is) ∙ first-texts es
 
 -- the number of users
-pub len_users : (es : List (Stored × User)) → IsStrictlySortedBy (λ a b. slice_cmp nat_cmp a.text b.text) (keys_of es)
+pub len_users : (es : List (StringView × User)) → IsStrictlySortedBy (λ a b. slice_cmp nat_cmp a.text b.text) (keys_of es)
     → finite.len (users_of es) ≡ length es
 len_users es is = finite.len-entries (users_of es) ∙ ap length (entries-users es is) ∙ length-map es (λ e. (e.0.text, texts e.1))
 
@@ -150,10 +150,10 @@ pub len_keys : (m : Users) → length (finite.keys m) ≡ finite.len m
 len_keys m = length-map (finite.entries m) (λ e. e.0) ∙ sym (finite.len-entries m)
 
 -- the users, in the order of their keys
-second-texts : (es : List (Stored × User)) → map (λ e. e.1) (by_text es) ≡ map texts (values_of es)
+second-texts : (es : List (StringView × User)) → map (λ e. e.1) (entries_as_texts es) ≡ map texts (values_of es)
 second-texts [] = refl
 second-texts (e ∷ es) = cc (second-texts es)
 
-pub values_users : (es : List (Stored × User)) → IsStrictlySortedBy (λ a b. slice_cmp nat_cmp a.text b.text) (keys_of es)
+pub values_users : (es : List (StringView × User)) → IsStrictlySortedBy (λ a b. slice_cmp nat_cmp a.text b.text) (keys_of es)
     → finite.values (users_of es) ≡ map texts (values_of es)
 values_users es is = ap (map (λ e. e.1)) (entries-users es is) ∙ second-texts es

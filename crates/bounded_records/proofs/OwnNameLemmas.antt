@@ -13,7 +13,7 @@ use Rattle.std.proofs.lemmas.Bool.{cond_both}
 use Rattle.std.proofs.lemmas.List.Elements.{All-head, All-tail, All-map, All-weaker}
 use Rattle.std.proofs.lemmas.Map.Lookups.{exact_bytes}
 use Rattle.std.proofs.lemmas.Map.Views.{All-found, tells_apart}
-use Rattle.arraystring.specs.Stored.{Stored}
+use Rattle.arraystring.specs.Stored.{StringView}
 use Rattle.arraystring.proofs.MapLaws.{has_text}
 use Rattle.bounded_records.specs.declared.user.User.{User}
 use Rattle.bounded_records.specs.Users.{AreUnderTheirNames, names_of, texts}
@@ -24,7 +24,7 @@ module _ (m n : finite.FinMap (slice_cmp nat_cmp) (List ℕ × List ℕ)) where
   own-map is own q = rw is (own q)
 
 -- in a new map
-pub own-new : (es : List (Stored × User)) → es ≡ [] → AreUnderTheirNames (users_of es)
+pub own-new : (es : List (StringView × User)) → es ≡ [] → AreUnderTheirNames (users_of es)
 own-new es is q = rw (is, finite.get-empty) tt
 
 -- after an insertion and a removal
@@ -41,7 +41,7 @@ module _ (m : finite.FinMap (slice_cmp nat_cmp) (List ℕ × List ℕ)) (own : A
       (cond_both (eq_by_cmp (slice_cmp nat_cmp) q t) _ _ (λ u. IfSome u (λ u. u.0 ≡ q)) (λ e. tt) (λ e. own q))
 
 -- a user that was found has the name that was given
-module _ (es : List (Stored × User)) (own : AreUnderTheirNames (users_of es)) (q : List ℕ) where
+module _ (es : List (StringView × User)) (own : AreUnderTheirNames (users_of es)) (q : List ℕ) where
   pub own-found : (o : Option User) → o ≡ lookup (has_text q) es → IfSome o (λ u. u.username.text ≡ q)
   own-found None is = tt
   own-found (Some u) is = rw (get_users es q, ← is) at (own q)
@@ -52,14 +52,14 @@ own-got None q own = tt
 own-got (Some u) q own = own
 
 -- the users of a map, one after the other
-stored-total : IsTotalOrder (λ (a b : Stored). slice_cmp nat_cmp a.text b.text)
+stored-total : IsTotalOrder (λ (a b : StringView). slice_cmp nat_cmp a.text b.text)
 stored-total = record {
   antisymm = λ a b. nat_list_cmp_total.antisymm a.text b.text;
   trans = λ a b d. nat_list_cmp_total.trans a.text b.text d.text;
   congr = λ a b d. nat_list_cmp_total.congr a.text b.text d.text;
 }
 
-same-name : (es : List (Stored × User)) → All (λ e. e.1.username.text ≡ e.0.text) es → names_of (map texts (values_of es)) ≡ key_texts (keys_of es)
+same-name : (es : List (StringView × User)) → All (λ e. e.1.username.text ≡ e.0.text) es → names_of (map texts (values_of es)) ≡ key_texts (keys_of es)
 same-name [] is = refl
 same-name (e ∷ es) is =
     let head = All-head (λ e. e.1.username.text ≡ e.0.text) e es is in
@@ -67,13 +67,13 @@ same-name (e ∷ es) is =
     λ i. head i ∷ tail i
 
 -- in what stands where, of each entry of a map
-abbrev IsFound : List (Stored × User) → Stored × User → Type 0
+abbrev IsFound : List (StringView × User) → StringView × User → Type 0
 IsFound es e = finite.get (users_of es) e.0.text ≡ Some (texts e.1)
 
-own-entry : (es : List (Stored × User)) → AreUnderTheirNames (users_of es) → (e : Stored × User) → IsFound es e → e.1.username.text ≡ e.0.text
+own-entry : (es : List (StringView × User)) → AreUnderTheirNames (users_of es) → (e : StringView × User) → IsFound es e → e.1.username.text ≡ e.0.text
 own-entry es own e found = rw found at (own e.0.text)
 
-module _ (m : BTreeMap Stored User) (sorted : IsOrdered (λ a b. slice_cmp nat_cmp a.text b.text) m) where
+module _ (m : BTreeMap StringView User) (sorted : IsOrdered (λ a b. slice_cmp nat_cmp a.text b.text) m) where
   keys-found : All (IsFound m.entries) m.entries
   keys-found =
       All-weaker (λ e. lookup (has_text e.0.text) m.entries ≡ Some e.1) (IsFound m.entries)
@@ -82,7 +82,7 @@ module _ (m : BTreeMap Stored User) (sorted : IsOrdered (λ a b. slice_cmp nat_c
   pub names-found : All (λ name. IsTrue (finite.contains_key (users_of m.entries) name)) (key_texts (keys_of m.entries))
   names-found =
       All-map (λ name. IsTrue (finite.contains_key (users_of m.entries) name)) (λ k. k.text) (keys_of m.entries)
-      (All-map (λ (k : Stored). IsTrue (finite.contains_key (users_of m.entries) k.text)) (λ e. e.0) m.entries
+      (All-map (λ (k : StringView). IsTrue (finite.contains_key (users_of m.entries) k.text)) (λ e. e.0) m.entries
       (All-weaker (IsFound m.entries) (λ e. IsTrue (finite.contains_key (users_of m.entries) e.0.text)) (λ e found. ap is_some found) m.entries keys-found))
 
   module _ (own : AreUnderTheirNames (users_of m.entries)) where

@@ -3,7 +3,7 @@ use Rattle.std.specs.Prelude.{◌≡◌, ℕ, true, List, map}
 use Rattle.std.specs.Iterator.{YieldsFirstBy, YieldsLastBy}
 use Rattle.std.specs.Iterator.Runs.{EveryRun, ItemsMapTo, ItemsMapToReversed}
 use Rattle.std.specs.Borrow.{Bor}
-use Rattle.arraystring.specs.Stored.{Stored}
+use Rattle.arraystring.specs.Stored.{StringView}
 use Rattle.bounded_records.specs.declared.user.User.{User}
 use Rattle.bounded_records.specs.Users.{texts}
 
@@ -26,11 +26,11 @@ module _ {A B : Type 0} (view : A → B) where
       (λ run. run.whole ≡ true → map view (map (λ item. item.now) run.items) ≡ run.from)
 
 -- the text of a username
-abbrev pub stored_text : Stored → List ℕ
-stored_text name = name.text
+abbrev pub text_of_username : StringView → List ℕ
+text_of_username name = name.text
 
 -- the text of a borrowed username
-abbrev pub name_text : Bor Stored → List ℕ
+abbrev pub name_text : Bor StringView → List ℕ
 name_text name = name.now.text
 
 -- the texts of a borrowed user

@@ -118,8 +118,8 @@ pub fn decode(given: &[u8]) -> Result<User, RecordFault>
         return Err(RecordFault::Count);
     }
     let user = User {
-        username: text_of(username)?,
-        role: text_of(role)?,
+        username: text_of_field(username)?,
+        role: text_of_field(role)?,
     };
     if !are_padded(username, role) {
         return Err(RecordFault::Padding);
@@ -159,7 +159,7 @@ fn counts_fit(username: &[u8], role: &[u8]) -> bool
 
 /// The text of a field whose count fits, or `Err(RecordFault::Utf8)` if its counted bytes are not
 /// well-formed UTF-8.
-fn text_of<const N: usize>(field: &[u8]) -> Result<ArrayString<N>, RecordFault>
+fn text_of_field<const N: usize>(field: &[u8]) -> Result<ArrayString<N>, RecordFault>
     requires long { length field.now ≡ 1 + N }
     requires fits { count field.now ≤ N }
     ensures ok { IfOk result

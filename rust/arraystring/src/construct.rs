@@ -3,7 +3,7 @@
 use core::char;
 use core::fmt;
 
-use crate::leaf::Place;
+use crate::leaf::MaybeByte;
 use crate::proved::string as core_of;
 use crate::{ArrayString, Error, OutOfBounds, Utf8, Utf16};
 
@@ -43,7 +43,7 @@ impl<const N: usize> ArrayString<N> {
     #[inline]
     pub fn try_from_str(text: &str) -> Result<Self, OutOfBounds> {
         let _ = Self::CAPACITY;
-        core_of::ArrayString::try_from_str(text).map(ArrayString).map_err(OutOfBounds::of)
+        core_of::ArrayString::try_from_str(text).map(ArrayString).map_err(OutOfBounds::from_core)
     }
 
     /// The string of `text`, in a constant. Where it is no constant, [`try_from_str`](Self::try_from_str) is faster. The macro
@@ -76,9 +76,9 @@ impl<const N: usize> ArrayString<N> {
             return Err(OutOfBounds);
         }
         let mut made = Self::new();
-        let (mut array, mut bytes): (&mut [Place], _) = (&mut made.0.array, text.as_bytes());
+        let (mut array, mut bytes): (&mut [MaybeByte], _) = (&mut made.0.array, text.as_bytes());
         while let ([place, places @ ..], [byte, others @ ..]) = (array, bytes) {
-            *place = Place::new(*byte);
+            *place = MaybeByte::new(*byte);
             // The size grows with the bytes that are written, and stays within the capacity by the test above. Behind the loop all bytes
             // of the text are written, so the string ends with a whole character.
             made.0.size += 1;
@@ -133,7 +133,7 @@ impl<const N: usize> ArrayString<N> {
     #[inline]
     pub fn try_from_chars(characters: impl IntoIterator<Item = char>) -> Result<Self, OutOfBounds> {
         let _ = Self::CAPACITY;
-        core_of::ArrayString::try_from_chars(characters).map(ArrayString).map_err(OutOfBounds::of)
+        core_of::ArrayString::try_from_chars(characters).map(ArrayString).map_err(OutOfBounds::from_core)
     }
 
     /// The string of a text in UTF-8.
@@ -158,7 +158,7 @@ impl<const N: usize> ArrayString<N> {
     #[inline]
     pub fn try_from_utf8(bytes: &[u8]) -> Result<Self, Error> {
         let _ = Self::CAPACITY;
-        core_of::ArrayString::try_from_utf8(bytes).map(ArrayString).map_err(Error::of)
+        core_of::ArrayString::try_from_utf8(bytes).map(ArrayString).map_err(Error::from_core)
     }
 
     /// The string of bytes, in which each run that is no UTF-8 becomes U+FFFD (three bytes), as in `String::from_utf8_lossy`.
@@ -212,7 +212,7 @@ impl<const N: usize> ArrayString<N> {
     #[inline]
     pub fn try_from_utf16(units: &[u16]) -> Result<Self, Error> {
         let _ = Self::CAPACITY;
-        core_of::ArrayString::try_from_utf16(units).map(ArrayString).map_err(Error::of)
+        core_of::ArrayString::try_from_utf16(units).map(ArrayString).map_err(Error::from_core)
     }
 
     /// The string of a text in UTF-16, in which each lone surrogate becomes U+FFFD (three bytes), as in `String::from_utf16_lossy`.
@@ -336,7 +336,7 @@ impl<const N: usize> ArrayString<N> {
     #[inline]
     pub fn from_utf8_truncate(bytes: &[u8]) -> Result<Self, Utf8> {
         let _ = Self::CAPACITY;
-        core_of::ArrayString::from_utf8(bytes).map(ArrayString).map_err(Utf8::of)
+        core_of::ArrayString::from_utf8(bytes).map(ArrayString).map_err(Utf8::from_core)
     }
 
     /// A text with U+FFFD for each run of bytes that is no UTF-8, cut to the longest prefix of whole characters that fits.
@@ -381,7 +381,7 @@ impl<const N: usize> ArrayString<N> {
     #[inline]
     pub fn from_utf16_truncate(units: &[u16]) -> Result<Self, Utf16> {
         let _ = Self::CAPACITY;
-        core_of::ArrayString::from_utf16(units).map(ArrayString).map_err(Utf16::of)
+        core_of::ArrayString::from_utf16(units).map(ArrayString).map_err(Utf16::from_core)
     }
 
     /// A text in UTF-16, with U+FFFD for each lone surrogate, cut to the longest prefix of whole characters that fits.

@@ -6,13 +6,13 @@ use crate::{ArrayString, Drain, Error, OutOfBounds, Utf8};
 
 /// An index as the core takes it, which is a `u8`. No text has more than 255 bytes, so an index that is no `u8` is past every text.
 #[inline(always)]
-fn index(at: usize) -> Result<u8, Error> {
+fn core_index(at: usize) -> Result<u8, Error> {
     u8::try_from(at).map_err(|_| Error::OutOfBounds)
 }
 
 /// The ends of a range, in a text of `len` bytes.
 #[inline(always)]
-fn ends(range: impl RangeBounds<usize>, len: usize) -> (usize, usize) {
+fn range_ends(range: impl RangeBounds<usize>, len: usize) -> (usize, usize) {
     let start = match range.start_bound() {
         Bound::Included(start) => *start,
         Bound::Excluded(before) => before.saturating_add(1),
@@ -29,7 +29,7 @@ fn ends(range: impl RangeBounds<usize>, len: usize) -> (usize, usize) {
 /// The text behind its first `taken` bytes, which are whole characters. (`&text[taken..]` is the same, but would leave a panic in the
 /// program, which never happens.)
 #[inline(always)]
-fn rest(text: &str, taken: usize) -> &str {
+fn rest_of(text: &str, taken: usize) -> &str {
     text.get(taken..).unwrap_or_default()
 }
 
@@ -57,7 +57,7 @@ impl<const N: usize> ArrayString<N> {
     #[doc(alias = "push")]
     #[inline(always)]
     pub fn try_push(&mut self, ch: char) -> Result<(), OutOfBounds> {
-        self.0.try_push(ch).map_err(OutOfBounds::of)
+        self.0.try_push(ch).map_err(OutOfBounds::from_core)
     }
 
     /// Appends `text`.
@@ -80,7 +80,7 @@ impl<const N: usize> ArrayString<N> {
     #[doc(alias = "push_str")]
     #[inline]
     pub fn try_push_str(&mut self, text: &str) -> Result<(), OutOfBounds> {
-        self.0.try_push_str(text).map_err(OutOfBounds::of)
+        self.0.try_push_str(text).map_err(OutOfBounds::from_core)
     }
 
     /// Appends the longest prefix of whole characters of `text` that fits, and returns the rest.
@@ -112,7 +112,7 @@ impl<const N: usize> ArrayString<N> {
     pub fn push_str_truncate<'a>(&mut self, text: &'a str) -> &'a str {
         let before = self.len();
         self.0.push_str(text);
-        rest(text, self.len() - before)
+        rest_of(text, self.len() - before)
     }
 }
 
@@ -145,7 +145,7 @@ impl<const N: usize> ArrayString<N> {
     #[doc(alias = "insert")]
     #[inline]
     pub fn try_insert(&mut self, at: usize, ch: char) -> Result<(), Error> {
-        self.0.try_insert(index(at)?, ch).map_err(Error::of)
+        self.0.try_insert(core_index(at)?, ch).map_err(Error::from_core)
     }
 
     /// Inserts `text` at the byte index `at`.
@@ -172,7 +172,7 @@ impl<const N: usize> ArrayString<N> {
     #[doc(alias = "insert_str")]
     #[inline]
     pub fn try_insert_str(&mut self, at: usize, text: &str) -> Result<(), Error> {
-        self.0.try_insert_str(index(at)?, text).map_err(Error::of)
+        self.0.try_insert_str(core_index(at)?, text).map_err(Error::from_core)
     }
 
     /// Inserts at the byte index `at` the longest prefix of whole characters of `text` that fits, and returns the rest.
@@ -199,8 +199,8 @@ impl<const N: usize> ArrayString<N> {
     #[inline]
     pub fn insert_str_truncate<'a>(&mut self, at: usize, text: &'a str) -> Result<&'a str, Error> {
         let before = self.len();
-        self.0.insert_str(index(at)?, text).map_err(Error::of)?;
-        Ok(rest(text, self.len() - before))
+        self.0.insert_str(core_index(at)?, text).map_err(Error::from_core)?;
+        Ok(rest_of(text, self.len() - before))
     }
 
     /// Replaces the part in the range by `text`.
@@ -227,8 +227,8 @@ impl<const N: usize> ArrayString<N> {
     /// ```
     #[inline(always)]
     pub fn replace_range(&mut self, range: impl RangeBounds<usize>, text: &str) -> Result<(), Error> {
-        let (start, end) = ends(range, self.len());
-        self.0.replace_range(index(start)?..index(end)?, text).map_err(Error::of)
+        let (start, end) = range_ends(range, self.len());
+        self.0.replace_range(core_index(start)?..core_index(end)?, text).map_err(Error::from_core)
     }
 }
 
@@ -271,7 +271,7 @@ impl<const N: usize> ArrayString<N> {
     /// ```
     #[inline]
     pub fn remove(&mut self, at: usize) -> Result<char, Error> {
-        self.0.remove(index(at)?).map_err(Error::of)
+        self.0.remove(core_index(at)?).map_err(Error::from_core)
     }
 
     /// Shortens the text to its first `len` bytes. Nothing changes if the text has at most `len` bytes.
@@ -294,8 +294,8 @@ impl<const N: usize> ArrayString<N> {
     /// ```
     #[inline]
     pub fn truncate(&mut self, len: usize) -> Result<(), Utf8> {
-        match index(len) {
-            Ok(len) => self.0.truncate(len).map_err(Utf8::of),
+        match core_index(len) {
+            Ok(len) => self.0.truncate(len).map_err(Utf8::from_core),
             Err(_) => Ok(()),
         }
     }
@@ -322,7 +322,7 @@ impl<const N: usize> ArrayString<N> {
     /// ```
     #[inline]
     pub fn split_off(&mut self, at: usize) -> Result<Self, Error> {
-        self.0.split_off(index(at)?).map(ArrayString).map_err(Error::of)
+        self.0.split_off(core_index(at)?).map(ArrayString).map_err(Error::from_core)
     }
 
     /// Removes the part in the range, and returns its characters. The part is removed at once, whether or not the [`Drain`] is used.
@@ -348,8 +348,8 @@ impl<const N: usize> ArrayString<N> {
     /// ```
     #[inline(always)]
     pub fn drain(&mut self, range: impl RangeBounds<usize>) -> Result<Drain<N>, Error> {
-        let (start, end) = ends(range, self.len());
-        self.0.drain(index(start)?..index(end)?).map(Drain).map_err(Error::of)
+        let (start, end) = range_ends(range, self.len());
+        self.0.drain(core_index(start)?..core_index(end)?).map(Drain).map_err(Error::from_core)
     }
 
     /// Keeps the characters for which `keeps` returns true, and removes all others. `keeps` is called once with each character, in order.

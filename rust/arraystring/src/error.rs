@@ -33,7 +33,7 @@ pub enum Error {
 impl Error {
     /// Makes an error of the core into the error of this crate.
     #[inline(always)]
-    pub(crate) const fn of(refusal: by_core::Error) -> Self {
+    pub(crate) const fn from_core(refusal: by_core::Error) -> Self {
         match refusal {
             by_core::Error::Utf8 => Error::Utf8,
             by_core::Error::Utf16 => Error::Utf16,
@@ -56,7 +56,7 @@ impl fmt::Display for Error {
 impl StdError for Error {}
 
 /// Defines an error type that has one cause, which is also one case of `Error`.
-macro_rules! part {
+macro_rules! define_error {
     ($(#[$documentation:meta])* $part:ident, $text:literal) => {
         $(#[$documentation])*
         #[derive(Clone, Copy, Debug, Default, PartialEq, Eq, Hash)]
@@ -65,7 +65,7 @@ macro_rules! part {
         impl $part {
             /// Makes an error of the core into the error of this crate.
             #[inline(always)]
-            pub(crate) const fn of(_refusal: by_core::$part) -> Self {
+            pub(crate) const fn from_core(_refusal: by_core::$part) -> Self {
                 $part
             }
         }
@@ -81,17 +81,17 @@ macro_rules! part {
     };
 }
 
-part! {
+define_error! {
     /// Bytes that are not well-formed UTF-8 (the Unicode Standard, section 3.9), or an index inside a character.
     Utf8, "not UTF-8, or an index inside a character"
 }
 
-part! {
+define_error! {
     /// A lone surrogate in UTF-16 (the Unicode Standard, section 3.9).
     Utf16, "not UTF-16"
 }
 
-part! {
+define_error! {
     /// A text that is larger than the capacity, or than the room that is left.
     OutOfBounds, "larger than the capacity"
 }

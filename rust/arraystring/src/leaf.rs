@@ -9,37 +9,37 @@ use core::{ptr, slice};
 
 /// Whether each access is tested, although the proof says of each that it is right: in debug builds, by the feature `checked`, and where
 /// a `usize` has not the 64 bits for which that is proved.
-pub(crate) const IS_TESTED: bool = cfg!(any(debug_assertions, feature = "checked", not(target_pointer_width = "64")));
+pub(crate) const CHECKS_ACCESS: bool = cfg!(any(debug_assertions, feature = "checked", not(target_pointer_width = "64")));
 
-/// Asserts the preconditions of a function (what its contract in Rattle `requires`), if `IS_TESTED`. Else it does nothing.
+/// Asserts the preconditions of a function (what its contract in Rattle `requires`), if `CHECKS_ACCESS`. Else it does nothing.
 macro_rules! required {
     ($($condition:expr),*) => {
-        if $crate::leaf::IS_TESTED {
+        if $crate::leaf::CHECKS_ACCESS {
             $(assert!($condition, concat!("it is required that `", stringify!($condition), "`"));)*
         }
     };
 }
 
 /// A byte of the array of a string. It has no value before one is written.
-pub(crate) type Place = MaybeUninit<u8>;
+pub(crate) type MaybeByte = MaybeUninit<u8>;
 
-/// The content of a place in a new array: no value, or 0 if `IS_TESTED`. Where accesses are tested, a wrong index panics, perhaps when the
+/// The content of a place in a new array: no value, or 0 if `CHECKS_ACCESS`. Where accesses are tested, a wrong index panics, perhaps when the
 /// size is already raised and the byte not yet written. Thanks to the 0, each place of the text that is left after the panic has a value.
-pub(crate) const UNWRITTEN: Place = if IS_TESTED { Place::new(0) } else { Place::uninit() };
+pub(crate) const NEW_BYTE: MaybeByte = if CHECKS_ACCESS { MaybeByte::new(0) } else { MaybeByte::uninit() };
 
 /// A byte that can be read: a `u8` of a text, or a place of a string's array after it was written. Both are laid out as a `u8`.
-pub(crate) trait ByteOrPlace: Copy {
+pub(crate) trait ReadableByte: Copy {
     fn value(self) -> u8;
 }
 
-impl ByteOrPlace for u8 {
+impl ReadableByte for u8 {
     #[inline(always)]
     fn value(self) -> u8 {
         self
     }
 }
 
-impl ByteOrPlace for Place {
+impl ReadableByte for MaybeByte {
     #[inline(always)]
     fn value(self) -> u8 {
         // SAFETY: the proved code reads only bytes of texts, and these were written.
@@ -54,7 +54,7 @@ impl ByteOrPlace for Place {
 /// ensures { result ≡ slice_index bytes.now at }
 /// ```
 #[inline(always)]
-pub(crate) fn byte(bytes: &[impl ByteOrPlace], at: usize) -> u8 {
+pub(crate) fn byte(bytes: &[impl ReadableByte], at: usize) -> u8 {
     required!(at < bytes.len());
     // SAFETY: the index is within `bytes`, as is required.
     unsafe { bytes.get_unchecked(at) }.value()
@@ -67,10 +67,10 @@ pub(crate) fn byte(bytes: &[impl ByteOrPlace], at: usize) -> u8 {
 /// ensures { all.new ≡ take at all.old ++ (bytes.entry ++ drop (at + K) all.old) }
 /// ```
 #[inline(always)]
-pub(crate) fn put_array<const K: usize>(all: &mut [Place], at: usize, bytes: [u8; K]) {
+pub(crate) fn put_array<const K: usize>(all: &mut [MaybeByte], at: usize, bytes: [u8; K]) {
     required!(at <= all.len(), K <= all.len() - at);
     // SAFETY: the run is within `all`, as is required, and a byte is laid out as a place. (To map the bytes to places for `put_vector`
-    // would put a call into `encode_wide`, which rustc then would not inline in another crate.)
+    // would put a call into `encode_non_ascii`, which rustc then would not inline in another crate.)
     unsafe { all.as_mut_ptr().add(at).cast::<[u8; K]>().write(bytes) };
 }
 
@@ -81,7 +81,7 @@ pub(crate) fn put_array<const K: usize>(all: &mut [Place], at: usize, bytes: [u8
 /// ensures { result.now ≡ take len (drop start bytes.now) }
 /// ```
 #[inline(always)]
-pub(crate) const fn part(bytes: &[Place], start: usize, len: usize) -> &[u8] {
+pub(crate) const fn part(bytes: &[MaybeByte], start: usize, len: usize) -> &[u8] {
     required!(start <= bytes.len(), len <= bytes.len() - start);
     // SAFETY: the part is within `bytes`, as is required. Each of its places has a value, because the proved code borrows only
     // bytes of texts, and these were written.
@@ -90,7 +90,7 @@ pub(crate) const fn part(bytes: &[Place], start: usize, len: usize) -> &[u8] {
 
 /// The bytes from `start` to `end`, borrowed to be written.
 #[inline(always)]
-pub(crate) fn part_mut(bytes: &mut [Place], start: usize, end: usize) -> &mut [u8] {
+pub(crate) fn part_mut(bytes: &mut [MaybeByte], start: usize, end: usize) -> &mut [u8] {
     required!(start <= end, end <= bytes.len());
     // SAFETY: the part is within `bytes`, as is required. Each of its places has a value, because the proved code and `as_mut_str`
     // borrow only bytes of texts, and these were written.
@@ -106,7 +106,7 @@ pub(crate) fn part_mut(bytes: &mut [Place], start: usize, end: usize) -> &mut [u
 ///     ++ (map to_ascii_uppercase (take (end - start) (drop start all.old)) ++ drop end all.old) }
 /// ```
 #[inline(always)]
-pub(crate) fn make_upper(all: &mut [Place], start: usize, end: usize) {
+pub(crate) fn make_upper(all: &mut [MaybeByte], start: usize, end: usize) {
     part_mut(all, start, end).make_ascii_uppercase();
 }
 
@@ -119,7 +119,7 @@ pub(crate) fn make_upper(all: &mut [Place], start: usize, end: usize) {
 ///     ++ (map to_ascii_lowercase (take (end - start) (drop start all.old)) ++ drop end all.old) }
 /// ```
 #[inline(always)]
-pub(crate) fn make_lower(all: &mut [Place], start: usize, end: usize) {
+pub(crate) fn make_lower(all: &mut [MaybeByte], start: usize, end: usize) {
     part_mut(all, start, end).make_ascii_lowercase();
 }
 
@@ -130,7 +130,7 @@ pub(crate) fn make_lower(all: &mut [Place], start: usize, end: usize) {
 /// ensures { result.now ≡ take end text.now }
 /// ```
 #[inline(always)]
-pub(crate) fn text_to(text: &str, end: usize) -> &str {
+pub(crate) fn text_before_boundary(text: &str, end: usize) -> &str {
     required!(text.is_char_boundary(end));
     // SAFETY: the index is a boundary, as is required.
     unsafe { text.get_unchecked(..end) }
@@ -143,7 +143,7 @@ pub(crate) fn text_to(text: &str, end: usize) -> &str {
 /// ensures { result.now ≡ drop start text.now }
 /// ```
 #[inline(always)]
-pub(crate) fn text_from(text: &str, start: usize) -> &str {
+pub(crate) fn text_from_boundary(text: &str, start: usize) -> &str {
     required!(text.is_char_boundary(start));
     // SAFETY: the index is a boundary, as is required.
     unsafe { text.get_unchecked(start..) }
@@ -158,7 +158,7 @@ pub(crate) fn text_from(text: &str, start: usize) -> &str {
 ///     ≡ take to array.old ++ (take len (drop from array.old) ++ drop (to + len) array.old) }
 /// ```
 #[inline(always)]
-pub(crate) fn move_bytes<const N: usize>(array: &mut [Place; N], from: usize, to: usize, len: usize) {
+pub(crate) fn move_bytes<const N: usize>(array: &mut [MaybeByte; N], from: usize, to: usize, len: usize) {
     required!(from <= N, len <= N - from, to <= N, len <= N - to);
     let bytes = array.as_mut_ptr();
     // SAFETY: both runs are within `array`, as is required, and `ptr::copy` lets them overlap.
@@ -176,7 +176,7 @@ pub(crate) fn move_bytes<const N: usize>(array: &mut [Place; N], from: usize, to
 ///     ≡ take to all.old ++ (take len (drop from all.old) ++ drop (to + len) all.old) }
 /// ```
 #[inline(always)]
-pub(crate) fn move_long_run<const N: usize>(all: &mut [Place], from: usize, to: usize, len: usize) {
+pub(crate) fn move_long_run<const N: usize>(all: &mut [MaybeByte], from: usize, to: usize, len: usize) {
     required!(from <= all.len(), len <= all.len() - from, to <= all.len(), len <= all.len() - to, len <= N, 16 <= len);
     let bytes = all.as_mut_ptr();
     // SAFETY: both runs are within `all`, as is required, and `ptr::copy` lets them overlap.
@@ -190,7 +190,7 @@ pub(crate) fn move_long_run<const N: usize>(all: &mut [Place], from: usize, to: 
 /// ensures { all.new ≡ take at all.old ++ (given.now ++ drop (at + length given.now) all.old) }
 /// ```
 #[inline(always)]
-pub(crate) fn write_bytes(all: &mut [Place], given: &[u8], at: usize) {
+pub(crate) fn write_bytes(all: &mut [MaybeByte], given: &[u8], at: usize) {
     required!(at <= all.len(), given.len() <= all.len() - at);
     // SAFETY: the target is within `all`, as is required. It is borrowed mutably, so it does not overlap `given`.
     unsafe { ptr::copy_nonoverlapping(given.as_ptr().cast(), all.as_mut_ptr().add(at), given.len()) };
@@ -203,10 +203,10 @@ pub(crate) fn write_bytes(all: &mut [Place], given: &[u8], at: usize) {
 /// ensures { result ≡ take K (drop at given.now) }
 /// ```
 #[inline(always)]
-pub(crate) fn vector_at<const K: usize>(given: &[impl ByteOrPlace], at: usize) -> [Place; K] {
+pub(crate) fn vector_at<const K: usize>(given: &[impl ReadableByte], at: usize) -> [MaybeByte; K] {
     required!(at <= given.len(), K <= given.len() - at);
     // SAFETY: the run is within `given`, as is required. A byte is laid out as a place, and a place may have any value, or none.
-    unsafe { given.as_ptr().add(at).cast::<[Place; K]>().read() }
+    unsafe { given.as_ptr().add(at).cast::<[MaybeByte; K]>().read() }
 }
 
 /// Writes `K` places, which `vector_at` returned, into `all`, from index `at` on.
@@ -216,8 +216,8 @@ pub(crate) fn vector_at<const K: usize>(given: &[impl ByteOrPlace], at: usize) -
 /// ensures { all.new ≡ take at all.old ++ (bytes.entry ++ drop (at + K) all.old) }
 /// ```
 #[inline(always)]
-pub(crate) fn put_vector<const K: usize>(all: &mut [Place], at: usize, bytes: [Place; K]) {
+pub(crate) fn put_vector<const K: usize>(all: &mut [MaybeByte], at: usize, bytes: [MaybeByte; K]) {
     required!(at <= all.len(), K <= all.len() - at);
     // SAFETY: the run is within `all`, as is required.
-    unsafe { all.as_mut_ptr().add(at).cast::<[Place; K]>().write(bytes) };
+    unsafe { all.as_mut_ptr().add(at).cast::<[MaybeByte; K]>().write(bytes) };
 }

@@ -7,7 +7,7 @@ use std::path::{Path, PathBuf};
 use crate::ArrayString;
 
 /// Writes the impls that lend a string as an `OsStr` or a `Path` (`AsRef`), and copy it into an `OsString` or a `PathBuf` (`From`).
-macro_rules! names {
+macro_rules! impl_os_names {
     ($($name:ty => $owned:ty;)*) => {$(
         impl<const N: usize> AsRef<$name> for ArrayString<N> {
             #[inline]
@@ -25,7 +25,7 @@ macro_rules! names {
     )*};
 }
 
-names! {
+impl_os_names! {
     OsStr => OsString;
     Path => PathBuf;
 }

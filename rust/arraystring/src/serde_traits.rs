@@ -19,13 +19,13 @@ impl<const N: usize> Serialize for ArrayString<N> {
 /// [`truncate`](mod@crate::truncate) keeps as much of it as fits.
 impl<'de, const N: usize> Deserialize<'de> for ArrayString<N> {
     fn deserialize<D: Deserializer<'de>>(deserializer: D) -> Result<Self, D::Error> {
-        deserializer.deserialize_str(Whole)
+        deserializer.deserialize_str(WholeVisitor)
     }
 }
 
-struct Whole<const N: usize>;
+struct WholeVisitor<const N: usize>;
 
-impl<const N: usize> Visitor<'_> for Whole<N> {
+impl<const N: usize> Visitor<'_> for WholeVisitor<N> {
     type Value = ArrayString<N>;
 
     fn expecting(&self, f: &mut fmt::Formatter<'_>) -> fmt::Result {

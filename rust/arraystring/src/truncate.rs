@@ -33,12 +33,12 @@ pub fn serialize<const N: usize, S: Serializer>(string: &ArrayString<N>, seriali
 ///
 /// Returns that of the deserializer, or an error if bytes are not UTF-8.
 pub fn deserialize<'de, const N: usize, D: Deserializer<'de>>(deserializer: D) -> Result<ArrayString<N>, D::Error> {
-    deserializer.deserialize_str(Truncated)
+    deserializer.deserialize_str(TruncatingVisitor)
 }
 
-struct Truncated<const N: usize>;
+struct TruncatingVisitor<const N: usize>;
 
-impl<const N: usize> Visitor<'_> for Truncated<N> {
+impl<const N: usize> Visitor<'_> for TruncatingVisitor<N> {
     type Value = ArrayString<N>;
 
     fn expecting(&self, f: &mut fmt::Formatter<'_>) -> fmt::Result {

@@ -36,7 +36,7 @@ impl<const N: usize> ArrayString<N> {
     #[doc(alias = "write_fmt")]
     #[inline]
     pub fn try_write(&mut self, arguments: fmt::Arguments<'_>) -> fmt::Result {
-        let mut draft = Draft::behind(self);
+        let mut draft = Draft::begin(self);
         draft.write_fmt(arguments)?;
         if !draft.is_whole {
             return Err(fmt::Error);
@@ -66,9 +66,9 @@ impl<const N: usize> ArrayString<N> {
     #[doc(alias = "write_fmt")]
     #[inline]
     pub fn write_truncate(&mut self, arguments: fmt::Arguments<'_>) -> Result<bool, fmt::Error> {
-        let mut prefix = Prefix(Draft::behind(self));
+        let mut prefix = CuttingDraft(Draft::begin(self));
         let written = prefix.write_fmt(arguments);
-        let Prefix(draft) = prefix;
+        let CuttingDraft(draft) = prefix;
         let is_cut = !draft.is_whole;
         if !is_cut {
             written?;
@@ -99,7 +99,7 @@ impl<const N: usize> ArrayString<N> {
     #[doc(alias = "extend")]
     #[inline]
     pub fn try_extend_chars(&mut self, characters: impl IntoIterator<Item = char>) -> Result<(), OutOfBounds> {
-        let draft = Draft::behind(self);
+        let draft = Draft::begin(self);
         characters.into_iter().try_for_each(|ch| draft.string.try_push(ch))?;
         draft.keep();
         Ok(())
@@ -127,7 +127,7 @@ impl<const N: usize> ArrayString<N> {
     #[doc(alias = "extend")]
     #[inline]
     pub fn try_extend_strs(&mut self, pieces: impl IntoIterator<Item = impl AsRef<str>>) -> Result<(), OutOfBounds> {
-        let draft = Draft::behind(self);
+        let draft = Draft::begin(self);
         pieces.into_iter().try_for_each(|piece| draft.string.try_push_str(piece.as_ref()))?;
         draft.keep();
         Ok(())
@@ -174,12 +174,12 @@ struct Draft<'a, const N: usize> {
 }
 
 /// A draft that keeps, of the first piece that is too long, the longest prefix of whole characters that fits. It refuses later pieces.
-struct Prefix<'a, const N: usize>(Draft<'a, N>);
+struct CuttingDraft<'a, const N: usize>(Draft<'a, N>);
 
 impl<'a, const N: usize> Draft<'a, N> {
     /// Begins a draft behind the text of a string. It has no text yet.
     #[inline]
-    fn behind(string: &'a mut ArrayString<N>) -> Self {
+    fn begin(string: &'a mut ArrayString<N>) -> Self {
         Draft { len: string.len(), string, is_whole: true }
     }
 
@@ -199,10 +199,10 @@ impl<const N: usize> Write for Draft<'_, N> {
     }
 }
 
-impl<const N: usize> Write for Prefix<'_, N> {
+impl<const N: usize> Write for CuttingDraft<'_, N> {
     #[inline]
     fn write_str(&mut self, piece: &str) -> fmt::Result {
-        let Prefix(draft) = self;
+        let CuttingDraft(draft) = self;
         if draft.is_whole {
             draft.is_whole = draft.string.push_str_truncate(piece).is_empty();
         }

@@ -2,7 +2,7 @@
 
 use zeroize::Zeroize;
 
-use crate::leaf::Place;
+use crate::leaf::MaybeByte;
 use crate::{ArrayString, Drain};
 
 /// Makes each byte of the array zero, also those that were removed from the text, and the text empty. The compiler does not leave this out
@@ -19,7 +19,7 @@ use crate::{ArrayString, Drain};
 /// ```
 impl<const N: usize> Zeroize for ArrayString<N> {
     fn zeroize(&mut self) {
-        let bytes: &mut [Place] = &mut self.0.array;
+        let bytes: &mut [MaybeByte] = &mut self.0.array;
         bytes.zeroize();
         self.0.start.zeroize();
         self.0.size.zeroize();
@@ -42,7 +42,7 @@ impl<const N: usize> Zeroize for ArrayString<N> {
 /// ```
 impl<const N: usize> Zeroize for Drain<N> {
     fn zeroize(&mut self) {
-        let bytes: &mut [Place] = &mut self.0.array;
+        let bytes: &mut [MaybeByte] = &mut self.0.array;
         bytes.zeroize();
         self.0.front.zeroize();
         self.0.start.zeroize();

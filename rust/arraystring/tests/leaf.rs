@@ -134,7 +134,7 @@ fn one_byte_is_read() {
 
 #[test]
 fn a_part_is_borrowed_and_its_letters_are_turned() {
-    const PART: &[u8] = part(&[Place::new(b'a'), Place::new(b'b'), UNWRITTEN], 1, 1);
+    const PART: &[u8] = part(&[Place::new(b'a'), Place::new(b'b'), NEW_BYTE], 1, 1);
     assert_eq!(PART, b"b");
     let mut count = 0;
     for len in lengths() {
@@ -294,19 +294,19 @@ fn a_text_is_cut_at_a_boundary() {
         for at in 0..=text.len() + 5 {
             match (text.get(..at), text.get(at..)) {
                 (Some(before), Some(behind)) => {
-                    assert_eq!((text_to(text, at), text_from(text, at)), (before, behind));
-                    assert_eq!(text_from(text, at).as_ptr(), text.as_ptr().wrapping_add(at));
+                    assert_eq!((text_before_boundary(text, at), text_from_boundary(text, at)), (before, behind));
+                    assert_eq!(text_from_boundary(text, at).as_ptr(), text.as_ptr().wrapping_add(at));
                     count += 1;
                 }
                 _ => {
-                    refused(|| text_to(text, at));
-                    refused(|| text_from(text, at));
+                    refused(|| text_before_boundary(text, at));
+                    refused(|| text_from_boundary(text, at));
                 }
             }
         }
         for at in PAST {
-            refused(|| text_to(text, at));
-            refused(|| text_from(text, at));
+            refused(|| text_before_boundary(text, at));
+            refused(|| text_from_boundary(text, at));
         }
     }
     assert_eq!(count, 1 + 2 + 2 + 2 + 2 + 6 + 5 + 17 + 128 + 65);
@@ -315,9 +315,9 @@ fn a_text_is_cut_at_a_boundary() {
 #[test]
 fn a_new_place_has_a_value_where_accesses_are_tested() {
     if TESTS {
-        assert_eq!(values(&[UNWRITTEN; 3]), [0; 3]);
+        assert_eq!(values(&[NEW_BYTE; 3]), [0; 3]);
     }
-    let mut all = [UNWRITTEN; 40];
+    let mut all = [NEW_BYTE; 40];
     write_bytes(&mut all, &bytes(30), 5);
     move_long_run::<40>(&mut all, 5, 0, 30);
     assert_eq!(part(&all, 0, 30), bytes(30));

@@ -10,7 +10,7 @@ use inputs::behind;
 
 mod inputs;
 
-const IS_TESTED: bool = cfg!(any(debug_assertions, feature = "checked", not(target_pointer_width = "64")));
+const CHECKS_ACCESS: bool = cfg!(any(debug_assertions, feature = "checked", not(target_pointer_width = "64")));
 
 /// A character of each width.
 const WIDE: [char; 4] = ['z', 'é', '€', '🤔'];
@@ -24,7 +24,7 @@ macro_rules! at_some_capacities {
 /// Asserts that a call whose requirement is broken says which one, where it is tested.
 #[track_caller]
 fn refused<T>(requirement: &str, call: impl FnOnce() -> T) {
-    if IS_TESTED {
+    if CHECKS_ACCESS {
         // (what was made against its requirement is not to be printed)
         let why = catch_unwind(AssertUnwindSafe(|| _ = black_box(call()))).expect_err("no panic");
         let why = why.downcast_ref::<&str>().expect("a text");
@@ -232,6 +232,6 @@ fn the_words_of_what_is_tested_stand_in_the_program_where_it_is_tested() {
     for backwards in ["yradnuob_rahc_si.fles` taht deriuqer si ti", "nel.txet` taht deriuqer si ti"] {
         let words: Vec<u8> = backwards.bytes().rev().collect();
         let is_there = program.windows(words.len()).any(|part| part == words);
-        assert_eq!(is_there, IS_TESTED, "{backwards}");
+        assert_eq!(is_there, CHECKS_ACCESS, "{backwards}");
     }
 }

@@ -1,12 +1,12 @@
 -- Examples of the parts of a text between the places where a character stands. Here a comma stands between them.
 use Rattle.std.proofs.Common.{◌≡◌, [], ◌∷◌, refl, codes}
-use Rattle.arraystring.specs.Fields.{fields, in_front}
+use Rattle.arraystring.specs.Fields.{fields, prepend_to_first_part}
 
-in_front-of_the_first_part : in_front 0x61 (codes "b" ∷ codes "c" ∷ []) ≡ codes "ab" ∷ codes "c" ∷ []
-in_front-of_the_first_part = refl
+prepend_to_first_part-of_the_first_part : prepend_to_first_part 0x61 (codes "b" ∷ codes "c" ∷ []) ≡ codes "ab" ∷ codes "c" ∷ []
+prepend_to_first_part-of_the_first_part = refl
 
-in_front-of_no_part : in_front 0x61 [] ≡ codes "a" ∷ []
-in_front-of_no_part = refl
+prepend_to_first_part-of_no_part : prepend_to_first_part 0x61 [] ≡ codes "a" ∷ []
+prepend_to_first_part-of_no_part = refl
 
 fields-between_commas : fields 0x2C (codes "a,bc,d") ≡ codes "a" ∷ codes "bc" ∷ codes "d" ∷ []
 fields-between_commas = refl

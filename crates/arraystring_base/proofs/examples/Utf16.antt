@@ -2,7 +2,7 @@
 use Rattle.std.proofs.Common.{◌≡◌, [], ◌∷◌, ◌++◌, refl, arith, codes, inl, inr, map}
 use Rattle.std.proofs.lemmas.List.Elements.{All-nil, All-cons, All-head}
 use Rattle.std.proofs.lemmas.Bool.Decides.{nat_tests}
-use Rattle.arraystring_base.specs.Utf16.{IsHigh, IsLow, utf16, text_units, IsItem, item_units, joined_units, NoPairApart, IsReading, End, Fault, Full, StopsAt, prepend_to_stop, first_stop, char_or_replacement, lossy_text}
+use Rattle.arraystring_base.specs.Utf16.{IsHigh, IsLow, utf16, text_units, IsValidItem, item_units, joined_units, NoPairApart, IsReading, End, Fault, Full, StopsAt, prepend_to_stop, first_stop, char_or_replacement, lossy_text}
 use Rattle.arraystring_base.specs.Text.{width}
 use Rattle.arraystring_base.specs.declared.utf16.Unit16.TheVariants.{Char, Lone}
 
@@ -34,20 +34,20 @@ utf16-a_pair = (refl, refl, refl, refl)
 text_units-of_two_characters : (text_units [] ≡ []) × (text_units (codes "𝄞m") ≡ 0xD834 ∷ 0xDD1E ∷ 0x6D ∷ [])
 text_units-of_two_characters = (refl, refl)
 
-IsItem-a_character : IsItem (Char 0xD7FF)
-IsItem-a_character = inl (omega arith)
+IsValidItem-a_character : IsValidItem (Char 0xD7FF)
+IsValidItem-a_character = inl (omega arith)
 
-IsItem-no_surrogate_as_a_character : IsItem (Char 0xD800) → ⊥
-IsItem-no_surrogate_as_a_character is = omega arith
+IsValidItem-no_surrogate_as_a_character : IsValidItem (Char 0xD800) → ⊥
+IsValidItem-no_surrogate_as_a_character is = omega arith
 
-IsItem-each_surrogate_alone : IsItem (Lone 0xD800) × IsItem (Lone 0xDFFF)
-IsItem-each_surrogate_alone = omega arith
+IsValidItem-each_surrogate_alone : IsValidItem (Lone 0xD800) × IsValidItem (Lone 0xDFFF)
+IsValidItem-each_surrogate_alone = omega arith
 
-IsItem-no_other_unit_before_them : IsItem (Lone 0xD7FF) → ⊥
-IsItem-no_other_unit_before_them is = omega arith
+IsValidItem-no_other_unit_before_them : IsValidItem (Lone 0xD7FF) → ⊥
+IsValidItem-no_other_unit_before_them is = omega arith
 
-IsItem-no_other_unit_past_them : IsItem (Lone 0xE000) → ⊥
-IsItem-no_other_unit_past_them is = omega arith
+IsValidItem-no_other_unit_past_them : IsValidItem (Lone 0xE000) → ⊥
+IsValidItem-no_other_unit_past_them is = omega arith
 
 item_units-of_each_kind : (item_units (Char 0x1_D11E) ≡ 0xD834 ∷ 0xDD1E ∷ []) × (item_units (Lone 0xDC00) ≡ 0xDC00 ∷ [])
 item_units-of_each_kind = (refl, refl)
@@ -56,10 +56,10 @@ joined_units-of_two_items : (joined_units [] ≡ []) × (joined_units (Lone 0xDC
 joined_units-of_two_items = (refl, refl)
 
 NoPairApart-low_before_high : NoPairApart (Lone 0xDC00 ∷ Lone 0xD800 ∷ [])
-NoPairApart-low_before_high [] after high low e is_high is_low = grind arith
-NoPairApart-low_before_high (x ∷ []) after high low e is_high is_low = cc
-NoPairApart-low_before_high (x ∷ y ∷ []) after high low e is_high is_low = cc
-NoPairApart-low_before_high (x ∷ y ∷ z ∷ before) after high low e is_high is_low = cc
+NoPairApart-low_before_high [] after high low e is_high_surrogate is_low_surrogate = grind arith
+NoPairApart-low_before_high (x ∷ []) after high low e is_high_surrogate is_low_surrogate = cc
+NoPairApart-low_before_high (x ∷ y ∷ []) after high low e is_high_surrogate is_low_surrogate = cc
+NoPairApart-low_before_high (x ∷ y ∷ z ∷ before) after high low e is_high_surrogate is_low_surrogate = cc
 
 NoPairApart-not_the_units_of_a_pair : NoPairApart (Lone 0xD834 ∷ Lone 0xDD1E ∷ []) → ⊥
 NoPairApart-not_the_units_of_a_pair apart = apart [] [] 0xD834 0xDD1E refl (omega arith) (omega arith)
@@ -68,16 +68,16 @@ NoPairApart-not_between_characters : NoPairApart (Char 0x61 ∷ Lone 0xD834 ∷ 
 NoPairApart-not_between_characters apart = apart (Char 0x61 ∷ []) (Char 0x62 ∷ []) 0xD834 0xDD1E refl (omega arith) (omega arith)
 
 NoPairApart-two_high_ones : NoPairApart (Lone 0xD800 ∷ Lone 0xD834 ∷ [])
-NoPairApart-two_high_ones [] after high low e is_high is_low = grind arith
-NoPairApart-two_high_ones (x ∷ []) after high low e is_high is_low = cc
-NoPairApart-two_high_ones (x ∷ y ∷ []) after high low e is_high is_low = cc
-NoPairApart-two_high_ones (x ∷ y ∷ z ∷ before) after high low e is_high is_low = cc
+NoPairApart-two_high_ones [] after high low e is_high_surrogate is_low_surrogate = grind arith
+NoPairApart-two_high_ones (x ∷ []) after high low e is_high_surrogate is_low_surrogate = cc
+NoPairApart-two_high_ones (x ∷ y ∷ []) after high low e is_high_surrogate is_low_surrogate = cc
+NoPairApart-two_high_ones (x ∷ y ∷ z ∷ before) after high low e is_high_surrogate is_low_surrogate = cc
 
 NoPairApart-two_low_ones : NoPairApart (Lone 0xDC00 ∷ Lone 0xDD1E ∷ [])
-NoPairApart-two_low_ones [] after high low e is_high is_low = grind arith
-NoPairApart-two_low_ones (x ∷ []) after high low e is_high is_low = cc
-NoPairApart-two_low_ones (x ∷ y ∷ []) after high low e is_high is_low = cc
-NoPairApart-two_low_ones (x ∷ y ∷ z ∷ before) after high low e is_high is_low = cc
+NoPairApart-two_low_ones [] after high low e is_high_surrogate is_low_surrogate = grind arith
+NoPairApart-two_low_ones (x ∷ []) after high low e is_high_surrogate is_low_surrogate = cc
+NoPairApart-two_low_ones (x ∷ y ∷ []) after high low e is_high_surrogate is_low_surrogate = cc
+NoPairApart-two_low_ones (x ∷ y ∷ z ∷ before) after high low e is_high_surrogate is_low_surrogate = cc
 
 IsReading-lone_ones : IsReading (0xDC00 ∷ 0xD800 ∷ []) (Lone 0xDC00 ∷ Lone 0xD800 ∷ [])
 IsReading-lone_ones = record {
@@ -90,18 +90,18 @@ IsReading-lone_ones = record {
 IsReading-a_pair : IsReading (0xD834 ∷ 0xDD1E ∷ []) (Char 0x1_D11E ∷ [])
 IsReading-a_pair = record {
   each_unit = search (arith, All-cons, All-nil);
-  each_item = All-cons IsItem _ [] (inr (omega arith)) (All-nil IsItem);
+  each_item = All-cons IsValidItem _ [] (inr (omega arith)) (All-nil IsValidItem);
   joined = refl;
   apart = apart;
 }
   where
     apart : NoPairApart (Char 0x1_D11E ∷ [])
-    apart [] after high low e is_high is_low = cc
-    apart (x ∷ []) after high low e is_high is_low = cc
-    apart (x ∷ y ∷ before) after high low e is_high is_low = cc
+    apart [] after high low e is_high_surrogate is_low_surrogate = cc
+    apart (x ∷ []) after high low e is_high_surrogate is_low_surrogate = cc
+    apart (x ∷ y ∷ before) after high low e is_high_surrogate is_low_surrogate = cc
 
 IsReading-no_surrogate_as_a_character : IsReading (0xD800 ∷ []) (Char 0xD800 ∷ []) → ⊥
-IsReading-no_surrogate_as_a_character is = IsItem-no_surrogate_as_a_character (All-head IsItem _ [] is.each_item)
+IsReading-no_surrogate_as_a_character is = IsValidItem-no_surrogate_as_a_character (All-head IsValidItem _ [] is.each_item)
 
 IsReading-not_of_other_units : IsReading (0x61 ∷ []) (Char 0x62 ∷ []) → ⊥
 IsReading-not_of_other_units is = grind (arith, is.joined)
@@ -112,15 +112,15 @@ IsReading-no_pair_apart is = NoPairApart-not_the_units_of_a_pair is.apart
 IsReading-the_greatest_unit : IsReading (0xFFFF ∷ []) (Char 0xFFFF ∷ [])
 IsReading-the_greatest_unit = record {
   each_unit = search (arith, All-cons, All-nil);
-  each_item = All-cons IsItem _ [] (inr (omega arith)) (All-nil IsItem);
+  each_item = All-cons IsValidItem _ [] (inr (omega arith)) (All-nil IsValidItem);
   joined = refl;
   apart = apart;
 }
   where
     apart : NoPairApart (Char 0xFFFF ∷ [])
-    apart [] after high low e is_high is_low = cc
-    apart (x ∷ []) after high low e is_high is_low = cc
-    apart (x ∷ y ∷ before) after high low e is_high is_low = cc
+    apart [] after high low e is_high_surrogate is_low_surrogate = cc
+    apart (x ∷ []) after high low e is_high_surrogate is_low_surrogate = cc
+    apart (x ∷ y ∷ before) after high low e is_high_surrogate is_low_surrogate = cc
 
 Stop-each_kind_is_another : (End [] ≡ Fault [] → ⊥) × (End [] ≡ Full [] → ⊥) × (Fault [] ≡ Full [] → ⊥)
 Stop-each_kind_is_another = (λ e. cc, λ e. cc, λ e. cc)

@@ -3,24 +3,24 @@ use Rattle.std.proofs.Common.{◌≡◌, [], ◌∷◌, refl, arith, codes, Some
 use Rattle.arraystring_base.specs.Text.{width}
 use Rattle.arraystring_base.specs.declared.error.Error.TheVariants as error
 use Rattle.arraystring_core.specs.Stored.{string_of}
-use Rattle.arraystring_core.specs.Drained.{Drained, drain_from, removed_of, with_left, Front, Back, Walked, from_front, from_back, walk_of}
+use Rattle.arraystring_core.specs.Drained.{DrainView, drain_after_front, removed_of, result_with_left, Front, Back, WalkResult, add_to_fronts, add_to_backs, walk_of}
 
 -- of `aé`, 'a' was given from the front
-abbrev rest : Drained
+abbrev rest : DrainView
 rest = record { left = codes "é"; yielded = codes "a"; spare = [] }
 
 -- what was given from the front counts too: without it the same is left, and another text was removed
-Drained-the_same_left_of_two_texts : (rest.left ≡ (drain_from (string_of (codes "é")) 0).left) × (rest ≡ drain_from (string_of (codes "é")) 0 → ⊥)
+DrainView-the_same_left_of_two_texts : (rest.left ≡ (drain_after_front (string_of (codes "é")) 0).left) × (rest ≡ drain_after_front (string_of (codes "é")) 0 → ⊥)
 unfolding width
-Drained-the_same_left_of_two_texts = (refl, λ e. grind arith)
+DrainView-the_same_left_of_two_texts = (refl, λ e. grind arith)
 
-drain_from-from_an_index_on : drain_from (string_of (codes "aé")) 1 ≡ rest
+drain_after_front-from_an_index_on : drain_after_front (string_of (codes "aé")) 1 ≡ rest
 unfolding width
-drain_from-from_an_index_on = refl
+drain_after_front-from_an_index_on = refl
 
-drain_from-the_numbers_stay : drain_from (record { text = codes "a"; spare = codes "x" }) 0 ≡ record { left = codes "a"; yielded = []; spare = codes "x" }
+drain_after_front-the_numbers_stay : drain_after_front (record { text = codes "a"; spare = codes "x" }) 0 ≡ record { left = codes "a"; yielded = []; spare = codes "x" }
 unfolding width
-drain_from-the_numbers_stay = refl
+drain_after_front-the_numbers_stay = refl
 
 removed_of-both_parts : removed_of rest ≡ string_of (codes "aé")
 removed_of-both_parts = refl
@@ -28,31 +28,31 @@ removed_of-both_parts = refl
 removed_of-the_numbers_stay : removed_of (record { left = codes "a"; yielded = []; spare = codes "x" }) ≡ record { text = codes "a"; spare = codes "x" }
 removed_of-the_numbers_stay = refl
 
-with_left-of_each_result : (with_left (Ok rest) ≡ Ok (codes "é")) × (with_left (Err error.Utf8) ≡ Err error.Utf8)
-with_left-of_each_result = (refl, refl)
+result_with_left-of_each_result : (result_with_left (Ok rest) ≡ Ok (codes "é")) × (result_with_left (Err error.Utf8) ≡ Err error.Utf8)
+result_with_left-of_each_result = (refl, refl)
 
 End-each_is_another : Front ≡ Back → ⊥
 End-each_is_another e = cc
 
 -- `A` from the front, `B` from the back, and the rest is left
-abbrev both_ends : Walked
+abbrev both_ends : WalkResult
 both_ends = record { fronts = codes "A"; left = codes "🤔"; backs = codes "B" }
 
 -- the only character, by the end that asked
-Walked-the_end_counts : walk_of (Front ∷ []) (codes "A") ≡ walk_of (Back ∷ []) (codes "A") → ⊥
-Walked-the_end_counts e = grind arith
+WalkResult-the_end_counts : walk_of (Front ∷ []) (codes "A") ≡ walk_of (Back ∷ []) (codes "A") → ⊥
+WalkResult-the_end_counts e = grind arith
 
-from_front-first : from_front (Some 0x78) both_ends ≡ record { fronts = codes "xA"; left = codes "🤔"; backs = codes "B" }
-from_front-first = refl
+add_to_fronts-first : add_to_fronts (Some 0x78) both_ends ≡ record { fronts = codes "xA"; left = codes "🤔"; backs = codes "B" }
+add_to_fronts-first = refl
 
-from_front-nothing : from_front None both_ends ≡ both_ends
-from_front-nothing = refl
+add_to_fronts-nothing : add_to_fronts None both_ends ≡ both_ends
+add_to_fronts-nothing = refl
 
-from_back-first : from_back (Some 0x78) both_ends ≡ record { fronts = codes "A"; left = codes "🤔"; backs = codes "xB" }
-from_back-first = refl
+add_to_backs-first : add_to_backs (Some 0x78) both_ends ≡ record { fronts = codes "A"; left = codes "🤔"; backs = codes "xB" }
+add_to_backs-first = refl
 
-from_back-nothing : from_back None both_ends ≡ both_ends
-from_back-nothing = refl
+add_to_backs-nothing : add_to_backs None both_ends ≡ both_ends
+add_to_backs-nothing = refl
 
 walk_of-no_end : walk_of [] (codes "A🤔B") ≡ record { fronts = []; left = codes "A🤔B"; backs = [] }
 walk_of-no_end = refl

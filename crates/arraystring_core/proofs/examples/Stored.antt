@@ -5,10 +5,10 @@ use Rattle.arraystring_core.specs.Layout.{string_in}
 use Rattle.arraystring_core.specs.Stored.{string_of}
 
 -- contracts compare texts and not these values, since one text may lie at two places
-Stored-one_text_at_two_places : ((string_in (codes "ab.") 0 2).text ≡ (string_in (codes "xab") 1 2).text)
+StringView-one_text_at_two_places : ((string_in (codes "ab.") 0 2).text ≡ (string_in (codes "xab") 1 2).text)
     × (string_in (codes "ab.") 0 2 ≡ string_in (codes "xab") 1 2 → ⊥)
 unfolding chars
-Stored-one_text_at_two_places = (refl, λ e. grind arith)
+StringView-one_text_at_two_places = (refl, λ e. grind arith)
 
 -- the spare numbers of a string begin with its start
 string_of-is_no_string_in_an_array : (array : List ℕ) (start n : ℕ) (t : List ℕ) → string_in array start n ≡ string_of t → ⊥

@@ -5,7 +5,7 @@ use Rattle.std.specs.Str.{chars}
 use Rattle.std.specs.Iterator.{YieldsFirst}
 use Rattle.std.specs.Borrow.{Bor}
 use Rattle.arraystring_base.specs.Text.{width}
-use Rattle.arraystring_core.specs.Taken.{joined_texts, piece_text, joined_pieces, IsFirstPast, TakesAll, Takes, Fits, Gives}
+use Rattle.arraystring_core.specs.Taken.{joined_texts, piece_text, joined_pieces, OnlyLastDoesNotFit, TakesAll, Takes, Fits, Gives}
 
 joined_texts-two_texts : (joined_texts [] ≡ []) × (joined_texts (codes "ab" ∷ [] ∷ codes "c" ∷ []) ≡ codes "abc")
 joined_texts-two_texts = (refl, refl)
@@ -26,25 +26,25 @@ abbrev itself : List ℕ → List ℕ
 itself items = items
 
 -- with room for two bytes 'é' is the first that no longer fits behind 'a'
-IsFirstPast-the_last : IsFirstPast itself 2 (codes "aé")
+OnlyLastDoesNotFit-the_last : OnlyLastDoesNotFit itself 2 (codes "aé")
 unfolding width
-IsFirstPast-the_last = (codes "a", 0xE9, refl, omega arith, omega arith)
+OnlyLastDoesNotFit-the_last = (codes "a", 0xE9, refl, omega arith, omega arith)
 
-IsFirstPast-not_of_what_fits : IsFirstPast itself 3 (codes "aé") → ⊥
+OnlyLastDoesNotFit-not_of_what_fits : OnlyLastDoesNotFit itself 3 (codes "aé") → ⊥
 unfolding width
-IsFirstPast-not_of_what_fits is = omega (arith, is.4)
+OnlyLastDoesNotFit-not_of_what_fits is = omega (arith, is.4)
 
 -- 'é' was past the room
-IsFirstPast-no_item_behind_it : IsFirstPast itself 1 (codes "éb") → ⊥
+OnlyLastDoesNotFit-no_item_behind_it : OnlyLastDoesNotFit itself 1 (codes "éb") → ⊥
 unfolding width
-IsFirstPast-no_item_behind_it ([], last, e, fits, past) = grind arith
-IsFirstPast-no_item_behind_it (x ∷ [], last, e, fits, past) = grind (arith, nat_tests)
-IsFirstPast-no_item_behind_it (x ∷ y ∷ [], last, e, fits, past) = grind arith
-IsFirstPast-no_item_behind_it (x ∷ y ∷ z ∷ before, last, e, fits, past) = grind arith
+OnlyLastDoesNotFit-no_item_behind_it ([], last, e, fits, past) = grind arith
+OnlyLastDoesNotFit-no_item_behind_it (x ∷ [], last, e, fits, past) = grind (arith, nat_tests)
+OnlyLastDoesNotFit-no_item_behind_it (x ∷ y ∷ [], last, e, fits, past) = grind arith
+OnlyLastDoesNotFit-no_item_behind_it (x ∷ y ∷ z ∷ before, last, e, fits, past) = grind arith
 
-IsFirstPast-behind_what_fills_the_room : IsFirstPast itself 1 (codes "aé")
+OnlyLastDoesNotFit-behind_what_fills_the_room : OnlyLastDoesNotFit itself 1 (codes "aé")
 unfolding width
-IsFirstPast-behind_what_fills_the_room = (codes "a", 0xE9, refl, omega arith, omega arith)
+OnlyLastDoesNotFit-behind_what_fills_the_room = (codes "a", 0xE9, refl, omega arith, omega arith)
 
 abbrev becomes : List ℕ → List ℕ → Type 0
 becomes given iter = given ≡ iter
@@ -67,7 +67,7 @@ Takes-what_fits_exactly = (codes "aé", refl, inl (([], ([], (codes "é", refl, 
 
 Takes-the_first_that_no_longer_fits : Takes becomes steps itself (codes "aéb") 2 (codes "aé")
 Takes-the_first_that_no_longer_fits =
-    (codes "aéb", refl, inr (codes "b", (codes "éb", refl, (codes "b", refl, refl)), IsFirstPast-the_last))
+    (codes "aéb", refl, inr (codes "b", (codes "éb", refl, (codes "b", refl, refl)), OnlyLastDoesNotFit-the_last))
 
 Takes-no_part_that_fits : Takes becomes steps itself (codes "ab") 2 (codes "a") → ⊥
 unfolding width
@@ -77,7 +77,7 @@ Takes-no_part_that_fits (it, is, inr stops) = omega (arith, stops.2.4)
 Takes-not_past_the_room : Takes becomes steps itself (codes "éb") 1 (codes "éb") → ⊥
 unfolding width
 Takes-not_past_the_room (it, is, inl drains) = omega (arith, drains.1)
-Takes-not_past_the_room (it, is, inr stops) = IsFirstPast-no_item_behind_it stops.2
+Takes-not_past_the_room (it, is, inr stops) = OnlyLastDoesNotFit-no_item_behind_it stops.2
 
 Takes-of_no_other_iterator : Takes becomes steps itself (codes "aé") 1 (codes "é") → ⊥
 unfolding width

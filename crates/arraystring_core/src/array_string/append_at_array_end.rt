@@ -3,7 +3,7 @@
 ghost use Rattle.std.specs.Prelude.{◌≡◌, ◌+◌, ◌≤◌, ◌↔◌, [], ◌∷◌, ◌++◌, IsTrue, chars, Ok};
 ghost use Rattle.arraystring_base.specs.Text.{size, width, cap};
 ghost use Rattle.arraystring_core.specs.Edits.{Makes, addition_of_cut};
-ghost use Rattle.arraystring_core.specs.Layout.{string_in, IsStored};
+ghost use Rattle.arraystring_core.specs.Layout.{string_in, IsStringLayout};
 
 use crate::ArrayString;
 use arraystring_base::utils::{Steps, encode, shift_by_call, truncate_str, write_by_call};
@@ -36,9 +36,9 @@ impl<const N: usize> ArrayString<N> {
         start: usize,
         size: usize,
     ) -> usize
-        requires in_array { IsStored N array.old start size }
+        requires in_array { IsStringLayout N array.old start size }
         requires room { size + width ch ≤ cap N }
-        ensures in_array { IsStored N array.new 0 result }
+        ensures in_array { IsStringLayout N array.new 0 result }
         ensures text { (string_in array.new 0 result).text
             ≡ (string_in array.old start size).text ++ (ch ∷ []) }
     {
@@ -64,7 +64,7 @@ impl<const N: usize> ArrayString<N> {
     /// Appends what fits of `string` to a text that need not begin at the start of the array. It stands apart
     /// from `push_str`, which would be twice as long.
     #[inline(never)]
-    pub(super) fn push_str_behind_start(&mut self, string: &str)
+    pub(super) fn push_str_at_offset(&mut self, string: &str)
         ensures { Makes (addition_of_cut self.old.text (chars string.now) (cap N))
             self.old.text (Ok result) self.new.text }
     {

@@ -4,7 +4,7 @@ ghost use Rattle.std.specs.Char.{to_ascii_uppercase, to_ascii_lowercase};
 ghost use Rattle.std.specs.Range.Bound.{start_index, end_index};
 ghost use Rattle.arraystring_base.specs.Text.{size, front, back, boundary};
 ghost use Rattle.arraystring_core.specs.Edits.{Makes, uppercase, lowercase, part};
-ghost use Rattle.arraystring_core.specs.Ascii.{in_case};
+ghost use Rattle.arraystring_core.specs.Ascii.{to_case};
 
 use crate::ArrayString;
 use crate::range_ends::plain_ends;
@@ -128,20 +128,20 @@ impl<const N: usize> ArrayString<N> {
         requires start { IsTrue (boundary self.old.text start) }
         requires end { IsTrue (boundary self.old.text end) }
         ensures { self.new.text ≡ front self.old.text start
-            ++ (map (in_case case) (part self.old.text start end) ++ back self.old.text end) }
+            ++ (map (to_case case) (part self.old.text start end) ++ back self.old.text end) }
     {
         let offset = self.start as usize;
-        change_bytes(&mut self.array, offset + start, offset + end, case);
+        change_case_of_bytes(&mut self.array, offset + start, offset + end, case);
     }
 }
 
 /// Puts the ASCII letters among the bytes from `start` to `end` into a case.
 #[inline]
-fn change_bytes<const N: usize>(array: &mut [u8; N], start: usize, end: usize, case: Case)
+fn change_case_of_bytes<const N: usize>(array: &mut [u8; N], start: usize, end: usize, case: Case)
     requires order { start ≤ end }
     requires within { end ≤ N }
     ensures { array.new ≡ take start array.old
-        ++ (map (in_case case) (take (end - start) (drop start array.old)) ++ drop end array.old) }
+        ++ (map (to_case case) (take (end - start) (drop start array.old)) ++ drop end array.old) }
 {
     let all = &mut array[..];
     match case {

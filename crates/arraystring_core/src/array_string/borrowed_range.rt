@@ -7,7 +7,7 @@ ghost use Rattle.arraystring_core.specs.Edits.{part, part_in};
 
 use crate::ArrayString;
 use crate::range_ends::plain_ends;
-use arraystring_base::leaf::{text_from, text_to};
+use arraystring_base::leaf::{text_before_boundary, text_from_boundary};
 use std::ops::RangeBounds;
 
 impl<const N: usize> ArrayString<N> {
@@ -83,6 +83,6 @@ impl<const N: usize> ArrayString<N> {
         ensures bytes { result.now ≡ bytes (part self.now.text start end) }
         ensures chars { chars result.now ≡ part self.now.text start end }
     {
-        text_from(text_to(self.as_str(), end), start)
+        text_from_boundary(text_before_boundary(self.as_str(), end), start)
     }
 }

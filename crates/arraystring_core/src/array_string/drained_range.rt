@@ -2,7 +2,7 @@
 ghost use Rattle.std.specs.Prelude.{◌≡◌, ◌≢◌, ◌+◌, ◌-◌, ◌^◌, ◌≤◌, ◌++◌, min, IsTrue, OnOk, OnErr};
 ghost use Rattle.arraystring_base.specs.Text.{size, front, back, boundary};
 ghost use Rattle.arraystring_core.specs.RangeEnds.{OfReturnedBounds, saturated_start, saturated_end};
-ghost use Rattle.arraystring_core.specs.Drained.{with_left};
+ghost use Rattle.arraystring_core.specs.Drained.{result_with_left};
 ghost use Rattle.arraystring_core.specs.Edits.{Makes, draining};
 
 use crate::range_ends::saturating_ends;
@@ -39,7 +39,7 @@ impl<const N: usize> ArrayString<N> {
         ensures { OfReturnedBounds R.has_bounds R.start_bound R.end_bound range (λ start end.
             let t = self.old.text in
             Makes (draining t (saturated_start start) (saturated_end end (size t)))
-            t (with_left result) self.new.text) }
+            t (result_with_left result) self.new.text) }
     {
         self.drain_counted(range, &mut Steps::new())
     }
@@ -81,7 +81,7 @@ impl<const N: usize> ArrayString<N> {
         ensures edit { OfReturnedBounds R.has_bounds R.start_bound R.end_bound range (λ start end.
             let t = self.old.text in
             let from = saturated_start start in let to = saturated_end end (size t) in
-            Makes (draining t from to) t (with_left result) self.new.text
+            Makes (draining t from to) t (result_with_left result) self.new.text
             × (from ≡ 0 → steps.new.moved ≡ steps.old.moved)
             × (steps.new.moved ≤ steps.old.moved + (size t - to))
             × OnOk result

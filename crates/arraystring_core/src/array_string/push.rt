@@ -98,7 +98,7 @@ impl<const N: usize> ArrayString<N> {
             self.old.text (Ok result) self.new.text }
     {
         if self.start > 0 {
-            return self.push_str_behind_start(string);
+            return self.push_str_at_offset(string);
         }
         let (end, given) = (self.end(), string.as_bytes());
         let room = Self::capacity() - self.len();

@@ -7,7 +7,7 @@ ghost use Rattle.arraystring_core.specs.Edits.{Makes, popping, from_utf8_error, 
 use crate::ArrayString;
 use crate::laws::text_fits;
 use arraystring_base::error::{Error, Utf8};
-use arraystring_base::leaf::text_from;
+use arraystring_base::leaf::text_from_boundary;
 use arraystring_base::utils::{Steps, first_char, last_char};
 
 impl<const N: usize> ArrayString<N> {
@@ -181,7 +181,7 @@ impl<const N: usize> ArrayString<N> {
         ensures { Makes (split self.old.text at) self.old.text (with_text result) self.new.text }
     {
         self.check_index(at)?;
-        let rest = Self::from_str_unchecked(text_from(self.as_str(), at as usize));
+        let rest = Self::from_str_unchecked(text_from_boundary(self.as_str(), at as usize));
         self.set_len(at);
         Ok(rest)
     }
@@ -245,6 +245,6 @@ impl<const N: usize> ArrayString<N> {
         ensures next { IsTrue (boundary self.now.text (at + width result.0)) }
         ensures rest { back self.now.text (at + width result.0) ≡ drop 1 (back self.now.text at) }
     {
-        first_char(text_from(self.as_str(), at))
+        first_char(text_from_boundary(self.as_str(), at))
     }
 }

@@ -2,7 +2,7 @@
 use Rattle.std.proofs.Common.{◌≡◌, ℕ, ◌≤◌, ◌+◌, List, [], ◌∷◌, ◌++◌, length, take, replicate, Some, None, Result, Ok, Err, inl, refl, sym, ap, ◌∙◌, ap₂, subst, zero, suc, true, false, IsSome, arith, codes, lit≤, lit<, length-append}
 use Rattle.std.specs.declared.env.FillError.{FillError}
 use Rattle.std.specs.declared.env.FillError.TheVariants.{NotPresent}
-use Rattle.arraystring.specs.Stored.{Stored, string_of}
+use Rattle.arraystring.specs.Stored.{StringView, string_of}
 use Rattle.arraystring.specs.Text.{IsScalarValue, IsText, width, utf8, size, bytes}
 use Rattle.arraystring_run.specs.Arguments.{IsOnlyWord}
 
@@ -67,7 +67,7 @@ IsOnlyWord-256_bytes_need_not_be : IsOnlyWord (has 256) (replicate 256 0x61) non
 IsOnlyWord-256_bytes_need_not_be = record { text = tt; alone = λ some. absurd (cc); whole = no_text_has_256_bytes }
   where
     no_text_has_256_bytes : (t : List ℕ) (n : ℕ) → IsText t → size t ≤ 255 → has 256 ≡ has n → n ≤ 256 → bytes t ≡ take n (replicate 256 0x61)
-        → none ≡ none → IsSome {T = Stored} None
+        → none ≡ none → IsSome {T = StringView} None
     no_text_has_256_bytes t n is fits e long same alone =
         let m : n ≡ 256 = cc in
         let all : length (bytes t) ≡ 256 = ap length (subst (λ k. bytes t ≡ take k (replicate 256 0x61)) m same) in
@@ -82,7 +82,7 @@ IsOnlyWord-no_utf8_is_no_word = record { text = tt; alone = λ some. absurd (cc)
     no_character_begins_them c t is e = grind arith
 
     no_text_has_these_bytes : (t : List ℕ) (n : ℕ) → IsText t → size t ≤ 255 → has 3 ≡ has n → n ≤ 3 → bytes t ≡ take n (0xED ∷ 0xA0 ∷ 0x80 ∷ [])
-        → none ≡ none → IsSome {T = Stored} None
+        → none ≡ none → IsSome {T = StringView} None
     no_text_has_these_bytes [] n is fits e long same alone = let m : n ≡ 3 = cc in absurd (grind arith)
     no_text_has_these_bytes (c ∷ t) n is fits e long same alone =
         let m : n ≡ 3 = cc in

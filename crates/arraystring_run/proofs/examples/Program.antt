@@ -4,7 +4,7 @@ use Rattle.std.proofs.Common.{◌≡◌, ap, sym, append-nil, ◌⊎◌, ℕ, in
 use Rattle.std.specs.Fmt.{digits}
 use Rattle.arraystring_run.specs.Line.{IsLineOf}
 use Rattle.arraystring_run.specs.Player.{IsPlayed, IsPartPlayed, IsOutcome}
-use Rattle.arraystring_run.specs.Program.{capacity_named, bytes_of, status_of, usage_line, fault_line, report_of, IsOutcomeAt, status_at, report_at, Service, IsServed}
+use Rattle.arraystring_run.specs.Program.{capacity_named, byte_count_of, status_of, usage_line, fault_line, report_of, IsOutcomeAt, status_of_program, report_of_program, Service, IsServed}
 use Rattle.arraystring_run.specs.ScriptLines.{IsBadAt}
 use Rattle.arraystring_run.specs.Writing.{AppendsPrefix}
 use Rattle.arraystring_run.specs.declared.commands.Command.{Command}
@@ -28,8 +28,8 @@ capacity_named-other_words = refl
 capacity_named-no_word : capacity_named None ≡ None
 capacity_named-no_word = refl
 
-bytes_of-each : map bytes_of (Small ∷ Cache ∷ Max ∷ []) ≡ 23 ∷ 63 ∷ 255 ∷ []
-bytes_of-each = refl
+byte_count_of-each : map byte_count_of (Small ∷ Cache ∷ Max ∷ []) ≡ 23 ∷ 63 ∷ 255 ∷ []
+byte_count_of-each = refl
 
 status_of-each : map (status_of {A = ℕ}) (Ok 7 ∷ Err (BadLine 1) ∷ Err Memory ∷ Err Read ∷ Err Write ∷ []) ≡ 0 ∷ 2 ∷ 3 ∷ 4 ∷ 4 ∷ []
 status_of-each = refl
@@ -49,17 +49,17 @@ report_of-played = refl
 report_of-fault : report_of {A = ℕ} (Err Memory) ≡ codes "out of memory" ++ 0x0A ∷ []
 report_of-fault = refl
 
-status_at-no_capacity : status_at None ≡ 2
-status_at-no_capacity = refl
+status_of_program-no_capacity : status_of_program None ≡ 2
+status_of_program-no_capacity = refl
 
-status_at-a_capacity : status_at (Some (Err Memory)) ≡ 3
-status_at-a_capacity = refl
+status_of_program-a_capacity : status_of_program (Some (Err Memory)) ≡ 3
+status_of_program-a_capacity = refl
 
-report_at-no_capacity : report_at None ≡ codes "usage: arraystring_run small or cache or max" ++ 0x0A ∷ []
-report_at-no_capacity = refl
+report_of_program-no_capacity : report_of_program None ≡ codes "usage: arraystring_run small or cache or max" ++ 0x0A ∷ []
+report_of_program-no_capacity = refl
 
-report_at-a_capacity : report_at (Some (Err Memory)) ≡ codes "out of memory" ++ 0x0A ∷ []
-report_at-a_capacity = refl
+report_of_program-a_capacity : report_of_program (Some (Err Memory)) ≡ codes "out of memory" ++ 0x0A ∷ []
+report_of_program-a_capacity = refl
 
 -- what the script `capacity` prints at the capacity 23
 abbrev output : List ℕ

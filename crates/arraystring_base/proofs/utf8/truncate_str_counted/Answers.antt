@@ -10,4 +10,4 @@ pub returns-clause-value : goal.returns-clause-value
 returns-clause-value c =
     let cut = c.last_boundary-end.ensures in
     let end = c.last_boundary-end.result in
-    c.text_to.ensures ∙ cut-at c.args.text.now c.args.size end c.utf8.text cut.boundary cut.at_most cut.nearest
+    c.text_before_boundary.ensures ∙ cut-at c.args.text.now c.args.size end c.utf8.text cut.boundary cut.at_most cut.nearest

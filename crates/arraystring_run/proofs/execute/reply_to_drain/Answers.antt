@@ -1,5 +1,5 @@
 use Rattle.std.proofs.Common.{◌∙◌, rules, rules, ap, sym}
-use Rattle.arraystring.specs.Drained.{with_left}
+use Rattle.arraystring.specs.Drained.{result_with_left}
 use Rattle.arraystring_run.specs.Runs.{Text, reply_of}
 use Rattle.arraystring_run.proofs.execute.reply_to_drain.Goals as goal
 
@@ -11,4 +11,4 @@ from_str_unchecked-requires g c =
 pub returns-in-Ok : goal.returns-in-Ok
 returns-in-Ok g c =
     let same = c.as_str-left.ensures.chars in
-    ap Text (c.from_str_unchecked.ensures ∙ same) ∙ ap (λ a. reply_of Text (with_left a)) (sym c.in-Ok.is)
+    ap Text (c.from_str_unchecked.ensures ∙ same) ∙ ap (λ a. reply_of Text (result_with_left a)) (sym c.in-Ok.is)

@@ -102,7 +102,7 @@ alike (c ∷ cs) t n m le = go (is_tight c t n) refl (alike cs (effect c t n).te
 
 pub returns-clause-second_replies : goal.returns-clause-second_replies
 returns-clause-second_replies g c = elim c.if-not-is_empty.branch [
-  | then-not-is_empty w ↦ ap (λ v. map view_of v.items) w.second_replies-is ∙ w.add_replies-first_tight.ensures.replies
+  | then-not-is_empty w ↦ ap (λ v. map view_of v.items) w.second_replies-is ∙ w.execute_all-first_tight.ensures.replies
   | else-not-is_empty w ↦
       ap (λ v. map view_of v.items) w.second_replies-is ∙ ap (map view_of) c.in_ok-second_replies.ensures.items
       ∙ sym (of-none _ c.args.second.now.text (cap g.row.M) w.if-not-is_empty.ensures).0
@@ -110,20 +110,20 @@ returns-clause-second_replies g c = elim c.if-not-is_empty.branch [
 
 pub returns-clause-second_text : goal.returns-clause-second_text
 returns-clause-second_text g c = elim c.if-not-is_empty.branch [
-  | then-not-is_empty w ↦ ap (λ t. t.text) w.second-is ∙ w.add_replies-first_tight.ensures.text
+  | then-not-is_empty w ↦ ap (λ t. t.text) w.second-is ∙ w.execute_all-first_tight.ensures.text
   | else-not-is_empty w ↦ ap (λ t. t.text) w.second-is ∙ sym (of-none _ c.args.second.now.text (cap g.row.M) w.if-not-is_empty.ensures).1
 ]
 
 pub returns-clause-second_tight : goal.returns-clause-second_tight
 returns-clause-second_tight g c = elim c.if-not-is_empty.branch [
-  | then-not-is_empty w ↦ first_tight-at _ _ _ _ (w.first_tight-is ∙ w.add_replies-first_tight.ensures.first_tight)
+  | then-not-is_empty w ↦ first_tight-at _ _ _ _ (w.first_tight-is ∙ w.execute_all-first_tight.ensures.first_tight)
   | else-not-is_empty w ↦
       first_tight-at _ _ _ _ (w.first_tight-is ∙ sym (of-none _ c.args.second.now.text (cap g.row.M) w.if-not-is_empty.ensures).2)
 ]
 
 pub returns-clause-one_each : goal.returns-clause-one_each
 returns-clause-one_each g c = elim c.if-not-is_empty.branch [
-  | then-not-is_empty w ↦ (c.in_ok-first_outcome.ensures.one_each, ap (λ v. v.len) w.second_replies-is ∙ w.add_replies-first_tight.ensures.one_each)
+  | then-not-is_empty w ↦ (c.in_ok-first_outcome.ensures.one_each, ap (λ v. v.len) w.second_replies-is ∙ w.execute_all-first_tight.ensures.one_each)
   | else-not-is_empty w ↦ (
     c.in_ok-first_outcome.ensures.one_each,
     ap (λ v. v.len) w.second_replies-is ∙ c.in_ok-second_replies.ensures.len ∙ sym (ap length (is_empty-none c.args.commands.now w.if-not-is_empty.ensures)),

@@ -34,7 +34,7 @@ returns-in-TryPush g c =
 pub returns-in-PushStr : goal.returns-in-PushStr
 returns-in-PushStr g c =
     let given = chars c.in-PushStr.given.now in
-    rw (c.in-PushStr.is, c.lacks_room-in-PushStr.ensures, c.size_of-in-PushStr.ensures)
+    rw (c.in-PushStr.is, c.lacks_room-in-PushStr.ensures, c.size_of_text-in-PushStr.ensures)
     (cut-over given (size c.args.text.now.text) (cap g.row.N) c.text_fits.ensures)
 
 pub returns-then-index-len : goal.returns-then-index-len
@@ -51,7 +51,7 @@ returns-then-is_ok g c =
     rw (
       c.in-InsertStr.is,
       c.lacks_room-then-is_ok.ensures,
-      c.size_of-then-is_ok.ensures,
+      c.size_of_text-then-is_ok.ensures,
       made t c.in-InsertStr.index given (cap g.row.N) b,
     ) (cut-over given (size t) (cap g.row.N) c.text_fits.ensures)
 

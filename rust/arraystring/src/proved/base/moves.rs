@@ -21,7 +21,7 @@ use crate::leaf::{move_bytes, move_long_run, put_vector, vector_at, write_bytes}
 /// Both runs must lie in the array, and the count of moves plus `len` must be below 2^64.
 #[inline(always)]
 pub fn shift<const N: usize>(
-    array: &mut [crate::leaf::Place; N],
+    array: &mut [crate::leaf::MaybeByte; N],
     from: usize,
     to: usize,
     len: usize,
@@ -44,7 +44,7 @@ pub fn shift<const N: usize>(
 /// Both runs must lie in the array, and the count of moves plus `len` must be below 2^64.
 #[inline(always)]
 pub fn shift_by_call<const N: usize>(
-    array: &mut [crate::leaf::Place; N],
+    array: &mut [crate::leaf::MaybeByte; N],
     from: usize,
     to: usize,
     len: usize,
@@ -54,23 +54,23 @@ pub fn shift_by_call<const N: usize>(
 
 /// Moves `len` bytes: fewer than 16, and at most `N`. `N` is a constant, so the compiler leaves out the branches for more bytes.
 #[inline(always)]
-fn move_short_run<const N: usize>(all: &mut [crate::leaf::Place], from: usize, to: usize, len: usize) {
+fn move_short_run<const N: usize>(all: &mut [crate::leaf::MaybeByte], from: usize, to: usize, len: usize) {
     if N >= 4 && len >= 4 {
         if N >= 8 && len >= 8 {
-            move_ends::<8>(all, from, to, len);
+            move_by_two_vectors::<8>(all, from, to, len);
         } else {
-            move_ends::<4>(all, from, to, len);
+            move_by_two_vectors::<4>(all, from, to, len);
         }
     } else if N >= 2 && len >= 2 {
-        move_ends::<2>(all, from, to, len);
+        move_by_two_vectors::<2>(all, from, to, len);
     } else if len == 1 {
-        move_ends::<1>(all, from, to, len);
+        move_by_two_vectors::<1>(all, from, to, len);
     }
 }
 
 /// Moves `len` bytes, from `K` to `2 * K` of them: the first `K` and the last `K`, which may overlap.
 #[inline(always)]
-pub(crate) fn move_ends<const K: usize>(all: &mut [crate::leaf::Place], from: usize, to: usize, len: usize) {
+pub(crate) fn move_by_two_vectors<const K: usize>(all: &mut [crate::leaf::MaybeByte], from: usize, to: usize, len: usize) {
     let rest = len - K;
     let first = vector_at::<K>(all, from);
     let last = vector_at::<K>(all, from + rest);
@@ -84,7 +84,7 @@ pub(crate) fn move_ends<const K: usize>(all: &mut [crate::leaf::Place], from: us
 ///
 /// `given` must fit into the array from there.
 #[inline(always)]
-pub fn write_over<const N: usize>(array: &mut [crate::leaf::Place; N], at: usize, given: &[u8]) {
+pub fn write_over<const N: usize>(array: &mut [crate::leaf::MaybeByte; N], at: usize, given: &[u8]) {
     let all = &mut array[..];
     if N < 16 || given.len() < 16 {
         write_short_run::<N>(all, at, given);
@@ -100,30 +100,30 @@ pub fn write_over<const N: usize>(array: &mut [crate::leaf::Place; N], at: usize
 ///
 /// `given` must fit into the array from there.
 #[inline(always)]
-pub fn write_by_call<const N: usize>(array: &mut [crate::leaf::Place; N], at: usize, given: &[u8]) {
+pub fn write_by_call<const N: usize>(array: &mut [crate::leaf::MaybeByte; N], at: usize, given: &[u8]) {
     write_bytes(&mut array[..], given, at);
 }
 
 /// Writes `given`: fewer than 16 bytes, and at most `N`. The compiler leaves out the branches for more bytes.
 #[inline(always)]
-fn write_short_run<const N: usize>(all: &mut [crate::leaf::Place], at: usize, given: &[u8]) {
+fn write_short_run<const N: usize>(all: &mut [crate::leaf::MaybeByte], at: usize, given: &[u8]) {
     let len = given.len();
     if N >= 4 && len >= 4 {
         if N >= 8 && len >= 8 {
-            copy_ends::<8>(all, at, given);
+            write_by_two_vectors::<8>(all, at, given);
         } else {
-            copy_ends::<4>(all, at, given);
+            write_by_two_vectors::<4>(all, at, given);
         }
     } else if N >= 2 && len >= 2 {
-        copy_ends::<2>(all, at, given);
+        write_by_two_vectors::<2>(all, at, given);
     } else if len == 1 {
-        copy_ends::<1>(all, at, given);
+        write_by_two_vectors::<1>(all, at, given);
     }
 }
 
 /// Writes `given`, from `K` to `2 * K` bytes: the first `K` and the last `K`, which may overlap.
 #[inline(always)]
-fn copy_ends<const K: usize>(all: &mut [crate::leaf::Place], at: usize, given: &[u8]) {
+fn write_by_two_vectors<const K: usize>(all: &mut [crate::leaf::MaybeByte], at: usize, given: &[u8]) {
     let rest = given.len() - K;
     let first = vector_at::<K>(given, 0);
     let last = vector_at::<K>(given, rest);

@@ -57,12 +57,12 @@ impl<'a> FusedIterator for Units<'a> {}
 /// The character of the pair that `high` begins, and the units after the pair.
 #[inline]
 fn pair(high: u16, rest: &[u16]) -> Option<(char, &[u16])> {
-    if !is_high(high) {
+    if !is_high_surrogate(high) {
         return None;
     }
     let (second, rest) = rest.split_first()?;
     let low = *second;
-    if !is_low(low) {
+    if !is_low_surrogate(low) {
         return None;
     }
     let ch = char::from_u32(0x1_0000 + (high as u32 - 0xD800) * 0x400 + (low as u32 - 0xDC00))?;
@@ -71,12 +71,12 @@ fn pair(high: u16, rest: &[u16]) -> Option<(char, &[u16])> {
 
 /// Whether a unit is a surrogate that begins a pair.
 #[inline]
-fn is_high(unit: u16) -> bool {
+fn is_high_surrogate(unit: u16) -> bool {
     matches!(unit, 0xD800..=0xDBFF)
 }
 
 /// Whether a unit is a surrogate that ends a pair.
 #[inline]
-fn is_low(unit: u16) -> bool {
+fn is_low_surrogate(unit: u16) -> bool {
     matches!(unit, 0xDC00..=0xDFFF)
 }

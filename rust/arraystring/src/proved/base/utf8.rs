@@ -2,7 +2,7 @@
 //! The UTF-8 of texts and characters: boundaries, cuts, the first and the last character of a text, and the
 //! bytes of a character. Sizes and indices count bytes of UTF-8.
 
-use crate::leaf::{byte, put_array, text_to};
+use crate::leaf::{byte, put_array, text_before_boundary};
 use core::char;
 
 /// Returns whether `at` is a boundary of `text`: the size of one of its prefixes of whole characters.
@@ -21,7 +21,7 @@ pub fn truncate_str(text: &str, size: u8) -> &str {
         return text;
     }
     let end = last_boundary(text, limit);
-    text_to(text, end)
+    text_before_boundary(text, end)
 }
 
 /// The last boundary that is not past `limit`. It looks once at each byte from `limit` back to it.
@@ -31,7 +31,7 @@ fn last_boundary(text: &str, limit: usize) -> usize {
     let mut end = limit;
     // The first byte of a text continues no character, and at most three bytes in a row do. The bound is for
     // the compiler, which unrolls the loop.
-    while continues(look(all, end)) && limit - end < 3 {
+    while is_continuation(look(all, end)) && limit - end < 3 {
         end -= 1;
     }
     end
@@ -50,7 +50,7 @@ pub fn look(bytes: &[u8], at: usize) -> u8 {
 
 /// Whether a byte continues a character that began before it.
 #[inline]
-fn continues(byte: u8) -> bool {
+fn is_continuation(byte: u8) -> bool {
     matches!(byte, 0x80..=0xBF)
 }
 
@@ -144,19 +144,19 @@ fn char_before_end(text: &str) -> (usize, char) {
 ///
 /// `at` plus the number of bytes of the UTF-8 of `ch` must be at most `N`.
 #[inline(always)]
-pub fn encode<const N: usize>(ch: char, array: &mut [crate::leaf::Place; N], at: usize) -> usize {
+pub fn encode<const N: usize>(ch: char, array: &mut [crate::leaf::MaybeByte; N], at: usize) -> usize {
     let code = ch as u32;
     let all = &mut array[..];
     if code < 0x80 {
         put_array(all, at, [code as u8]);
         return 1;
     }
-    encode_wide(ch, all, at)
+    encode_non_ascii(ch, all, at)
 }
 
 /// Writes the UTF-8 of a character that is not ASCII. The compiler inlines it where that pays, and a cold function only
 /// calls it.
-fn encode_wide(ch: char, all: &mut [crate::leaf::Place], at: usize) -> usize {
+fn encode_non_ascii(ch: char, all: &mut [crate::leaf::MaybeByte], at: usize) -> usize {
     let code = ch as u32;
     let last = (0x80 + code % 64) as u8;
     if code < 0x800 {

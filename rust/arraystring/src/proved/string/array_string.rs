@@ -93,7 +93,7 @@ pub struct ArrayString<const N: usize> {
     /// The size of the text.
     pub(crate) size: u8,
     /// The `size` bytes from `start` on are the text. They are UTF-8, and the others have no meaning.
-    pub(crate) array: [crate::leaf::Place; N],
+    pub(crate) array: [crate::leaf::MaybeByte; N],
 }
 
 impl<const N: usize> ArrayString<N> {
@@ -101,7 +101,7 @@ impl<const N: usize> ArrayString<N> {
     #[inline(always)]
     pub const fn new() -> Self {
         ArrayString {
-            array: [crate::leaf::UNWRITTEN; N],
+            array: [crate::leaf::NEW_BYTE; N],
             start: 0,
             size: 0,
         }

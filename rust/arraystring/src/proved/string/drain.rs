@@ -25,13 +25,13 @@ pub struct Drain<const N: usize> {
     pub(crate) size: u8,
     /// The array of the string, as it was before the removal. The `size` bytes from `start` on are
     /// UTF-8.
-    pub(crate) array: [crate::leaf::Place; N],
+    pub(crate) array: [crate::leaf::MaybeByte; N],
 }
 
 impl<const N: usize> Drain<N> {
     /// Returns a drain of which the `size` bytes of the array from `start` on are left.
     #[inline(always)]
-    pub(crate) fn new(array: [crate::leaf::Place; N], start: u8, size: u8) -> Self {
+    pub(crate) fn new(array: [crate::leaf::MaybeByte; N], start: u8, size: u8) -> Self {
         Drain {
             front: 0,
             start,

@@ -1,7 +1,7 @@
 use Rattle.std.proofs.Common.{◌∷◌, sym, ap, ◌∙◌, arith, length}
 use Rattle.arraystring_base.specs.declared.utf16.Unit16.TheVariants.{Char}
 use Rattle.arraystring_base.specs.Reading.{reading}
-use Rattle.arraystring_base.proofs.ReadingLaws.{single_item-character, single_item-lone, reading-pair, reading-single}
+use Rattle.arraystring_base.proofs.ReadingLaws.{item_of_unpaired_unit-character, item_of_unpaired_unit-lone, reading-pair, reading-single}
 use Rattle.arraystring_base.proofs.utf16.UnitsIterator.next.Goals as goal
 
 -- a scalar value is no surrogate, so no pair begins with it
@@ -11,7 +11,7 @@ returns-in-Some-clause-steps c =
     let left = c.in_ok-first.rest.now in
     sym c.self.view_is ∙ ap reading c.in_ok-first.ensures.cases.0
     ∙ reading-single first left (λ low more e high lower. absurd (grind arith))
-    ∙ ap (λ item. item ∷ reading left) (single_item-character first (grind arith) ∙ ap Char (sym c.in-Some.ensures.value.1))
+    ∙ ap (λ item. item ∷ reading left) (item_of_unpaired_unit-character first (grind arith) ∙ ap Char (sym c.in-Some.ensures.value.1))
 
 pub returns-in-Some-clause-goes : goal.returns-in-Some-clause-goes
 returns-in-Some-clause-goes c =
@@ -36,7 +36,7 @@ returns-clause-steps c =
     let first = c.in_ok-first.first.now in
     let left = c.in_ok-first.rest.now in
     sym c.self.view_is ∙ ap reading c.in_ok-first.ensures.cases.0 ∙ reading-single first left c.in_default-pair.ensures.none
-    ∙ ap (λ item. item ∷ reading left) (single_item-lone first (grind arith) (grind arith))
+    ∙ ap (λ item. item ∷ reading left) (item_of_unpaired_unit-lone first (grind arith) (grind arith))
 
 pub returns-clause-goes : goal.returns-clause-goes
 returns-clause-goes c =

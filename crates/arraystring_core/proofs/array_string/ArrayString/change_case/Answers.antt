@@ -9,12 +9,12 @@ overflow_add-offset g c = omega (arith, opened-within c.self.invariant c.self.vi
 pub overflow_add-offset-2 : goal.overflow_add-offset-2
 overflow_add-offset-2 g c = omega (arith, opened-within c.self.invariant c.self.view_is _ c.requires.end)
 
-pub change_bytes-requires : goal.change_bytes-requires
-change_bytes-requires g c =
+pub change_case_of_bytes-requires : goal.change_case_of_bytes-requires
+change_case_of_bytes-requires g c =
     (search rules, (omega arith, omega (arith, opened-within c.self.invariant c.self.view_is _ c.requires.end)))
 
 pub invariant_of-self : goal.invariant_of-self
-invariant_of-self g c = (changed (case-change c.args.case) c.self.invariant c.self.view_is c.requires.order c.requires.start c.requires.end c.change_bytes.ensures).in_array
+invariant_of-self g c = (changed (case-change c.args.case) c.self.invariant c.self.view_is c.requires.order c.requires.start c.requires.end c.change_case_of_bytes.ensures).in_array
 
 pub returns : goal.returns
-returns g c = (changed (case-change c.args.case) c.self.invariant c.self.view_is c.requires.order c.requires.start c.requires.end c.change_bytes.ensures).shown
+returns g c = (changed (case-change c.args.case) c.self.invariant c.self.view_is c.requires.order c.requires.start c.requires.end c.change_case_of_bytes.ensures).shown

@@ -6,19 +6,19 @@ use Rattle.arraystring_base.proofs.BoundaryLaws.{boundary-to_bytes, first-char, 
 use Rattle.arraystring_core.proofs.array_string.ArrayString.char_at.Given as given
 use Rattle.arraystring_core.proofs.array_string.ArrayString.char_at.Goals as goal
 
-pub text_from-requires : goal.text_from-requires
-text_from-requires g c =
+pub text_from_boundary-requires : goal.text_from_boundary-requires
+text_from_boundary-requires g c =
     boundary-to_bytes c.args.self.now.text c.as_str.result.now c.args.at c.as_str.utf8 (sym c.as_str.ensures.bytes) c.requires.boundary
 
 pub first_char-requires : goal.first_char-requires
 first_char-requires g c =
-    omega (arith, size-is c.args.self.now.text, ap length c.as_str.ensures.bytes, ap length c.text_from.ensures, length-drop c.args.at c.as_str.result.now)
+    omega (arith, size-is c.args.self.now.text, ap length c.as_str.ensures.bytes, ap length c.text_from_boundary.ensures, length-drop c.args.at c.as_str.result.now)
 
 -- the text goes on from there with the character
 goes_on : (g : given.Over) (c : goal.After-first_char g)
     → (rest : List ℕ) × (back c.args.self.now.text c.args.at ≡ c.first_char.result.0 ∷ rest)
 goes_on g c =
-    let shown = ap (drop c.args.at) (sym c.as_str.ensures.bytes) ∙ sym c.text_from.ensures ∙ c.first_char.ensures.first.1 in
+    let shown = ap (drop c.args.at) (sym c.as_str.ensures.bytes) ∙ sym c.text_from_boundary.ensures ∙ c.first_char.ensures.first.1 in
     first-char c.args.self.now.text c.args.at c.requires.boundary c.first_char.result.0 c.first_char.ensures.first.0 shown
 
 pub returns-clause-first : goal.returns-clause-first

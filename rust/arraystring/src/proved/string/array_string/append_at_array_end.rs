@@ -25,7 +25,7 @@ impl<const N: usize> ArrayString<N> {
     #[cold]
     #[inline(never)]
     pub(super) fn compact_and_push(
-        array: &mut [crate::leaf::Place; N],
+        array: &mut [crate::leaf::MaybeByte; N],
         ch: char,
         start: usize,
         size: usize,
@@ -49,7 +49,7 @@ impl<const N: usize> ArrayString<N> {
     /// Appends what fits of `string` to a text that need not begin at the start of the array. It stands apart
     /// from `push_str`, which would be twice as long.
     #[inline(never)]
-    pub(super) fn push_str_behind_start(&mut self, string: &str) {
+    pub(super) fn push_str_at_offset(&mut self, string: &str) {
         let room = Self::capacity() - self.len();
         let _ = self.try_push_str(truncate_str(string, room));
     }

@@ -58,13 +58,13 @@ impl<const N: usize> ArrayString<N> {
     #[inline]
     fn change_case(&mut self, start: usize, end: usize, case: Case) {
         let offset = self.start as usize;
-        change_bytes(&mut self.array, offset + start, offset + end, case);
+        change_case_of_bytes(&mut self.array, offset + start, offset + end, case);
     }
 }
 
 /// Puts the ASCII letters among the bytes from `start` to `end` into a case.
 #[inline]
-fn change_bytes<const N: usize>(array: &mut [crate::leaf::Place; N], start: usize, end: usize, case: Case) {
+fn change_case_of_bytes<const N: usize>(array: &mut [crate::leaf::MaybeByte; N], start: usize, end: usize, case: Case) {
     let all = &mut array[..];
     match case {
         Case::Upper => make_upper(all, start, end),

@@ -3,7 +3,7 @@
 
 use crate::proved::string::ArrayString;
 use crate::proved::string::range_ends::plain_ends;
-use crate::leaf::{text_from, text_to};
+use crate::leaf::{text_from_boundary, text_before_boundary};
 use core::ops::RangeBounds;
 
 impl<const N: usize> ArrayString<N> {
@@ -40,6 +40,6 @@ impl<const N: usize> ArrayString<N> {
     /// The part between two boundaries, which are not tested here.
     #[inline]
     fn slice_unchecked(&self, start: usize, end: usize) -> &str {
-        text_from(text_to(self.as_str(), end), start)
+        text_from_boundary(text_before_boundary(self.as_str(), end), start)
     }
 }

@@ -58,7 +58,7 @@ impl<const N: usize> ArrayString<N> {
     #[inline]
     pub fn push_str(&mut self, string: &str) {
         if self.start > 0 {
-            return self.push_str_behind_start(string);
+            return self.push_str_at_offset(string);
         }
         let (end, given) = (self.end(), string.as_bytes());
         let room = Self::capacity() - self.len();

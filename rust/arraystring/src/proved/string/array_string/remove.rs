@@ -4,7 +4,7 @@
 
 use crate::proved::string::ArrayString;
 use crate::proved::base::error::{Error, Utf8};
-use crate::leaf::text_from;
+use crate::leaf::text_from_boundary;
 use crate::proved::base::utils::{first_char, last_char};
 
 impl<const N: usize> ArrayString<N> {
@@ -62,7 +62,7 @@ impl<const N: usize> ArrayString<N> {
     #[inline]
     pub fn split_off(&mut self, at: u8) -> Result<Self, Error> {
         self.check_index(at)?;
-        let rest = Self::from_str_unchecked(text_from(self.as_str(), at as usize));
+        let rest = Self::from_str_unchecked(text_from_boundary(self.as_str(), at as usize));
         self.set_len(at);
         Ok(rest)
     }
@@ -98,6 +98,6 @@ impl<const N: usize> ArrayString<N> {
     /// The character that begins at a boundary before the end, and how many bytes it takes.
     #[inline]
     fn char_at(&self, at: usize) -> (char, usize) {
-        first_char(text_from(self.as_str(), at))
+        first_char(text_from_boundary(self.as_str(), at))
     }
 }

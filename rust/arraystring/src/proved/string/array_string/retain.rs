@@ -27,7 +27,7 @@ impl<const N: usize> ArrayString<N> {
 /// characters that were kept so far. If `f` panics, the text is those bytes.
 #[inline]
 fn retain_in_array<const N: usize, F: FnMut(char) -> bool>(
-    array: &mut [crate::leaf::Place; N],
+    array: &mut [crate::leaf::MaybeByte; N],
     kept: &mut u8,
     offset: usize,
     size: usize,

@@ -49,7 +49,7 @@ impl<const N: usize> ArrayString<N> {
         let (offset, size) = (self.start as usize, self.size as usize);
         let (len, tail) = (ch.len_utf8(), size - at);
         if offset + size + len > Self::capacity() as usize {
-            let mut utf8 = [crate::leaf::UNWRITTEN; 4];
+            let mut utf8 = [crate::leaf::NEW_BYTE; 4];
             encode(ch, &mut utf8, 0);
             // SAFETY: `encode` wrote the `len` bytes of the UTF-8 of `ch` at the start of `utf8`.
             let given = unsafe { str::from_utf8_unchecked(part(&utf8, 0, len)) };

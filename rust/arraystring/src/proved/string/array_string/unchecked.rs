@@ -16,7 +16,7 @@ impl<const N: usize> ArrayString<N> {
     /// All of `string` must fit.
     #[inline]
     pub fn from_str_unchecked(string: &str) -> Self {
-        let mut array = [crate::leaf::UNWRITTEN; N];
+        let mut array = [crate::leaf::NEW_BYTE; N];
         write_by_call(&mut array, 0, string.as_bytes());
         ArrayString {
             array,

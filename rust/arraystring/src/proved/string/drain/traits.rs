@@ -21,7 +21,7 @@ impl<const N: usize> fmt::Debug for Drain<N> {
 impl<const N: usize> Default for Drain<N> {
     #[inline]
     fn default() -> Self {
-        Drain::new([crate::leaf::UNWRITTEN; N], 0, 0)
+        Drain::new([crate::leaf::NEW_BYTE; N], 0, 0)
     }
 }
 

@@ -4,7 +4,7 @@ use Rattle.arraystring.proofs.TextLaws.{utf8-well_formed}
 use Rattle.arraystring_run.specs.declared.commands.Command.TheVariants as command
 use Rattle.arraystring_run.specs.Line.{Argument, Number, Character, Text, AreSpelled, arguments, space}
 use Rattle.arraystring_run.proofs.LineLemmas.{unread, no-character, no-number, if-none, line-parts, line-given, spelled-one}
-use Rattle.arraystring_run.proofs.line.command_given.Goals as goal
+use Rattle.arraystring_run.proofs.line.command_with_arguments.Goals as goal
 
 -- a space is followed by an argument
 has-argument : (rest : List ℕ) (given : List Argument) → AreSpelled (space ∷ rest) given → given ≢ []
@@ -66,10 +66,10 @@ returns-in_ok-number-in-split_off-clause-some c =
 
 -- `grind` goes through the commands: the word of each of fewer arguments is none of those above, or it has no argument
 pub returns-in_default-clause-none : goal.returns-in_default-clause-none
-returns-in_default-clause-none c = if-none c.command_given_more.result (λ none d line. elim (cases_lt (length (arguments d)) 2) [
+returns-in_default-clause-none c = if-none c.command_of_number_and_more.result (λ none d line. elim (cases_lt (length (arguments d)) 2) [
   | inr more ↦ none d more line
   | inl few ↦
       let parts = line-parts c.args.word.now c.args.rest.now d c.requires line in
       let given = has-argument c.args.rest.now (arguments d) parts.1 in
       grind arith
-]) c.command_given_more.ensures.none
+]) c.command_of_number_and_more.ensures.none

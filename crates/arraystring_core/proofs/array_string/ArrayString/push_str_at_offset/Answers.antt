@@ -3,7 +3,7 @@ use Rattle.arraystring_base.specs.Text.{size, cap}
 use Rattle.arraystring_base.proofs.TextLaws.{chars-bytes}
 use Rattle.arraystring_base.proofs.CutLaws.{cut-fits}
 use Rattle.arraystring_core.proofs.EditLaws.{makes, addition-fits}
-use Rattle.arraystring_core.proofs.array_string.ArrayString.push_str_behind_start.Goals as goal
+use Rattle.arraystring_core.proofs.array_string.ArrayString.push_str_at_offset.Goals as goal
 
 pub returns : goal.returns
 returns g c =

@@ -2,7 +2,7 @@ use Rattle.std.proofs.Common.{[], ◌∷◌, ◌∙◌, refl, sym, subst}
 use Rattle.std.proofs.lemmas.List.{append-nil}
 use Rattle.arraystring_run.specs.Line.{IsNumber, space}
 use Rattle.arraystring_run.proofs.LineLemmas.{same-word, digits-one}
-use Rattle.arraystring_run.proofs.line.number_before.Goals as goal
+use Rattle.arraystring_run.proofs.line.number_before_space.Goals as goal
 
 pub returns-in_err-digits-clause-none : goal.returns-in_err-digits-clause-none
 returns-in_err-digits-clause-none c =

@@ -9,7 +9,7 @@ use Rattle.arraystring_run.specs.declared.commands.Command.TheVariants as comman
 use Rattle.arraystring_run.specs.Line.{Argument, Number, Character, Text, AreSpelled, IsNumberBefore, arguments, word, space}
 use Rattle.arraystring_run.proofs.CommandLemmas.{kind, numbers_first, kinds-numbers_first}
 use Rattle.arraystring_run.proofs.LineLemmas.{Reads, same-word, digits-one, if-none, unread, line-parts, no-character, no-number, line-given, spelled-one}
-use Rattle.arraystring_run.proofs.line.command_given_more.Goals as goal
+use Rattle.arraystring_run.proofs.line.command_of_number_and_more.Goals as goal
 
 reads-before : (rest : List ℕ) (k : ℕ) (kinds : List ℕ) → Reads rest (0 ∷ k ∷ kinds)
     → (n : ℕ) × (behind : List ℕ) × IsNumberBefore rest n behind × Reads behind (k ∷ kinds)

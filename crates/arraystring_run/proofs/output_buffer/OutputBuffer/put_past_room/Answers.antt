@@ -4,21 +4,21 @@ use Rattle.std.proofs.lemmas.Grind.{common_steps}
 use Rattle.std.proofs.lemmas.Result.{on_ok_weaker}
 use Rattle.arraystring_run.specs.Writing.{AppendsPrefix}
 use Rattle.arraystring_run.proofs.PrintLemmas.{front-all, front-more, front-then, filled, passed-all}
-use Rattle.arraystring_run.proofs.waiting.Waiting.put_more.Goals as goal
+use Rattle.arraystring_run.proofs.output_buffer.OutputBuffer.put_past_room.Goals as goal
 
 pub returns-in_err-send-clause-part : goal.returns-in_err-send-clause-part
 returns-in_err-send-clause-part g c =
     subst (AppendsPrefix _ _) (filled _ _ _ _ c.split_at.result.1.now _ c.split_at.ensures.front c.split_at.ensures.back c.add.ensures)
     (front-more _ _ _ _ c.in_err-send.ensures.part)
 
-pub returns-then-rest-gt-BUFFER-clause-whole : goal.returns-then-rest-gt-BUFFER-clause-whole
-returns-then-rest-gt-BUFFER-clause-whole g c =
+pub returns-then-rest-gt-BUFFER_SIZE-clause-whole : goal.returns-then-rest-gt-BUFFER_SIZE-clause-whole
+returns-then-rest-gt-BUFFER_SIZE-clause-whole g c =
     on_ok_weaker c.write_bytes.result (λ p. passed-all _ _ _ _ _ _
     (filled _ _ _ _ _ _ c.split_at.ensures.front c.split_at.ensures.back c.add.ensures) c.in_ok-send.ensures.sent
     (Appends-trans _ _ _ _ _ c.in_ok-send.ensures.whole p)) c.write_bytes.ensures.whole
 
-pub returns-then-rest-gt-BUFFER-clause-part : goal.returns-then-rest-gt-BUFFER-clause-part
-returns-then-rest-gt-BUFFER-clause-part g c =
+pub returns-then-rest-gt-BUFFER_SIZE-clause-part : goal.returns-then-rest-gt-BUFFER_SIZE-clause-part
+returns-then-rest-gt-BUFFER_SIZE-clause-part g c =
     subst (AppendsPrefix _ _) (filled _ _ _ _ _ _ c.split_at.ensures.front c.split_at.ensures.back c.add.ensures)
     (front-then _ _ _ _ _ c.in_ok-send.ensures.whole c.write_bytes.ensures.part)
 

@@ -1,7 +1,7 @@
 use Rattle.std.proofs.Common.{◌∷◌, ◌++◌, [], ◌∙◌, ap, map}
 use Rattle.std.proofs.lemmas.List.{map-append}
 use Rattle.arraystring_run.specs.Runs.{view_of}
-use Rattle.arraystring_run.proofs.runs.add_reply.Goals as goal
+use Rattle.arraystring_run.proofs.runs.execute_and_add_reply.Goals as goal
 
 pub returns-clause-reply : goal.returns-clause-reply
 returns-clause-reply g c =

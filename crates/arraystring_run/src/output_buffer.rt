@@ -1,7 +1,7 @@
 //! Bytes that wait in an array until they are written.
 ghost use Rattle.std.specs.Prelude.{◌≡◌, ◌+◌, ◌<◌, ◌≤◌, ◌++◌, [], OnOk, length};
 ghost use Rattle.std.specs.Io.KnownBytes.{Appends};
-ghost use Rattle.arraystring_run.specs.Writing.{AppendsPrefix, IsPassed};
+ghost use Rattle.arraystring_run.specs.Writing.{AppendsPrefix, GoesThroughBuffer};
 
 use crate::writing::write_bytes;
 use std::io;
@@ -9,18 +9,18 @@ use std::io::Write;
 use std::marker::Model;
 
 /// How many bytes can wait.
-const BUFFER: usize = 8192;
+const BUFFER_SIZE: usize = 8192;
 
 /// Bytes that wait to be written. In contracts they are the list of these bytes.
 #[derive(Drop)]
-pub(crate) struct Waiting {
+pub(crate) struct OutputBuffer {
     /// The array, of which the first `count` bytes wait.
-    bytes: [u8; BUFFER],
-    /// How many bytes wait, which is at most `BUFFER`.
+    bytes: [u8; BUFFER_SIZE],
+    /// How many bytes wait, which is at most `BUFFER_SIZE`.
     count: usize,
 }
 
-impl Model for Waiting {
+impl Model for OutputBuffer {
     ghost use Rattle.std.specs.Prelude.{ℕ, ◌≤◌, List, take};
 
     ghost Value = { List ℕ };
@@ -30,14 +30,14 @@ impl Model for Waiting {
     ghost invariant = { λ w. w.count ≤ 8192 };
 }
 
-impl Waiting {
+impl OutputBuffer {
     /// Returns an empty buffer: no byte waits to be written.
     #[inline(always)]
     pub(crate) fn new() -> Self
         ensures { result ≡ [] }
     {
-        Waiting {
-            bytes: [0; BUFFER],
+        OutputBuffer {
+            bytes: [0; BUFFER_SIZE],
             count: 0,
         }
     }
@@ -47,7 +47,7 @@ impl Waiting {
     #[inline(always)]
     pub(crate) fn put<O: Write>(&mut self, output: &mut O, text: &str) -> io::Result<()>
         ensures whole { OnOk result
-            (IsPassed (O.contents output.old) (O.contents output.new) self.old self.new text.now) }
+            (GoesThroughBuffer (O.contents output.old) (O.contents output.new) self.old self.new text.now) }
         ensures part { AppendsPrefix (O.contents output.old) (O.contents output.new)
             (self.old ++ text.now) }
         ensures unsent { length self.old + length text.now ≤ 8192 → output.new ≡ output.old }
@@ -55,8 +55,8 @@ impl Waiting {
             → length self.new + 8192 ≤ length self.old + length text.now) }
     {
         let bytes = text.as_bytes();
-        if bytes.len() > BUFFER - self.count {
-            return self.put_more(output, bytes);
+        if bytes.len() > BUFFER_SIZE - self.count {
+            return self.put_past_room(output, bytes);
         }
         self.add(bytes);
         Ok(())
@@ -66,18 +66,18 @@ impl Waiting {
     /// rest wait.
     #[cold]
     #[inline(never)]
-    fn put_more<O: Write>(&mut self, output: &mut O, bytes: &[u8]) -> io::Result<()>
+    fn put_past_room<O: Write>(&mut self, output: &mut O, bytes: &[u8]) -> io::Result<()>
         requires { 8192 < length self.old + length bytes.now }
         ensures whole { OnOk result
-            (IsPassed (O.contents output.old) (O.contents output.new) self.old self.new bytes.now) }
+            (GoesThroughBuffer (O.contents output.old) (O.contents output.new) self.old self.new bytes.now) }
         ensures part { AppendsPrefix (O.contents output.old) (O.contents output.new)
             (self.old ++ bytes.now) }
         ensures block { OnOk result (length self.new + 8192 ≤ length self.old + length bytes.now) }
     {
-        let (first, rest) = bytes.split_at(BUFFER - self.count);
+        let (first, rest) = bytes.split_at(BUFFER_SIZE - self.count);
         self.add(first);
         self.send(output)?;
-        if rest.len() > BUFFER {
+        if rest.len() > BUFFER_SIZE {
             return write_bytes(output, rest);
         }
         self.add(rest);

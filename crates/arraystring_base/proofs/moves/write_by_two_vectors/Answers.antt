@@ -1,6 +1,6 @@
 use Rattle.std.proofs.Common.{arith}
 use Rattle.arraystring_base.proofs.MoveLemmas.{copied-by-ends}
-use Rattle.arraystring_base.proofs.moves.copy_ends.Goals as goal
+use Rattle.arraystring_base.proofs.moves.write_by_two_vectors.Goals as goal
 
 pub returns : goal.returns
 returns g c =
