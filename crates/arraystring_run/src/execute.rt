@@ -147,7 +147,8 @@ fn reply_to_drain<const N: usize>(outcome: Result<Drain<N>, Error>) -> Reply<N>
 
 /// The reply to `drain`, with the characters from the last to the first.
 fn reply_to_drain_back<const N: usize>(outcome: Result<Drain<N>, Error>) -> Reply<N>
-    ensures { view_of result ≡ reply_of (λ left. Text (reverse left)) (result_with_left outcome.entry) }
+    ensures { view_of result
+        ≡ reply_of (λ left. Text (reverse left)) (result_with_left outcome.entry) }
 {
     match outcome {
         Ok(removed) => Reply::Text(reversed_text(removed)),

@@ -46,8 +46,8 @@ impl OutputBuffer {
     /// written as one block, so that a script takes few writes.
     #[inline(always)]
     pub(crate) fn put<O: Write>(&mut self, output: &mut O, text: &str) -> io::Result<()>
-        ensures whole { OnOk result
-            (GoesThroughBuffer (O.contents output.old) (O.contents output.new) self.old self.new text.now) }
+        ensures whole { OnOk result (GoesThroughBuffer
+            (O.contents output.old) (O.contents output.new) self.old self.new text.now) }
         ensures part { AppendsPrefix (O.contents output.old) (O.contents output.new)
             (self.old ++ text.now) }
         ensures unsent { length self.old + length text.now ≤ 8192 → output.new ≡ output.old }
@@ -68,8 +68,8 @@ impl OutputBuffer {
     #[inline(never)]
     fn put_past_room<O: Write>(&mut self, output: &mut O, bytes: &[u8]) -> io::Result<()>
         requires { 8192 < length self.old + length bytes.now }
-        ensures whole { OnOk result
-            (GoesThroughBuffer (O.contents output.old) (O.contents output.new) self.old self.new bytes.now) }
+        ensures whole { OnOk result (GoesThroughBuffer
+            (O.contents output.old) (O.contents output.new) self.old self.new bytes.now) }
         ensures part { AppendsPrefix (O.contents output.old) (O.contents output.new)
             (self.old ++ bytes.now) }
         ensures block { OnOk result (length self.new + 8192 ≤ length self.old + length bytes.now) }

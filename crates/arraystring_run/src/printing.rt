@@ -44,8 +44,8 @@ fn put_reply<const N: usize, O: Write>(
     output: &mut O,
     reply: &Reply<N>,
 ) -> io::Result<()>
-    ensures whole { OnOk result
-        (GoesThroughBuffer (O.contents output.old) (O.contents output.new) waiting.old waiting.new
+    ensures whole { OnOk result (GoesThroughBuffer
+        (O.contents output.old) (O.contents output.new) waiting.old waiting.new
         (with_newline (reply_line (view_of reply.now)))) }
     ensures part { AppendsPrefix (O.contents output.old) (O.contents output.new)
         (waiting.old ++ with_newline (reply_line (view_of reply.now))) }
@@ -69,7 +69,8 @@ fn put_word_and_value<D: Display + Drop, O: Write>(
     value: D,
 ) -> io::Result<()>
     ensures whole { OnOk result (IfSome (D.output value)
-        (λ bs. GoesThroughBuffer (O.contents output.old) (O.contents output.new) waiting.old waiting.new
+        (λ bs. GoesThroughBuffer
+        (O.contents output.old) (O.contents output.new) waiting.old waiting.new
         (with_newline (word.now ++ bs)))) }
     ensures part { IfSome (D.output value)
         (λ bs. AppendsPrefix (O.contents output.old) (O.contents output.new)
@@ -118,8 +119,8 @@ fn put_text_line<O: Write>(
     word: &str,
     text: &str,
 ) -> io::Result<()>
-    ensures whole { OnOk result
-        (GoesThroughBuffer (O.contents output.old) (O.contents output.new) waiting.old waiting.new
+    ensures whole { OnOk result (GoesThroughBuffer
+        (O.contents output.old) (O.contents output.new) waiting.old waiting.new
         (with_newline (word.now ++ text.now))) }
     ensures part { AppendsPrefix (O.contents output.old) (O.contents output.new)
         (waiting.old ++ with_newline (word.now ++ text.now)) }

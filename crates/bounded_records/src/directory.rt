@@ -39,7 +39,8 @@ impl Model for Directory {
 
     ghost view = { λ d. map.from_entries (entries_as_texts d.users.entries) };
 
-    ghost invariant = { λ d. AreUnderTheirNames (map.from_entries (entries_as_texts d.users.entries)) };
+    ghost invariant = { λ d. AreUnderTheirNames
+        (map.from_entries (entries_as_texts d.users.entries)) };
 }
 
 impl Directory {
