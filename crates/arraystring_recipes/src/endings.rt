@@ -1,17 +1,19 @@
 //! What a text ends with, behind an `if let`.
-ghost use Rattle.std.specs.Prelude.{◌≡◌, ◌<◌, ◌==◌, ◌++◌, ◌∷◌, [], true, false, chars, length};
+ghost use Rattle.std.specs.Prelude.{◌≡◌, ◌≢◌, ◌<◌, ◌==◌, ◌++◌, ◌∷◌, [], ℕ, List, true, false, chars, length};
 ghost use Rattle.std.specs.List.{before_last, position_or_len};
 
 use arraystring::ArrayString;
-use arraystring::laws::{split_last, text_fits};
+use arraystring::laws::{popped, split_last, text_fits};
 
 /// Removes a newline at the end, and says whether there was one.
 #[tactic(auto, using(arraystring::proofs::Rules::texts, arraystring::proofs::Rules::backwards))]
 pub fn chop_newline(line: &mut ArrayString<80>) -> bool
     ensures chopped { result ≡ true → line.old.text ≡ line.new.text ++ 0x0A ∷ [] }
     ensures same { result ≡ false → line.new.text ≡ line.old.text }
+    ensures none { (rest : List ℕ) → result ≡ false → line.old.text ≢ rest ++ 0x0A ∷ [] }
 {
     text_fits(line);
+    popped();
     if let Some(last) = line.pop() {
         if last == '\n' {
             return true;

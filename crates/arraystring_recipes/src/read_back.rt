@@ -2,7 +2,7 @@
 ghost use Rattle.std.specs.Prelude.{◌≡◌, ◌<◌, ◌^◌, ℕ, ℤ, Ok};
 ghost use Rattle.std.specs.Fmt.{decimal, signed_decimal};
 ghost use Rattle.std.specs.Int.RustNames.{FitsSigned};
-ghost use mir.Syntax.Width.{w8, w16, w32, w64};
+ghost use mir.Syntax.Width.{w8, w16, w32, w64, w128};
 
 use arraystring::ArrayString;
 use std::num::ParseIntError;
@@ -91,6 +91,14 @@ pub fn read_i64<const N: usize>(text: &ArrayString<N>) -> Result<i64, ParseIntEr
 #[tactic(auto, using(arraystring::proofs::Rules::read_back))]
 pub fn read_isize<const N: usize>(text: &ArrayString<N>) -> Result<isize, ParseIntError>
     ensures { (z : ℤ) → FitsSigned w64 z → text.now.text ≡ signed_decimal z → result ≡ Ok z }
+{
+    text.as_str().parse()
+}
+
+/// Reads a number of the type `i128` back.
+#[tactic(auto, using(arraystring::proofs::Rules::read_back))]
+pub fn read_i128<const N: usize>(text: &ArrayString<N>) -> Result<i128, ParseIntError>
+    ensures { (z : ℤ) → FitsSigned w128 z → text.now.text ≡ signed_decimal z → result ≡ Ok z }
 {
     text.as_str().parse()
 }

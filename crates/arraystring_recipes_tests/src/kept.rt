@@ -3,7 +3,8 @@ use crate::checks::agree;
 use arraystring::ArrayString;
 use arraystring_recipes::json::sent_and_read;
 use arraystring_recipes::keyed::{
-    Name, put_hashed, put_ordered, read_hashed, read_ordered, take_hashed, take_ordered,
+    Name, count_hashed, count_ordered, put_hashed, put_ordered, read_hashed, read_ordered,
+    take_hashed, take_ordered,
 };
 use arraystring_recipes::scores::{first_of, look_up, record};
 use std::collections::{BTreeMap, HashMap};
@@ -25,11 +26,13 @@ fn names_have_numbers(rt: HostRuntime) {
     let mut ordered = BTreeMap::new(rt.alloc());
     put_ordered(&mut ordered, ann, 7).expect(&rt, "memory");
     agree(&rt, read_ordered(&ordered, &ann), Some(7));
-    agree(&rt, take_ordered(&mut ordered, &ann), Some(7));
+    count_ordered(&mut ordered, ann).expect(&rt, "memory");
+    agree(&rt, take_ordered(&mut ordered, &ann), Some(8));
     let mut hashed = HashMap::new(rt.alloc());
     put_hashed(&mut hashed, ann, 2).expect(&rt, "memory");
     agree(&rt, read_hashed(&hashed, &ann), Some(2));
-    agree(&rt, take_hashed(&mut hashed, &ann), Some(2));
+    count_hashed(&mut hashed, ann).expect(&rt, "memory");
+    agree(&rt, take_hashed(&mut hashed, &ann), Some(3));
 }
 
 #[test]

@@ -7,7 +7,7 @@ use arraystring_recipes::borrowed::{
 use arraystring_recipes::columns::{ascii_width, bytes_shown};
 use arraystring_recipes::fields::{count_fields, value_of, version};
 use arraystring_recipes::packet::name_in;
-use arraystring_recipes::read_back::{read_i8, read_i64, read_u8, read_u128};
+use arraystring_recipes::read_back::{read_i8, read_i64, read_i128, read_u8, read_u128};
 use arraystring_recipes::walks::{common_prefix, same_without_case};
 use std::cmp::Ordering;
 
@@ -68,6 +68,23 @@ fn numbers_are_read_back(rt: HostRuntime) {
     agree(&rt, read_i64(&least).ok(), Some(i64::MIN));
     let most = ArrayString::<40>::from_str_truncate("340282366920938463463374607431768211455");
     agree(&rt, read_u128(&most).ok(), Some(u128::MAX));
+}
+
+/// The numbers at both ends, round 0, and one outside what an `i64` holds at each end.
+#[test]
+fn long_numbers_are_read_back(rt: HostRuntime) {
+    for (text, wanted) in [
+        ("-170141183460469231731687303715884105728", i128::MIN),
+        ("-9223372036854775809", -9_223_372_036_854_775_809),
+        ("-1", -1),
+        ("0", 0),
+        ("1", 1),
+        ("9223372036854775808", 9_223_372_036_854_775_808),
+        ("170141183460469231731687303715884105727", i128::MAX),
+    ] {
+        let given = ArrayString::<40>::from_str_truncate(text);
+        agree(&rt, read_i128(&given).ok(), Some(wanted));
+    }
 }
 
 /// No clause says which text a name has, and why bytes are refused that are too many.
