@@ -26,8 +26,8 @@ prepend_unit unit [] = item_of_unpaired_unit unit ∷ []
 prepend_unit unit (Char c ∷ items) = item_of_unpaired_unit unit ∷ Char c ∷ items
 prepend_unit unit (Lone next ∷ items) =
     if is_high_surrogate unit && is_low_surrogate next
-      then Char (pair_character unit next) ∷ items
-      else item_of_unpaired_unit unit ∷ Lone next ∷ items
+    then Char (pair_character unit next) ∷ items
+    else item_of_unpaired_unit unit ∷ Lone next ∷ items
 
 -- the reading of units, from the last to the first: each is put before the reading of those behind it
 abbrev pub reading : List ℕ → List Unit16

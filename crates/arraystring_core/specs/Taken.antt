@@ -33,7 +33,7 @@ module _ {U T A : Type 0} (becomes : U → T → Type 0) (steps : T → Option A
   abbrev pub Takes : (List A → List ℕ) → U → ℕ → List A → Type 0
   Takes spelled iter room items = (it : T) × becomes iter it
       × ((Drains steps it items × (size (spelled items) ≤ room))
-        ⊎ ((rest : T) × Yields steps it items rest × OnlyLastDoesNotFit spelled room items))
+      ⊎ ((rest : T) × Yields steps it items rest × OnlyLastDoesNotFit spelled room items))
 
   -- whatever items come, they fit into the room
   abbrev pub Fits : (List A → List ℕ) → U → ℕ → Type 0
