@@ -2,15 +2,15 @@
 use Rattle.std.proofs.Common.{◌∙◌, ap, length}
 use mathlib.Core.List.{map-map}
 use Rattle.std.specs.Iterator.{YieldsFirstBy, YieldsLastBy}
-use Rattle.std.proofs.iter.runs.Sources.{add_to_fronts, add_to_backs}
+use Rattle.std.proofs.iter.runs.Sources.{from_front, from_back}
 use Rattle.bounded_records.specs.Walks.{GivesInOrder, GivesInReverse, GivesCopiesInOrder}
 
 module _ {A B : Type 0} (view : A → B) where
   pub in_order : GivesInOrder view
-  in_order = add_to_fronts (YieldsFirstBy view (λ left. left)) view (λ left. left) (λ s t h. ap length h.0) (λ s x t h. h)
+  in_order = from_front (YieldsFirstBy view (λ left. left)) view (λ left. left) (λ s t h. ap length h.0) (λ s x t h. h)
 
   pub in_reverse : GivesInReverse view
-  in_reverse = add_to_backs (YieldsLastBy view (λ left. left)) view (λ left. left) (λ s t h. ap length h.0) (λ s x t h. h)
+  in_reverse = from_back (YieldsLastBy view (λ left. left)) view (λ left. left) (λ s t h. ap length h.0) (λ s x t h. h)
 
 pub copies_in_order : {A B : Type 0} (view : A → B) → GivesCopiesInOrder view
 copies_in_order view run seen whole =

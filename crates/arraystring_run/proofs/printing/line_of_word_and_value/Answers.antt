@@ -3,7 +3,7 @@ use Rattle.std.proofs.lemmas.Fmt.{contents_after_writes}
 use Rattle.std.specs.Fmt.{WritesText, option_append}
 use Rattle.arraystring.specs.Text.{bytes}
 use Rattle.arraystring_run.specs.ScriptLines.{line_feed, with_newline}
-use Rattle.arraystring_run.proofs.printing.line_of.Goals as goal
+use Rattle.arraystring_run.proofs.printing.line_of_word_and_value.Goals as goal
 
 line_shown : {W : Type 0} (contents : W → List ℕ) (word : List ℕ) (o : Option (List ℕ)) (s t : W)
     → WritesText (λ x given y. contents y ≡ contents x ++ given) s
