@@ -5,7 +5,7 @@ use Rattle.std.specs.declared.fmt.Error.{Error as FmtError}
 use Rattle.arraystring_base.specs.declared.error.Error.{Error}
 use Rattle.arraystring_base.specs.declared.error.OutOfBounds.{OutOfBounds}
 use Rattle.arraystring_base.specs.declared.error.Utf8.{Utf8}
-use Rattle.arraystring_core.specs.Held.{NoneHolds, FirstHolds}
+use Rattle.arraystring_core.specs.Held.{NoTestHolds, FirstTestHolds}
 use Rattle.arraystring_core.specs.Edits.{Cause, Edit, Makes, error_of, ok_unless, first_cause, result_of, text_of, from_out_of_bounds, from_fmt_error, from_utf8_error}
 use Rattle.arraystring.proofs.TestLaws.{none-holds, first-holds}
 
@@ -81,10 +81,10 @@ module _ {A : Type 0} {edit : Edit A} {t new : List ℕ} {result : Result A Erro
 
 module _ {A : Type 0} {edit : Edit A} {t new : List ℕ} where
   -- an `Ok` says that no test held
-  pub edit-none_held : {value : A} → Makes edit t (Ok value) new → NoneHolds edit.tests
+  pub edit-none_held : {value : A} → Makes edit t (Ok value) new → NoTestHolds edit.tests
   edit-none_held m = none-holds edit.tests (edit-made m).0
 
   -- an `Err` says which test was the first that held
   pub edit-first_held : {error : Error} → Makes edit t (Err error) new
-      → (cause : Cause) × FirstHolds edit.tests cause × (error ≡ error_of cause) × (new ≡ t)
+      → (cause : Cause) × FirstTestHolds edit.tests cause × (error ≡ error_of cause) × (new ≡ t)
   edit-first_held m = let was = edit-refused m in (was.0, first-holds edit.tests was.0 was.1, was.2, was.3)

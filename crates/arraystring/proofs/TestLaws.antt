@@ -6,12 +6,12 @@ use Rattle.arraystring_base.specs.Text.{size, boundary}
 use Rattle.arraystring_base.specs.declared.error.Error.{Error}
 use Rattle.arraystring_base.specs.declared.error.Error.TheVariants.{Utf8, OutOfBounds}
 use Rattle.arraystring_core.specs.Causes.{Cause, Inside, Test, error_of, first_cause, past_text, inside_character}
-use Rattle.arraystring_core.specs.Held.{FirstHolds}
+use Rattle.arraystring_core.specs.Held.{FirstTestHolds}
 use Rattle.arraystring_core.proofs.EditLaws.{inside-so}
 pub use Rattle.arraystring_core.proofs.EditLaws.{none-holds, inside-failed}
 
 -- if a cause is found, it is that of the first that holds
-pub first-holds : (tests : List Test) (found : Cause) → first_cause tests ≡ Some found → FirstHolds tests found
+pub first-holds : (tests : List Test) (found : Cause) → first_cause tests ≡ Some found → FirstTestHolds tests found
 first-holds [] found e = absurd (cc)
 first-holds (test ∷ rest) found e = elim (cases_Bool test.holds) [
   | inl holds ↦ inl (holds, cc (rw holds at e))
@@ -23,7 +23,7 @@ pub inside-fails : (t : List ℕ) (i : ℕ) → (i ≤ size t → boundary t i �
 inside-fails t i b = grind (arith, nat_tests)
 
 -- the first test of an index that holds: the index is past the text, or else inside a character
-pub index-held : (t : List ℕ) (i : ℕ) {cause : Cause} {error : Error} → FirstHolds (past_text t i ∷ inside_character t i ∷ []) cause → error ≡ error_of cause
+pub index-held : (t : List ℕ) (i : ℕ) {cause : Cause} {error : Error} → FirstTestHolds (past_text t i ∷ inside_character t i ∷ []) cause → error ≡ error_of cause
     → ((size t < i) × (error ≡ OutOfBounds)) ⊎ ((i < size t) × (boundary t i ≡ false) × (error ≡ Utf8))
 index-held t i first e = grind (arith, nat_tests)
 

@@ -6,7 +6,7 @@ pub mod Stored
 pub use Rattle.arraystring_core.specs.Parts
 pub use Rattle.arraystring_core.specs.WhiteSpace
 pub use Rattle.arraystring_core.specs.Causes
-pub use Rattle.arraystring_core.specs.Held
+pub mod Held
 pub use Rattle.arraystring_core.specs.Edits
 pub use Rattle.arraystring_core.specs.Construct
 pub mod Taken
@@ -14,7 +14,7 @@ pub use Rattle.arraystring_core.specs.Retain
 pub use Rattle.arraystring_core.specs.RangeEnds
 pub mod Drained
 pub mod FromUtf16
-pub use Rattle.arraystring_core.specs.Json
+pub mod Json
 pub mod InnerResult
 pub mod Cached
 pub mod Refusals

@@ -1,7 +1,7 @@
 //! Strings as JSON values of `serde_json`.
 ghost use Rattle.std.specs.Prelude.{◌≡◌, Some, None, IfOk, IfErr, MatchResult};
 ghost use Rattle.serde_json.specs.View.{view};
-ghost use Rattle.arraystring_core.specs.Json.{json_text, text_within, whole_text, IsWhyRefused};
+ghost use Rattle.arraystring_core.specs.Json.{json_string, text_cut_to, whole_text, IsWhyRefused};
 
 use crate::CacheString;
 use arraystring_core::ArrayString;
@@ -16,9 +16,9 @@ impl CacheString {
     ///
     /// Returns `Err(AllocError)` if memory runs out.
     pub fn to_value(&self, alloc: Global) -> Result<Value, AllocError>
-        ensures text { IfOk result (λ value. view value ≡ json_text self.now.0.text) }
+        ensures text { IfOk result (λ value. view value ≡ json_string self.now.0.text) }
         ensures reads_back { IfOk result
-            (λ value. text_within (view value) 63 ≡ Some self.now.0.text) }
+            (λ value. text_cut_to (view value) 63 ≡ Some self.now.0.text) }
         ensures reads_whole { IfOk result
             (λ value. whole_text (view value) ≡ Some self.now.0.text) }
     {
@@ -34,8 +34,8 @@ impl CacheString {
     /// an object.
     pub fn from_value(value: &Value) -> Result<Self, NotText>
         ensures { MatchResult result
-            (λ string. text_within (view value.now) 63 ≡ Some string.0.text)
-            (λ _. text_within (view value.now) 63 ≡ None) }
+            (λ string. text_cut_to (view value.now) 63 ≡ Some string.0.text)
+            (λ _. text_cut_to (view value.now) 63 ≡ None) }
     {
         Ok(CacheString(ArrayString::from_value(value)?))
     }

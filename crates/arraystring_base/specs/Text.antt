@@ -6,7 +6,7 @@ use Rattle.std.specs.Prelude.{◌≡◌, ℕ, ◌+◌, ◌-◌, ◌/◌, ◌%◌
 abbrev pub IsScalarValue : ℕ → Type 0
 IsScalarValue c = (c < 0xD800) ⊎ ((0xE000 ≤ c) × (c < 0x11_0000))
 
--- a text: each of its characters is a scalar value, as in every `&str` (`borrowed_text`)
+-- a text: each of its characters is a scalar value, as in every `&str` (`str_is_text`)
 abbrev pub IsText : List ℕ → Type 0
 IsText [] = ⊤
 IsText (c ∷ cs) = IsScalarValue c × IsText cs
@@ -32,7 +32,7 @@ abbrev pub size : List ℕ → ℕ
 size [] = 0
 size (c ∷ cs) = width c + size cs
 
--- the UTF-8 of a text, which no other text has (`one_text`)
+-- the UTF-8 of a text, which no other text has (`equal_bytes_are_one_text`)
 abbrev pub bytes : List ℕ → List ℕ
 bytes [] = []
 bytes (c ∷ cs) = utf8 c ++ bytes cs

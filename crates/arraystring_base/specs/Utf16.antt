@@ -45,8 +45,8 @@ NoPairApart items =
     (before after : List Unit16) (high low : ℕ) → items ≡ before ++ Lone high ∷ Lone low ∷ after → IsHigh high → IsLow low → ⊥
 
 -- the items are a reading of the units: the units of all items, joined, are these units, and no pair is read as two lone surrogates
--- (3.9). Units below 0x10000 have exactly one reading (`only_reading`). For the units of a text it is the characters of the text
--- (`text_reading`)
+-- (3.9). Units below 0x10000 have exactly one reading (`reading_is_unique`). For the units of a text it is the characters of the text
+-- (`text_units_read_as_text`)
 pub record IsReading (units : List ℕ) (items : List Unit16) : Type 0 where
   pub each_unit : All (λ unit. unit < 0x1_0000) units
   pub each_item : All IsValidItem items
@@ -75,7 +75,7 @@ prepend_to_stop c (End prefix) = End (c ∷ prefix)
 prepend_to_stop c (Fault prefix) = Fault (c ∷ prefix)
 prepend_to_stop c (Full prefix) = Full (c ∷ prefix)
 
--- the stop of the items after the longest prefix of characters that fits into n bytes (`one_stop`, `units_read_back`)
+-- the stop of the items after the longest prefix of characters that fits into n bytes (`only_first_stop`, `units_read_back`)
 abbrev pub first_stop : List Unit16 → ℕ → Stop
 first_stop [] n = End []
 first_stop (Lone unit ∷ items) n = Fault []

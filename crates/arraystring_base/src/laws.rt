@@ -28,7 +28,7 @@ pub fn cut_of_cut()
 
 /// `i` is a boundary of a text if and only if one of its prefixes has size `i`.
 #[tactic(auto, using(crate::proofs::BoundaryLaws::boundary_prefix))]
-pub fn boundaries()
+pub fn boundaries_are_sizes()
     ensures { (t : List ℕ) (i : ℕ)
         → IsTrue (boundary t i) ↔ ((p : List ℕ) × IsPrefix p t × (size p ≡ i)) }
 {}
@@ -37,7 +37,7 @@ pub fn boundaries()
 /// the index is a boundary, the part before it has that many bytes. If a text is two texts joined, and the
 /// index is the size of the first, the parts are these two.
 #[tactic(auto, using(crate::proofs::BoundaryLaws::parts))]
-pub fn parts()
+pub fn parts_join()
     ensures joined { (t : List ℕ) (i : ℕ) → front t i ++ back t i ≡ t }
     ensures size { (t : List ℕ) (i : ℕ) → IsTrue (boundary t i) → size (front t i) ≡ i }
     ensures before { (p q : List ℕ) → front (p ++ q) (size p) ≡ p }
@@ -53,13 +53,13 @@ pub fn size_is_length()
 
 /// Texts with the same UTF-8 are the same.
 #[tactic(auto, using(crate::proofs::TextLaws::bytes_same))]
-pub fn one_text()
+pub fn equal_bytes_are_one_text()
     ensures { (a b : List ℕ) → bytes a ≡ bytes b → a ≡ b }
 {}
 
 /// Every `&str` is the bytes of its characters, and each of these is a Unicode scalar value.
 #[tactic(auto, using(crate::proofs::TextLaws::borrowed))]
-pub fn borrowed_text(given: &str)
+pub fn str_is_text(given: &str)
     ensures text { IsText (chars given.now) }
     ensures bytes { bytes (chars given.now) ≡ given.now }
 {}
@@ -85,13 +85,13 @@ pub fn order_of_texts()
 {}
 
 /// UTF-16 units can be read as characters and lone surrogates in exactly one way.
-pub fn only_reading(units: &[u16])
+pub fn reading_is_unique(units: &[u16])
     ensures some { (items : List Unit16) × IsReading units.now items }
     ensures only { (a b : List Unit16) → IsReading units.now a → IsReading units.now b → a ≡ b }
 {}
 
 /// The UTF-16 of a text is read as its characters, and as nothing else.
-pub fn text_reading()
+pub fn text_units_read_as_text()
     ensures { (t : List ℕ) (items : List Unit16)
         → IsText t → (IsReading (text_units t) items) ↔ (items ≡ map Char t) }
 {}
@@ -99,7 +99,7 @@ pub fn text_reading()
 /// Take the longest prefix of characters of the items that takes at most `n` bytes, and what comes right
 /// after it: that is the first stop of the items at `n` bytes, and no other is.
 #[tactic(auto, using(crate::proofs::Utf16Laws::first_stop_is))]
-pub fn one_stop()
+pub fn only_first_stop()
     ensures { (items : List Unit16) (n : ℕ) (stop : Stop)
         → (StopsAt items n stop) ↔ (first_stop items n ≡ stop) }
 {}
@@ -111,7 +111,7 @@ pub fn one_stop()
 ///
 /// `place` must be what `text.find(c)` returned.
 #[tactic(auto, using(crate::proofs::FindLaws::find_first))]
-pub fn found_first(text: &str, c: char, place: Option<usize>)
+pub fn find_finds_first(text: &str, c: char, place: Option<usize>)
     requires { MatchOption place (FindsChar c text.now None)
         (MatchBeginsAt (FindsChar c) text.now) }
     ensures { MatchOption place
@@ -128,7 +128,7 @@ pub fn found_first(text: &str, c: char, place: Option<usize>)
 /// # Precondition
 ///
 /// `parts` must be what `text.split_once(c)` returned.
-pub fn split_first(text: &str, c: char, parts: Option<(&str, &str)>)
+pub fn split_once_at_first(text: &str, c: char, parts: Option<(&str, &str)>)
     requires { MatchOption parts (FindsChar c text.now None)
         (λ found. SplitsAroundMatch (FindsChar c) text.now found.0.now found.1.now) }
     ensures { MatchOption parts.entry

@@ -5,7 +5,7 @@ use Rattle.arraystring_base.specs.declared.error.Error.{Error}
 use Rattle.arraystring_core.specs.Stored.{StringView}
 use Rattle.arraystring_core.specs.Edits.{first_of, last_of, all_but_last}
 
--- `left`: the characters that are left (`left_fits`). No public clause names the other two, which are there so that the fields of a
+-- `left`: the characters that are left (`drain_left_fits`). No public clause names the other two, which are there so that the fields of a
 -- `Drain` can be computed: `yielded`, the characters that were given from the front, and `spare`, the numbers that `StringView` also has
 pub record DrainView : Type 0 where
   pub left : List ℕ
@@ -38,17 +38,17 @@ pub record WalkResult : Type 0 where
   pub backs : List ℕ
 
 -- the walk w, with one more character, if there is one, put first among those from the front
-abbrev pub add_to_fronts : Option ℕ → WalkResult → WalkResult
-add_to_fronts None w = w
-add_to_fronts (Some c) w = record { fronts = c ∷ w.fronts; left = w.left; backs = w.backs }
+abbrev pub prepend_from_front : Option ℕ → WalkResult → WalkResult
+prepend_from_front None w = w
+prepend_from_front (Some c) w = record { fronts = c ∷ w.fronts; left = w.left; backs = w.backs }
 
 -- the walk w, with one more character, if there is one, put first among those from the back
-abbrev pub add_to_backs : Option ℕ → WalkResult → WalkResult
-add_to_backs None w = w
-add_to_backs (Some c) w = record { fronts = w.fronts; left = w.left; backs = c ∷ w.backs }
+abbrev pub prepend_from_back : Option ℕ → WalkResult → WalkResult
+prepend_from_back None w = w
+prepend_from_back (Some c) w = record { fronts = w.fronts; left = w.left; backs = c ∷ w.backs }
 
--- the walk over the characters t that takes one from each of these ends in turn, as long as one is left (`walks`)
+-- the walk over the characters t that takes one from each of these ends in turn, as long as one is left (`walk_gives_each_once`)
 abbrev pub walk_of : List End → List ℕ → WalkResult
 walk_of [] t = record { fronts = []; left = t; backs = [] }
-walk_of (Front ∷ ends) t = add_to_fronts (first_of t) (walk_of ends (drop 1 t))
-walk_of (Back ∷ ends) t = add_to_backs (last_of t) (walk_of ends (all_but_last t))
+walk_of (Front ∷ ends) t = prepend_from_front (first_of t) (walk_of ends (drop 1 t))
+walk_of (Back ∷ ends) t = prepend_from_back (last_of t) (walk_of ends (all_but_last t))

@@ -10,7 +10,7 @@ use Rattle.arraystring_base.specs.declared.error.OutOfBounds.{OutOfBounds}
 use Rattle.arraystring_base.specs.declared.error.Utf8.{Utf8}
 -- callers import these definitions from here
 pub use Rattle.arraystring_core.specs.Causes.{Cause, Past, Room, Inside, error_of, Test, past_text, past_text as past, reversed_range, reversed_range as crossed, at_end, inside_character, inside_character as inside, no_room, first_cause}
-pub use Rattle.arraystring_core.specs.Held.{NoneHolds, FirstHolds}
+pub use Rattle.arraystring_core.specs.Held.{NoTestHolds, FirstTestHolds}
 pub use Rattle.arraystring_core.specs.Parts.{first_of, last_of, all_but_last, without_leading, without_trailing, part, part_in}
 unfoldable pub use Rattle.arraystring_core.specs.WhiteSpace.{is_space, in_ranges, is_white_space}
 

@@ -3,11 +3,11 @@ use Rattle.std.specs.Prelude.{◌≡◌, ◌⊎◌, ⊤, List, [], ◌∷◌, tr
 use Rattle.arraystring_core.specs.Causes.{Cause, Test}
 
 -- none of the tests holds
-abbrev pub NoneHolds : List Test → Type 0
-NoneHolds [] = ⊤
-NoneHolds (test ∷ rest) = (test.holds ≡ false) × NoneHolds rest
+abbrev pub NoTestHolds : List Test → Type 0
+NoTestHolds [] = ⊤
+NoTestHolds (test ∷ rest) = (test.holds ≡ false) × NoTestHolds rest
 
 -- some test holds, and `found` is the cause that the first of them gives
-abbrev pub FirstHolds : List Test → Cause → Type 0
-FirstHolds [] found = ⊥
-FirstHolds (test ∷ rest) found = ((test.holds ≡ true) × (found ≡ test.cause)) ⊎ ((test.holds ≡ false) × FirstHolds rest found)
+abbrev pub FirstTestHolds : List Test → Cause → Type 0
+FirstTestHolds [] found = ⊥
+FirstTestHolds (test ∷ rest) found = ((test.holds ≡ true) × (found ≡ test.cause)) ⊎ ((test.holds ≡ false) × FirstTestHolds rest found)

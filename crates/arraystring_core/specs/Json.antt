@@ -7,12 +7,12 @@ use Rattle.arraystring_core.specs.declared.integration.ValueError.{ValueError}
 use Rattle.arraystring_core.specs.declared.integration.ValueError.TheVariants.{NotText, OutOfBounds}
 
 -- the JSON string whose text is t (it is read back as t: `json_reads_back`, `json_reads_whole`)
-abbrev pub json_text : List ℕ → Data
-json_text t = string (bytes t)
+abbrev pub json_string : List ℕ → Data
+json_string t = string (bytes t)
 
 -- the text of a JSON value, cut to n bytes; `None` if the value is no string
-abbrev pub text_within : Data → ℕ → Option (List ℕ)
-text_within value n = option_map (λ given. cut (chars given) n) (as_str value)
+abbrev pub text_cut_to : Data → ℕ → Option (List ℕ)
+text_cut_to value n = option_map (λ given. cut (chars given) n) (as_str value)
 
 -- the text of a JSON value, all of it; `None` if the value is no string
 abbrev pub whole_text : Data → Option (List ℕ)

@@ -2,7 +2,7 @@
 ghost use Rattle.std.specs.Prelude.{◌≡◌, Some, None, IfOk, IfErr, MatchResult, codes};
 ghost use Rattle.serde_json.specs.View.{view};
 ghost use Rattle.arraystring_base.specs.Text.{cap};
-ghost use Rattle.arraystring_core.specs.Json.{json_text, text_within, whole_text, IsWhyRefused, value_error_name};
+ghost use Rattle.arraystring_core.specs.Json.{json_string, text_cut_to, whole_text, IsWhyRefused, value_error_name};
 ghost use Rattle.arraystring_core.specs.declared.integration.ValueError.TheVariants as cases;
 
 use crate::ArrayString;
@@ -98,9 +98,9 @@ impl<const N: usize> ArrayString<N> {
     ///
     /// Returns `Err(AllocError)` if there is not enough memory.
     pub fn to_value(&self, alloc: Global) -> Result<Value, AllocError>
-        ensures text { IfOk result (λ value. view value ≡ json_text self.now.text) }
+        ensures text { IfOk result (λ value. view value ≡ json_string self.now.text) }
         ensures reads_back { IfOk result
-            (λ value. text_within (view value) (cap N) ≡ Some self.now.text) }
+            (λ value. text_cut_to (view value) (cap N) ≡ Some self.now.text) }
         ensures reads_whole { IfOk result (λ value. whole_text (view value) ≡ Some self.now.text) }
     {
         Ok(Value::String(String::from_str(alloc, self.as_str())?))
@@ -115,8 +115,8 @@ impl<const N: usize> ArrayString<N> {
     /// an object.
     pub fn from_value(value: &Value) -> Result<Self, NotText>
         ensures { MatchResult result
-            (λ string. text_within (view value.now) (cap N) ≡ Some string.text)
-            (λ _. text_within (view value.now) (cap N) ≡ None) }
+            (λ string. text_cut_to (view value.now) (cap N) ≡ Some string.text)
+            (λ _. text_cut_to (view value.now) (cap N) ≡ None) }
     {
         let text = value.as_str().ok_or(NotText)?;
         Ok(Self::from_str_truncate(text))

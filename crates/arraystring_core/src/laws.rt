@@ -1,5 +1,5 @@
 //! Laws of strings, which callers may rely on. Each carries its fact in its contract and changes
-//! nothing. `text_fits`, `text_spelled` and `left_fits` call `len` or `as_str`, the others do nothing
+//! nothing. `text_fits`, `text_reads_back` and `drain_left_fits` call `len` or `as_str`, the others do nothing
 //! when called.
 ghost use Rattle.std.specs.Prelude.{◌≡◌, ◌+◌, ◌-◌, ◌<◌, ◌≤◌, ◌++◌, ◌∷◌, ◌↔◌, ℕ, Bool, false, List, [], All, IfSome, IsTrue, None, Some, Result, IsOkAnd, length, map, nat_eq, option_map, reverse, chars};
 ghost use Rattle.std.specs.Char.{is_whitespace};
@@ -15,7 +15,7 @@ ghost use Rattle.arraystring_base.specs.Utf16.{IsReading, first_stop, lossy_text
 ghost use Rattle.arraystring_core.specs.Drained.{DrainView, End, walk_of};
 ghost use Rattle.arraystring_core.specs.Edits.{first_cause, first_of, last_of, part, popping, replacement, split, trimming, is_white_space};
 ghost use Rattle.arraystring_core.specs.FromUtf16.{GivesWhole, GivesPrefix};
-ghost use Rattle.arraystring_core.specs.Json.{json_text, text_within, whole_text};
+ghost use Rattle.arraystring_core.specs.Json.{json_string, text_cut_to, whole_text};
 ghost use Rattle.arraystring_core.specs.Stored.{StringView};
 ghost use Rattle.arraystring_core.specs.Taken.{joined_texts};
 
@@ -33,7 +33,7 @@ pub fn text_fits<const N: usize>(string: &ArrayString<N>)
 /// The UTF-8 of the text of a string, read as characters, is the text again.
 #[inline]
 #[tactic(auto, using(crate::proofs::StoredLaws::text_spelled))]
-pub fn text_spelled<const N: usize>(string: &ArrayString<N>)
+pub fn text_reads_back<const N: usize>(string: &ArrayString<N>)
     ensures { chars (bytes string.now.text) ≡ string.now.text }
 {
     // This call makes the invariant known, as in `text_fits`.
@@ -43,14 +43,14 @@ pub fn text_spelled<const N: usize>(string: &ArrayString<N>)
 /// A `Drain` as an iterator gives exactly the characters that are left.
 #[tactic(auto, using(crate::proofs::TakenLaws::drain_gives))]
 #[inline]
-pub fn left_given<const N: usize>(drained: &Drain<N>)
+pub fn drain_gives_left<const N: usize>(drained: &Drain<N>)
     ensures { (it : DrainView) → it.left ≡ drained.now.left
         → AlwaysYields (YieldsFirst (λ d. d.left)) (λ c. c) it drained.now.left }
 {}
 
 /// What is left of a drain fits the capacity of the string from which it was taken.
 #[inline]
-pub fn left_fits<const N: usize>(drained: &Drain<N>)
+pub fn drain_left_fits<const N: usize>(drained: &Drain<N>)
     ensures { size drained.now.left ≤ cap N }
 {
     // This call makes the invariant known, as in `text_fits`.
@@ -95,7 +95,7 @@ pub fn units_read_back()
 /// The text before a pop is what the pop leaves, followed by the character that it returns. If the
 /// text is empty, a pop returns `None`, and the text stays empty.
 #[tactic(auto, using(crate::proofs::EditLaws::popped))]
-pub fn popped()
+pub fn pop_takes_last()
     ensures last { (front : List ℕ) (ch : ℕ)
         → ((popping (front ++ ch ∷ [])).result ≡ Some ch)
         × ((popping (front ++ ch ∷ [])).after ≡ front) }
@@ -105,7 +105,7 @@ pub fn popped()
 /// A trim drops all characters that pass a test from both ends of a text. The text before was some
 /// characters that pass, then what the trim leaves, then some characters that pass. What it leaves
 /// neither begins nor ends with a character that passes.
-pub fn trimmed()
+pub fn trim_drops_both_ends()
     ensures dropped { (passes : ℕ → Bool) (t : List ℕ)
         → (before behind : List ℕ)
         × All (λ c. IsTrue (passes c)) before × All (λ c. IsTrue (passes c)) behind
@@ -117,14 +117,14 @@ pub fn trimmed()
 
 /// The ranges of white space are those of `char::is_whitespace`.
 #[tactic(auto, using(crate::proofs::EditLaws::is_white_space_std))]
-pub fn white_space()
+pub fn white_space_is_that_of_std()
     ensures { (c : ℕ) → is_white_space c ≡ is_whitespace c }
 {}
 
 /// If a split is not refused, the text before it is the text that it keeps, followed by the part
 /// that it returns.
 #[tactic(auto, using(arraystring_base::proofs::BoundaryLaws::parts))]
-pub fn split_back()
+pub fn split_parts_join()
     ensures { (t : List ℕ) (i : ℕ) → first_cause (split t i).tests ≡ None
         → (split t i).after ++ (split t i).result ≡ t }
 {}
@@ -132,7 +132,7 @@ pub fn split_back()
 /// What is replaced can be put back. Suppose that a replacement in a text that fits `n` bytes is
 /// not refused. Then replace what was given by what was taken out: that is not refused either, and
 /// leaves the text before.
-pub fn replaced_back()
+pub fn replacement_turns_back()
     ensures allowed { (t given : List ℕ) (start end n : ℕ) → size t ≤ n →
         first_cause (replacement t start end given n).tests ≡ None →
         first_cause (replacement (replacement t start end given n).after
@@ -147,7 +147,7 @@ pub fn replaced_back()
 /// what came from the front, then what is left, then what came from the back in reversed order.
 /// While a character is left, each call takes one. So after as many calls as there are characters
 /// nothing is left, and a call then gives nothing.
-pub fn walks()
+pub fn walk_gives_each_once()
     ensures whole { (ends : List End) (t : List ℕ)
         → (walk_of ends t).fronts ++ ((walk_of ends t).left ++ reverse (walk_of ends t).backs) ≡ t }
     ensures each { (ends : List End) (t : List ℕ)
@@ -175,16 +175,16 @@ pub fn equal_texts()
 /// that text.
 #[tactic(auto, using(crate::proofs::JsonLaws::reads_back))]
 pub fn json_reads_back()
-    ensures { (t : List ℕ) (n : ℕ) → IsText t → size t ≤ n → text_within (json_text t) n ≡ Some t }
+    ensures { (t : List ℕ) (n : ℕ) → IsText t → size t ≤ n → text_cut_to (json_string t) n ≡ Some t }
 {}
 
 /// If a JSON value was made of a text, its whole text is that text. Reading any JSON value within `n`
-/// bytes (`text_within`) cuts its whole text to `n` bytes. A whole text of at most `n` bytes is not cut.
+/// bytes (`text_cut_to`) cuts its whole text to `n` bytes. A whole text of at most `n` bytes is not cut.
 #[tactic(auto, using(crate::proofs::JsonLaws::whole))]
 pub fn json_reads_whole()
-    ensures back { (t : List ℕ) → IsText t → whole_text (json_text t) ≡ Some t }
+    ensures back { (t : List ℕ) → IsText t → whole_text (json_string t) ≡ Some t }
     ensures cut { (value : Data) (n : ℕ)
-        → text_within value n ≡ option_map (λ t. cut t n) (whole_text value) }
+        → text_cut_to value n ≡ option_map (λ t. cut t n) (whole_text value) }
     ensures same { (value : Data) (t : List ℕ) (n : ℕ) → whole_text value ≡ Some t → size t ≤ n
-        → text_within value n ≡ Some t }
+        → text_cut_to value n ≡ Some t }
 {}

@@ -3,7 +3,7 @@ ghost use Rattle.std.specs.Prelude.{◌≡◌, ◌≢◌, ◌<◌, ◌==◌, ◌
 ghost use Rattle.std.specs.List.{before_last, position_or_len};
 
 use arraystring::ArrayString;
-use arraystring::laws::{popped, split_last, text_fits};
+use arraystring::laws::{pop_takes_last, rsplit_once_at_last, text_fits};
 
 /// Removes a newline at the end, and says whether there was one.
 #[tactic(auto, using(arraystring::proofs::Rules::texts, arraystring::proofs::Rules::backwards))]
@@ -13,7 +13,7 @@ pub fn chop_newline(line: &mut ArrayString<80>) -> bool
     ensures none { (rest : List ℕ) → result ≡ false → line.old.text ≢ rest ++ 0x0A ∷ [] }
 {
     text_fits(line);
-    popped();
+    pop_takes_last();
     if let Some(last) = line.pop() {
         if last == '\n' {
             return true;
@@ -31,7 +31,7 @@ pub fn stem(name: &str) -> &str
         → chars result.now ≡ chars name.now }
 {
     let found = name.rsplit_once('.');
-    split_last(name, '.', found);
+    rsplit_once_at_last(name, '.', found);
     if let Some((stem, _)) = found {
         stem
     } else {

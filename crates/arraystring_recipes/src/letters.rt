@@ -6,7 +6,7 @@ ghost use Rattle.arraystring.specs.Text.{size};
 ghost use Rattle.arraystring_recipes.specs.Letters.{capitalized};
 
 use arraystring::ArrayString;
-use arraystring::laws::last_given;
+use arraystring::laws::chars_next_back_is_last;
 
 /// Takes the first character out and returns it, or `None` if there is none.
 #[tactic(auto, using(arraystring::proofs::Rules::at_start))]
@@ -58,7 +58,7 @@ pub fn last_letter(text: &str) -> Option<char>
         (λ last. chars text.now ≡ all_but_last (chars text.now) ++ last ∷ []) }
 {
     let last = text.chars().next_back();
-    last_given(text, last);
+    chars_next_back_is_last(text, last);
     last
 }
 

@@ -3,7 +3,7 @@ ghost use Rattle.std.specs.Prelude.{◌≡◌, ◌≢◌, ◌≤◌, [], MatchOp
 ghost use Rattle.arraystring.specs.Edits.{draining, first_cause, ok_unless, part_in, text_of};
 ghost use Rattle.arraystring.specs.Text.{boundary, cut, front};
 
-use arraystring::laws::left_given;
+use arraystring::laws::drain_gives_left;
 use arraystring::{ArrayString, Drain, Error};
 
 /// Returns the bytes from `start` to `end`, borrowed, or `None` if there is no such part.
@@ -58,6 +58,6 @@ pub fn taken_out(text: &mut ArrayString<16>, start: u8, end: u8) -> Drain<16>
 pub fn start_of_rest(drained: Drain<64>) -> ArrayString<8>
     ensures { result.text ≡ cut drained.left 8 }
 {
-    left_given(&drained);
+    drain_gives_left(&drained);
     ArrayString::from_chars(drained)
 }

@@ -4,7 +4,7 @@ ghost use Rattle.std.specs.List.{after_last, before_last};
 ghost use Rattle.arraystring.specs.Construct.{IsWholeOrRefused};
 ghost use Rattle.arraystring.specs.Text.{cap};
 
-use arraystring::laws::{found_last, split_last};
+use arraystring::laws::{rfind_finds_last, rsplit_once_at_last};
 use arraystring::{ArrayString, Error};
 
 /// Removes the last `/` and what comes after it. If there is no `/`, nothing is left.
@@ -13,7 +13,7 @@ pub fn go_up<const N: usize>(path: &mut ArrayString<N>)
 {
     let text = path.as_str();
     let place = text.rfind('/');
-    found_last(text, '/', place);
+    rfind_finds_last(text, '/', place);
     match place {
         None => path.clear(),
         Some(at) => {
@@ -31,7 +31,7 @@ pub fn last_segment<const N: usize>(path: &str) -> Result<ArrayString<N>, Error>
     ensures { IsWholeOrRefused (after_last (λ c. c == 0x2F) (chars path.now)) (cap N) result }
 {
     let parts = path.rsplit_once('/');
-    split_last(path, '/', parts);
+    rsplit_once_at_last(path, '/', parts);
     let segment = match parts {
         None => path,
         Some((_, segment)) => segment,

@@ -74,24 +74,24 @@ pub record IsNumber (bs : List ℕ) (n : ℕ) : Type 0 where
   pub small : n ≤ 255
 
 -- the bytes spell an argument: they are the digits of a number, the UTF-8 of a character, or the bytes of a text
-abbrev pub IsSpelled : List ℕ → Argument → Type 0
-IsSpelled bs (Number n) = IsNumber bs n
-IsSpelled bs (Character c) = IsScalarValue c × (bs ≡ utf8 c)
-IsSpelled bs (Text given) = IsWellFormed given × (bs ≡ given)
+abbrev pub SpellsArgument : List ℕ → Argument → Type 0
+SpellsArgument bs (Number n) = IsNumber bs n
+SpellsArgument bs (Character c) = IsScalarValue c × (bs ≡ utf8 c)
+SpellsArgument bs (Text given) = IsWellFormed given × (bs ≡ given)
 
 -- the byte between a word and its arguments
 abbrev pub space : ℕ
 space = 0x20
 
 -- the bytes are one space and the spelling of an argument, for each of the arguments, and nothing else
-abbrev pub AreSpelled : List ℕ → List Argument → Type 0
-AreSpelled bs [] = bs ≡ []
-AreSpelled bs (a ∷ rest) =
-    (first : List ℕ) × (others : List ℕ) × (bs ≡ space ∷ (first ++ others)) × IsSpelled first a × AreSpelled others rest
+abbrev pub SpellsArguments : List ℕ → List Argument → Type 0
+SpellsArguments bs [] = bs ≡ []
+SpellsArguments bs (a ∷ rest) =
+    (first : List ℕ) × (others : List ℕ) × (bs ≡ space ∷ (first ++ others)) × SpellsArgument first a × SpellsArguments others rest
 
 -- the bytes are a line of a command: its word, and then its arguments (CALLING.md, Commands)
 abbrev pub IsLineOf : List ℕ → Command → Type 0
-IsLineOf bs c = (rest : List ℕ) × (bs ≡ word c ++ rest) × AreSpelled rest (arguments c)
+IsLineOf bs c = (rest : List ℕ) × (bs ≡ word c ++ rest) × SpellsArguments rest (arguments c)
 
 -- the bytes that spell an argument; a number has no leading zeros
 abbrev pub spelling : Argument → List ℕ
@@ -121,5 +121,5 @@ IsOneWord [] = ⊤
 IsOneWord (b ∷ bs) = (b ≢ space) × IsOneWord bs
 
 -- the bytes are the digits of the number n, one space, and then the rest
-abbrev pub IsNumberBefore : List ℕ → ℕ → List ℕ → Type 0
-IsNumberBefore bs n rest = (digits : List ℕ) × IsNumber digits n × (bs ≡ digits ++ space ∷ rest)
+abbrev pub IsNumberThenRest : List ℕ → ℕ → List ℕ → Type 0
+IsNumberThenRest bs n rest = (digits : List ℕ) × IsNumber digits n × (bs ≡ digits ++ space ∷ rest)

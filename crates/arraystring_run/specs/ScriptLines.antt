@@ -37,14 +37,14 @@ abbrev pub lines : List ℕ → List (List ℕ)
 lines [] = []
 lines (b ∷ bs) = if b == line_feed then [] ∷ lines bs else prepend_to_first_line b (lines bs)
 
--- each line is the line of the command at the same position (`one_reading`)
+-- each line is the line of the command at the same position (`script_has_one_meaning`)
 abbrev pub AreLinesOf : List (List ℕ) → List Command → Type 0
 AreLinesOf [] [] = ⊤
 AreLinesOf [] (c ∷ cs) = ⊥
 AreLinesOf (line ∷ rest) [] = ⊥
 AreLinesOf (line ∷ rest) (c ∷ cs) = IsLineOf line c × AreLinesOf rest cs
 
--- line k, counted from 1, is the line of no command, and each line before it is that of a command (`one_bad_line`)
+-- line k, counted from 1, is the line of no command, and each line before it is that of a command (`first_bad_line_is_unique`)
 pub record IsBadAt (all : List (List ℕ)) (k : ℕ) : Type 0 where
   pub front : List (List ℕ)
   pub commands : List Command

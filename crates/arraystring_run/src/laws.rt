@@ -17,7 +17,7 @@ pub fn first_tight_position()
 
 /// A run has one first tight position, or none: what `run` says of `first_tight` is said of no other position
 /// than that which `first_tight_from` finds.
-pub fn one_first_tight()
+pub fn first_tight_is_unique()
     ensures { (cs : List Command) (t : List ℕ) (n : ℕ) (first : Option ℕ)
         → MatchOption first (NoneTight cs t n) (IsFirstTight cs t n)
         → first ≡ first_tight_from 0 cs t n }
@@ -44,13 +44,13 @@ pub fn each_command_has_a_line()
 
 /// A script has one meaning: if its lines are the lines of two lists of commands, both lists get the
 /// same replies and leave the same text.
-pub fn one_reading()
+pub fn script_has_one_meaning()
     ensures { (all : List (List ℕ)) (cs ds : List Command) (t : List ℕ) (n : ℕ)
         → AreLinesOf all cs → AreLinesOf all ds → after cs t n ≡ after ds t n }
 {}
 
 /// A script that has a bad line is not the lines of any commands. It has only one first bad line.
-pub fn one_bad_line()
+pub fn first_bad_line_is_unique()
     ensures refused { (all : List (List ℕ)) (cs : List Command) (k : ℕ)
         → IsBadAt all k → AreLinesOf all cs → ⊥ }
     ensures first { (all : List (List ℕ)) (j k : ℕ) → IsBadAt all j → IsBadAt all k → j ≡ k }

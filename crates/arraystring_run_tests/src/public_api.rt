@@ -109,9 +109,9 @@ fn each_path_is_there(rt: HostRuntime) {
 #[test]
 fn the_laws_are_at_hand(_rt: HostRuntime) {
     laws::first_tight_position();
-    laws::one_first_tight();
+    laws::first_tight_is_unique();
     laws::lines_of_input();
     laws::each_command_has_a_line();
-    laws::one_reading();
-    laws::one_bad_line();
+    laws::script_has_one_meaning();
+    laws::first_bad_line_is_unique();
 }

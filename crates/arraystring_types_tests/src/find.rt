@@ -4,7 +4,8 @@
 use super::asserts::agree;
 use arraystring::ArrayString;
 use arraystring::laws::{
-    found_first, found_last, left_given, split_first, split_last, text_spelled,
+    drain_gives_left, find_finds_first, rfind_finds_last, rsplit_once_at_last, split_once_at_first,
+    text_reads_back,
 };
 use arraystring::utils::is_char_boundary;
 use std::process::Abort;
@@ -22,14 +23,14 @@ fn check_found(rt: &impl Abort, c: char, before: &str, after: &str) {
     let at = text.len();
     agree(rt, before, text.try_push(c), Ok(()));
     agree(rt, before, text.try_push_str(after), Ok(()));
-    text_spelled(&text);
+    text_reads_back(&text);
     let whole = text.as_str();
     let place = whole.find(c);
-    found_first(whole, c, place);
+    find_finds_first(whole, c, place);
     agree(rt, whole, place, Some(before.len()));
     agree(rt, whole, is_char_boundary(&text, at), Ok(()));
     let parts = whole.split_once(c);
-    split_first(whole, c, parts);
+    split_once_at_first(whole, c, parts);
     agree(rt, whole, parts, Some((before, after)));
     check_parts(rt, text, at, before, after);
 }
@@ -41,10 +42,10 @@ fn check_last(rt: &impl Abort, c: char, before: &str, after: &str) {
     agree(rt, before, text.try_push_str(after), Ok(()));
     let whole = text.as_str();
     let place = whole.rfind(c);
-    found_last(whole, c, place);
+    rfind_finds_last(whole, c, place);
     agree(rt, whole, place, Some(before.len()));
     let parts = whole.rsplit_once(c);
-    split_last(whole, c, parts);
+    rsplit_once_at_last(whole, c, parts);
     agree(rt, whole, parts, Some((before, after)));
 }
 
@@ -58,7 +59,7 @@ fn check_parts(rt: &impl Abort, text: ArrayString<64>, at: u8, before: &str, aft
     agree(rt, before, rest.as_str(), after);
     agree(rt, before, removed.remove(at).ok(), first);
     let behind = removed.drain(at..).unwrap_or_default();
-    left_given(&behind);
+    drain_gives_left(&behind);
     agree(
         rt,
         before,
@@ -71,16 +72,16 @@ fn check_parts(rt: &impl Abort, text: ArrayString<64>, at: u8, before: &str, aft
 /// Asserts that `c`, which is not in `text`, is not found.
 fn check_not_found(rt: &impl Abort, c: char, text: &str) {
     let place = text.find(c);
-    found_first(text, c, place);
+    find_finds_first(text, c, place);
     agree(rt, text, place, None);
     let parts = text.split_once(c);
-    split_first(text, c, parts);
+    split_once_at_first(text, c, parts);
     agree(rt, text, parts, None);
     let last = text.rfind(c);
-    found_last(text, c, last);
+    rfind_finds_last(text, c, last);
     agree(rt, text, last, None);
     let last_parts = text.rsplit_once(c);
-    split_last(text, c, last_parts);
+    rsplit_once_at_last(text, c, last_parts);
     agree(rt, text, last_parts, None);
 }
 

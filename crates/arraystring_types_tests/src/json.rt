@@ -33,7 +33,7 @@ fn long_texts(rt: &(impl Abort + AllocGlobal)) -> (String, String) {
 }
 
 /// A JSON text.
-fn json_text(rt: &(impl Abort + AllocGlobal), text: &str) -> Value {
+fn json_string(rt: &(impl Abort + AllocGlobal), text: &str) -> Value {
     Value::String(String::from_str(rt.alloc(), text).expect(rt, "memory for the text"))
 }
 
@@ -68,7 +68,7 @@ fn is_printed(rt: &(impl Abort + AllocGlobal), value: &Value, wanted: &str) {
 
 /// Asserts that strings keep a text that is cut to their capacities.
 fn cuts_are_kept(rt: &(impl Abort + AllocGlobal), text: &str) {
-    let given = json_text(rt, text);
+    let given = json_string(rt, text);
     kept::<ArrayString<8>>(rt, &given, prefix(text, 8));
     kept::<ArrayString<63>>(rt, &given, prefix(text, 63));
     kept::<ArrayString<255>>(rt, &given, prefix(text, 255));
@@ -151,7 +151,7 @@ fn whole_or_refused<S: Json + PartialEq + Debug>(
 
 /// Asserts the same of a JSON text at several capacities.
 fn at_each_capacity(rt: &(impl Abort + AllocGlobal), text: &str) {
-    let given = json_text(rt, text);
+    let given = json_string(rt, text);
     whole_or_refused::<ArrayString<0>>(rt, &given, text, 0);
     whole_or_refused::<ArrayString<8>>(rt, &given, text, 8);
     whole_or_refused::<ArrayString<255>>(rt, &given, text, 255);
@@ -194,7 +194,7 @@ fn each_character_is_kept(rt: HostRuntime) {
 
 /// Asserts that a text is kept when it is written as JSON and read.
 fn is_kept(rt: &(impl Abort + AllocGlobal), text: &str) {
-    let written = json_text(rt, text).to_string(rt.alloc());
+    let written = json_string(rt, text).to_string(rt.alloc());
     let written = written.expect(rt, "memory for what is written");
     let value = parsed(rt, written.as_str());
     agree(rt, text, value.as_str(), Some(text));

@@ -107,45 +107,45 @@ fn each_path_names_the_same(rt: HostRuntime) {
 /// Each law is called by its path; it does nothing.
 #[test]
 fn the_laws_are_at_hand(rt: HostRuntime) {
-    laws::boundaries();
+    laws::boundaries_are_sizes();
     laws::cut_of_cut();
     laws::equal_texts();
     laws::json_reads_back();
     laws::json_reads_whole();
     let mut text = ArrayString::<5>::from("é");
     laws::text_fits(&text);
-    laws::text_spelled(&text);
+    laws::text_reads_back(&text);
     if let Ok(drained) = text.drain(..) {
-        laws::left_fits(&drained);
-        laws::left_given(&drained);
+        laws::drain_left_fits(&drained);
+        laws::drain_gives_left(&drained);
     }
     laws::keys_ascend::<5, u8>(&BTreeMap::new(rt.alloc()));
-    laws::first_given("a", "a".chars().next());
-    laws::last_given("a", "a".chars().next_back());
+    laws::chars_next_is_first("a", "a".chars().next());
+    laws::chars_next_back_is_last("a", "a".chars().next_back());
     laws::well_formed_or_not(&[0xFF]);
-    laws::borrowed_text("a");
-    laws::found_first("a", 'a', "a".find('a'));
-    laws::split_first("a", 'a', "a".split_once('a'));
-    laws::found_last("a", 'a', "a".rfind('a'));
-    laws::split_last("a", 'a', "a".rsplit_once('a'));
+    laws::str_is_text("a");
+    laws::find_finds_first("a", 'a', "a".find('a'));
+    laws::split_once_at_first("a", 'a', "a".split_once('a'));
+    laws::rfind_finds_last("a", 'a', "a".rfind('a'));
+    laws::rsplit_once_at_last("a", 'a', "a".rsplit_once('a'));
     laws::longest_cut();
-    laws::one_stop();
-    laws::one_text();
-    laws::only_reading(&[0xD800]);
+    laws::only_first_stop();
+    laws::equal_bytes_are_one_text();
+    laws::reading_is_unique(&[0xD800]);
     laws::order_of_bytes();
     laws::order_of_texts();
-    laws::parts();
+    laws::parts_join();
     laws::pieces_make_one_text("a");
-    laws::popped();
-    laws::replaced_back();
+    laws::pop_takes_last();
+    laws::replacement_turns_back();
     laws::size_is_length();
-    laws::split_back();
-    laws::text_reading();
-    laws::trimmed();
+    laws::split_parts_join();
+    laws::text_units_read_as_text();
+    laws::trim_drops_both_ends();
     laws::units_read_back();
-    laws::walks();
+    laws::walk_gives_each_once();
     laws::what_comes_past_the_room();
-    laws::white_space();
+    laws::white_space_is_that_of_std();
 }
 
 /// Each call that is `const` and reads a value: a constant function can make no other.

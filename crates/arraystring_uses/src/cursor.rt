@@ -3,7 +3,7 @@ ghost use Rattle.std.specs.Prelude.{◌≡◌, ◌+◌, ◌≤◌, ◌↔◌, �
 ghost use Rattle.arraystring.specs.Refusals.{OutOfBounds};
 ghost use Rattle.arraystring.specs.Text.{back, boundary, bytes, cap, front, size, width};
 
-use arraystring::laws::{first_given, last_given, text_fits};
+use arraystring::laws::{chars_next_back_is_last, chars_next_is_first, text_fits};
 use arraystring::utils::is_char_boundary;
 use arraystring::{ArrayString, Error};
 
@@ -109,7 +109,7 @@ impl<const N: usize> Line<N> {
     {
         let before = self.before();
         let last = before.chars().next_back();
-        last_given(before, last);
+        chars_next_back_is_last(before, last);
         match last {
             Some(ch) => {
                 self.cursor -= ch.len_utf8() as u8;
@@ -133,7 +133,7 @@ impl<const N: usize> Line<N> {
     {
         let after = self.after();
         let first = after.chars().next();
-        first_given(after, first);
+        chars_next_is_first(after, first);
         match first {
             Some(ch) => {
                 text_fits(&self.text);

@@ -7,7 +7,7 @@ ghost use Rattle.arraystring.specs.Taken.{Fits, joined_pieces};
 ghost use Rattle.arraystring.specs.Text.{IsWellFormed, back, boundary, bytes, cap, front, size, width};
 
 use arraystring::error::Error;
-use arraystring::laws::parts;
+use arraystring::laws::parts_join;
 use arraystring::utils::{Steps, encode, look, shift, truncate_str_counted};
 use arraystring::{ArrayString, CacheString, Drain};
 use arraystring_base::utils::{first_char, last_char, write_over};
@@ -70,7 +70,7 @@ pub fn nothing_at<const N: usize>(text: &ArrayString<N>, index: u8) -> &str
     requires { IsTrue (boundary text.now.text index) }
     ensures { chars result.now ≡ [] }
 {
-    parts();
+    parts_join();
     text.slice(index..index)
 }
 
@@ -80,7 +80,7 @@ pub fn uppercase_nothing<const N: usize>(text: &mut ArrayString<N>, index: u8)
     requires { IsTrue (boundary text.old.text index) }
     ensures { text.new.text ≡ text.old.text }
 {
-    parts();
+    parts_join();
     text.make_ascii_uppercase_in(index..index);
 }
 
@@ -90,7 +90,7 @@ pub fn lowercase_nothing<const N: usize>(text: &mut ArrayString<N>, index: u8)
     requires { IsTrue (boundary text.old.text index) }
     ensures { text.new.text ≡ text.old.text }
 {
-    parts();
+    parts_join();
     text.make_ascii_lowercase_in(index..index);
 }
 

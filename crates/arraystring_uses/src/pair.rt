@@ -5,7 +5,7 @@ ghost use Rattle.arraystring.specs.Construct.{IsWholeOrRefused};
 ghost use Rattle.arraystring.specs.Refusals.{OutOfBounds};
 ghost use Rattle.arraystring.specs.Text.{size};
 
-use arraystring::laws::{found_first, split_first, text_fits};
+use arraystring::laws::{find_finds_first, split_once_at_first, text_fits};
 use arraystring::{ArrayString, Error};
 
 /// Splits `line` at its first `=` into what is before it and what is after it.
@@ -24,7 +24,7 @@ pub fn pair(line: &str) -> Result<(ArrayString<20>, ArrayString<40>), Error>
     ensures refused { IfErr result (λ error. error ≡ OutOfBounds) }
 {
     let found = line.split_once('=');
-    split_first(line, '=', found);
+    split_once_at_first(line, '=', found);
     let (name, rest) = found.ok_or(Error::OutOfBounds)?;
     let key = ArrayString::try_from_str(name)?;
     let value = ArrayString::try_from_str(rest)?;
@@ -92,7 +92,7 @@ pub fn split_value(line: &mut ArrayString<64>) -> Option<ArrayString<64>>
     text_fits(line);
     let text = line.as_str();
     let place = text.find('=');
-    found_first(text, '=', place);
+    find_finds_first(text, '=', place);
     match place {
         None => None,
         Some(at) => line.split_off(at as u8).ok(),

@@ -9,7 +9,8 @@ use core::{ptr, slice};
 
 /// Whether each access is tested, although the proof says of each that it is right: in debug builds, by the feature `checked`, and where
 /// a `usize` has not the 64 bits for which that is proved.
-pub(crate) const CHECKS_ACCESS: bool = cfg!(any(debug_assertions, feature = "checked", not(target_pointer_width = "64")));
+pub(crate) const CHECKS_ACCESS: bool =
+    cfg!(any(debug_assertions, feature = "checked", not(target_pointer_width = "64")));
 
 /// Asserts the preconditions of a function (what its contract in Rattle `requires`), if `CHECKS_ACCESS`. Else it does nothing.
 macro_rules! required {

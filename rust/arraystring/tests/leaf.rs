@@ -52,17 +52,17 @@ fn bytes(len: usize) -> Vec<u8> {
     (0..len).map(|at| (at * 7 + at / 256 + 60) as u8).collect()
 }
 
-fn written(bytes: &[u8]) -> Vec<Place> {
-    bytes.iter().copied().map(Place::new).collect()
+fn written(bytes: &[u8]) -> Vec<MaybeByte> {
+    bytes.iter().copied().map(MaybeByte::new).collect()
 }
 
-fn values(places: &[Place]) -> Vec<u8> {
+fn values(places: &[MaybeByte]) -> Vec<u8> {
     places.iter().map(|place| byte(&[*place], 0)).collect()
 }
 
 /// Asserts that an edit of `len` places does what the plain one does, also to what lies beside them.
 #[track_caller]
-fn changes(len: usize, edit: impl FnOnce(&mut [Place]), plain: impl FnOnce(&mut [u8])) {
+fn changes(len: usize, edit: impl FnOnce(&mut [MaybeByte]), plain: impl FnOnce(&mut [u8])) {
     let mut wanted = bytes(len + 2 * BESIDE);
     let mut all = written(&wanted);
     edit(&mut all[BESIDE..BESIDE + len]);
@@ -134,7 +134,7 @@ fn one_byte_is_read() {
 
 #[test]
 fn a_part_is_borrowed_and_its_letters_are_turned() {
-    const PART: &[u8] = part(&[Place::new(b'a'), Place::new(b'b'), NEW_BYTE], 1, 1);
+    const PART: &[u8] = part(&[MaybeByte::new(b'a'), MaybeByte::new(b'b'), NEW_BYTE], 1, 1);
     assert_eq!(PART, b"b");
     let mut count = 0;
     for len in lengths() {
@@ -166,7 +166,7 @@ fn a_part_is_borrowed_and_its_letters_are_turned() {
 }
 
 /// Where a place is.
-fn given_at(all: &[Place], at: usize) -> *const u8 {
+fn given_at(all: &[MaybeByte], at: usize) -> *const u8 {
     all.as_ptr().wrapping_add(at).cast()
 }
 
@@ -174,7 +174,7 @@ fn given_at(all: &[Place], at: usize) -> *const u8 {
 fn a_few_bytes_are_read_and_written() {
     fn of<const K: usize>() {
         let new: [u8; K] = std::array::from_fn(|at| 200 - at as u8);
-        let new_places = new.map(Place::new);
+        let new_places = new.map(MaybeByte::new);
         for len in lengths() {
             let (given, mut all) = (bytes(len), written(&bytes(len)));
             for at in (0..=len).filter(|at| at + K <= len && (len <= MOST || places(len).contains(at))) {
@@ -232,11 +232,12 @@ fn any_run_of_an_array_is_moved() {
     fn of<const N: usize>() {
         for (from, end) in ranges(N) {
             for to in places(N - (end - from)) {
-                let edit = |all: &mut [Place]| move_bytes::<N>(all.try_into().expect("N places"), from, to, end - from);
+                let edit =
+                    |all: &mut [MaybeByte]| move_bytes::<N>(all.try_into().expect("N places"), from, to, end - from);
                 changes(N, edit, |all| all.copy_within(from..end, to));
             }
         }
-        let mut all: [Place; N] = written(&bytes(N)).try_into().expect("N places");
+        let mut all: [MaybeByte; N] = written(&bytes(N)).try_into().expect("N places");
         for run in ends(N) {
             for past in past(N - run) {
                 refused(|| move_bytes(&mut all, 0, past, run));
@@ -260,7 +261,7 @@ fn a_long_run_is_moved() {
         for len in lengths() {
             for (from, end) in ranges(len).into_iter().filter(|(from, end)| (16..=N).contains(&(end - from))) {
                 for to in places(len - (end - from)) {
-                    let edit = |all: &mut [Place]| move_long_run::<N>(all, from, to, end - from);
+                    let edit = |all: &mut [MaybeByte]| move_long_run::<N>(all, from, to, end - from);
                     changes(len, edit, |all| all.copy_within(from..end, to));
                     count += 1;
                 }

@@ -13,15 +13,15 @@ use inputs::{CHARS, behind, texts_of};
 mod inputs;
 
 /// The file and the line that a panic names.
-type Place = (String, u32);
+type MaybeByte = (String, u32);
 
 thread_local! {
     /// The place of the last panic of a thread.
-    static PLACE: RefCell<Option<Place>> = const { RefCell::new(None) };
+    static PLACE: RefCell<Option<MaybeByte>> = const { RefCell::new(None) };
 }
 
 /// The words and the place of the panic of a call.
-fn panic_of(call: impl FnOnce()) -> (String, Place) {
+fn panic_of(call: impl FnOnce()) -> (String, MaybeByte) {
     static HOOK: Once = Once::new();
     HOOK.call_once(|| {
         set_hook(Box::new(|panic| {

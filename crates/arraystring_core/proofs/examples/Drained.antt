@@ -3,7 +3,7 @@ use Rattle.std.proofs.Common.{◌≡◌, [], ◌∷◌, refl, arith, codes, Some
 use Rattle.arraystring_base.specs.Text.{width}
 use Rattle.arraystring_base.specs.declared.error.Error.TheVariants as error
 use Rattle.arraystring_core.specs.Stored.{string_of}
-use Rattle.arraystring_core.specs.Drained.{DrainView, drain_after_front, removed_of, result_with_left, Front, Back, WalkResult, add_to_fronts, add_to_backs, walk_of}
+use Rattle.arraystring_core.specs.Drained.{DrainView, drain_after_front, removed_of, result_with_left, Front, Back, WalkResult, prepend_from_front, prepend_from_back, walk_of}
 
 -- of `aé`, 'a' was given from the front
 abbrev rest : DrainView
@@ -42,17 +42,17 @@ both_ends = record { fronts = codes "A"; left = codes "🤔"; backs = codes "B" 
 WalkResult-the_end_counts : walk_of (Front ∷ []) (codes "A") ≡ walk_of (Back ∷ []) (codes "A") → ⊥
 WalkResult-the_end_counts e = grind arith
 
-add_to_fronts-first : add_to_fronts (Some 0x78) both_ends ≡ record { fronts = codes "xA"; left = codes "🤔"; backs = codes "B" }
-add_to_fronts-first = refl
+prepend_from_front-first : prepend_from_front (Some 0x78) both_ends ≡ record { fronts = codes "xA"; left = codes "🤔"; backs = codes "B" }
+prepend_from_front-first = refl
 
-add_to_fronts-nothing : add_to_fronts None both_ends ≡ both_ends
-add_to_fronts-nothing = refl
+prepend_from_front-nothing : prepend_from_front None both_ends ≡ both_ends
+prepend_from_front-nothing = refl
 
-add_to_backs-first : add_to_backs (Some 0x78) both_ends ≡ record { fronts = codes "A"; left = codes "🤔"; backs = codes "xB" }
-add_to_backs-first = refl
+prepend_from_back-first : prepend_from_back (Some 0x78) both_ends ≡ record { fronts = codes "A"; left = codes "🤔"; backs = codes "xB" }
+prepend_from_back-first = refl
 
-add_to_backs-nothing : add_to_backs None both_ends ≡ both_ends
-add_to_backs-nothing = refl
+prepend_from_back-nothing : prepend_from_back None both_ends ≡ both_ends
+prepend_from_back-nothing = refl
 
 walk_of-no_end : walk_of [] (codes "A🤔B") ≡ record { fronts = []; left = codes "A🤔B"; backs = [] }
 walk_of-no_end = refl

@@ -3,22 +3,22 @@ use Rattle.std.proofs.Common.{◌≡◌, [], ◌∷◌, refl, arith, codes, true
 use Rattle.std.specs.Str.{chars}
 use Rattle.serde_json.specs.Data.{null, boolean, number, string, array, object, unsigned, no_items, no_members}
 use Rattle.arraystring_base.specs.Text.{width, utf8}
-use Rattle.arraystring_core.specs.Json.{json_text, text_within, whole_text, IsWhyRefused, value_error_name}
+use Rattle.arraystring_core.specs.Json.{json_string, text_cut_to, whole_text, IsWhyRefused, value_error_name}
 use Rattle.arraystring_core.specs.declared.integration.ValueError.TheVariants.{NotText, OutOfBounds}
 
-json_text-of_two_characters : json_text (codes "aé") ≡ string (0x61 ∷ 0xC3 ∷ 0xA9 ∷ [])
+json_string-of_two_characters : json_string (codes "aé") ≡ string (0x61 ∷ 0xC3 ∷ 0xA9 ∷ [])
 unfolding utf8
-json_text-of_two_characters = refl
+json_string-of_two_characters = refl
 
-text_within-cut : (text_within (string (0x61 ∷ 0xC3 ∷ 0xA9 ∷ [])) 3 ≡ Some (codes "aé"))
-    × (text_within (string (0x61 ∷ 0xC3 ∷ 0xA9 ∷ [])) 2 ≡ Some (codes "a"))
+text_cut_to-cut : (text_cut_to (string (0x61 ∷ 0xC3 ∷ 0xA9 ∷ [])) 3 ≡ Some (codes "aé"))
+    × (text_cut_to (string (0x61 ∷ 0xC3 ∷ 0xA9 ∷ [])) 2 ≡ Some (codes "a"))
 unfolding chars width
-text_within-cut = (refl, refl)
+text_cut_to-cut = (refl, refl)
 
-text_within-no_other_value : (text_within null 3 ≡ None)
-    × (text_within (boolean true) 3 ≡ None) × (text_within (number (unsigned 7)) 3 ≡ None)
-    × (text_within (array no_items) 3 ≡ None) × (text_within (object no_members) 3 ≡ None)
-text_within-no_other_value = (refl, refl, refl, refl, refl)
+text_cut_to-no_other_value : (text_cut_to null 3 ≡ None)
+    × (text_cut_to (boolean true) 3 ≡ None) × (text_cut_to (number (unsigned 7)) 3 ≡ None)
+    × (text_cut_to (array no_items) 3 ≡ None) × (text_cut_to (object no_members) 3 ≡ None)
+text_cut_to-no_other_value = (refl, refl, refl, refl, refl)
 
 whole_text-of_two_characters : whole_text (string (0x61 ∷ 0xC3 ∷ 0xA9 ∷ [])) ≡ Some (codes "aé")
 unfolding chars

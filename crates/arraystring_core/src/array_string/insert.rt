@@ -34,7 +34,7 @@ impl<const N: usize> ArrayString<N> {
             self.old.text result self.new.text }
     {
         self.check_insertion(index, ch.len_utf8())?;
-        self.splice_char(index as usize, ch);
+        self.insert_at_boundary(index as usize, ch);
         Ok(())
     }
 

@@ -67,7 +67,7 @@ impl<const N: usize> ArrayString<N> {
     /// Puts `ch` at a boundary, as `splice` does with a text. The new text must fit. If there is room behind the
     /// text, the UTF-8 of `ch` is written straight into the array, without a text of it for `splice`.
     #[tactic(auto, using(crate::proofs::StoredLaws::within))]
-    pub(super) fn splice_char(&mut self, at: usize, ch: char)
+    pub(super) fn insert_at_boundary(&mut self, at: usize, ch: char)
         requires boundary { IsTrue (boundary self.old.text at) }
         requires room { size self.old.text + width ch ≤ cap N }
         ensures { self.new.text ≡ front self.old.text at ++ (ch ∷ back self.old.text at) }

@@ -150,7 +150,7 @@ impl<const N: usize> ArrayString<N> {
         requires room { size self.old.text + width ch ≤ cap N }
         ensures { self.new.text ≡ front self.old.text index ++ (ch ∷ back self.old.text index) }
     {
-        self.splice_char(index as usize, ch);
+        self.insert_at_boundary(index as usize, ch);
     }
 
     /// Inserts `string` at the byte index `index`.

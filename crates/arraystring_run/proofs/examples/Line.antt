@@ -3,7 +3,7 @@
 use Rattle.std.proofs.Common.{◌≡◌, ℕ, ◌&&◌, Bool, true, false, true≢false, inl, inr, List, [], ◌∷◌, ◌++◌, map, drop, sym, ap, ◌∙◌, append-nil, subst, refl, arith, Bor, codes, lit≤, lit<, nat_eq}
 use Rattle.std.specs.Fmt.{digits}
 use Rattle.arraystring.specs.Text.{utf8}
-use Rattle.arraystring_run.specs.Line.{Argument, Number, Character, Text, word, arguments, AreDigits, number_with_more_digits, IsNumber, IsSpelled, space, AreSpelled, IsLineOf, spelling, spellings, line_of, AreArguments, IsOneWord, IsNumberBefore}
+use Rattle.arraystring_run.specs.Line.{Argument, Number, Character, Text, word, arguments, AreDigits, number_with_more_digits, IsNumber, SpellsArgument, space, SpellsArguments, IsLineOf, spelling, spellings, line_of, AreArguments, IsOneWord, IsNumberThenRest}
 use Rattle.arraystring_run.specs.declared.commands.Command.{Command}
 use Rattle.arraystring_run.specs.declared.commands.Command.TheVariants as command
 
@@ -82,49 +82,49 @@ IsNumber-another_value is = omega arith
 
 -- Arguments
 
-IsSpelled-number : IsSpelled (codes "007") (Number 7)
-IsSpelled-number = omega arith
+SpellsArgument-number : SpellsArgument (codes "007") (Number 7)
+SpellsArgument-number = omega arith
 
-IsSpelled-another_number : IsSpelled (codes "007") (Number 8) → ⊥
-IsSpelled-another_number is = omega arith
+SpellsArgument-another_number : SpellsArgument (codes "007") (Number 8) → ⊥
+SpellsArgument-another_number is = omega arith
 
-IsSpelled-character : IsSpelled (0xC3 ∷ 0xA9 ∷ []) (Character 0xE9)
+SpellsArgument-character : SpellsArgument (0xC3 ∷ 0xA9 ∷ []) (Character 0xE9)
 unfolding utf8
-IsSpelled-character = (inl (lit< tt), refl)
+SpellsArgument-character = (inl (lit< tt), refl)
 
-IsSpelled-character_in_one_byte : IsSpelled (0xE9 ∷ []) (Character 0xE9) → ⊥
+SpellsArgument-character_in_one_byte : SpellsArgument (0xE9 ∷ []) (Character 0xE9) → ⊥
 unfolding utf8
-IsSpelled-character_in_one_byte (is, e) = grind arith
+SpellsArgument-character_in_one_byte (is, e) = grind arith
 
 -- ED A0 80 would be the UTF-8 of the surrogate D800
-IsSpelled-surrogate : IsSpelled (0xED ∷ 0xA0 ∷ 0x80 ∷ []) (Character 0xD800) → ⊥
-IsSpelled-surrogate (inl low, e) = omega arith
-IsSpelled-surrogate (inr high, e) = omega arith
+SpellsArgument-surrogate : SpellsArgument (0xED ∷ 0xA0 ∷ 0x80 ∷ []) (Character 0xD800) → ⊥
+SpellsArgument-surrogate (inl low, e) = omega arith
+SpellsArgument-surrogate (inr high, e) = omega arith
 
-IsSpelled-text : IsSpelled (0x20 ∷ 0xC3 ∷ 0xA9 ∷ []) (Text (0x20 ∷ 0xC3 ∷ 0xA9 ∷ []))
+SpellsArgument-text : SpellsArgument (0x20 ∷ 0xC3 ∷ 0xA9 ∷ []) (Text (0x20 ∷ 0xC3 ∷ 0xA9 ∷ []))
 unfolding utf8
-IsSpelled-text = ((codes " é", ((inl (lit< tt), (inl (lit< tt), tt)), refl)), refl)
+SpellsArgument-text = ((codes " é", ((inl (lit< tt), (inl (lit< tt), tt)), refl)), refl)
 
-IsSpelled-another_text : IsSpelled (codes "a") (Text (codes "b")) → ⊥
-IsSpelled-another_text (is, e) = grind arith
+SpellsArgument-another_text : SpellsArgument (codes "a") (Text (codes "b")) → ⊥
+SpellsArgument-another_text (is, e) = grind arith
 
-IsSpelled-text_that_is_no_utf8 : IsSpelled (0xFF ∷ []) (Text (0xFF ∷ [])) → ⊥
+SpellsArgument-text_that_is_no_utf8 : SpellsArgument (0xFF ∷ []) (Text (0xFF ∷ [])) → ⊥
 unfolding utf8
-IsSpelled-text_that_is_no_utf8 (([], (is, e)), same) = cc
-IsSpelled-text_that_is_no_utf8 ((c ∷ t, (is, e)), same) = grind arith
+SpellsArgument-text_that_is_no_utf8 (([], (is, e)), same) = cc
+SpellsArgument-text_that_is_no_utf8 ((c ∷ t, (is, e)), same) = grind arith
 
 space-is_20 : space ≡ 0x20
 space-is_20 = refl
 
-AreSpelled-none : AreSpelled [] []
-AreSpelled-none = refl
+SpellsArguments-none : SpellsArguments [] []
+SpellsArguments-none = refl
 
-AreSpelled-space_and_no_argument : AreSpelled (codes " ") [] → ⊥
-AreSpelled-space_and_no_argument e = cc
+SpellsArguments-space_and_no_argument : SpellsArguments (codes " ") [] → ⊥
+SpellsArguments-space_and_no_argument e = cc
 
-AreSpelled-each_after_a_space : AreSpelled (codes " 7 ab") (Number 7 ∷ Text (codes "ab") ∷ [])
+SpellsArguments-each_after_a_space : SpellsArguments (codes " 7 ab") (Number 7 ∷ Text (codes "ab") ∷ [])
 unfolding utf8
-AreSpelled-each_after_a_space = (
+SpellsArguments-each_after_a_space = (
   codes "7",
   codes " ab",
   refl,
@@ -132,31 +132,31 @@ AreSpelled-each_after_a_space = (
   (codes "ab", [], refl, ((codes "ab", ((inl (lit< tt), (inl (lit< tt), tt)), refl)), refl), refl),
 )
 
-AreSpelled-nothing_but_the_argument : AreSpelled [] (Text [] ∷ []) → ⊥
-AreSpelled-nothing_but_the_argument (first, others, e, spelled, next) = cc
+SpellsArguments-nothing_but_the_argument : SpellsArguments [] (Text [] ∷ []) → ⊥
+SpellsArguments-nothing_but_the_argument (first, others, e, spelled, next) = cc
 
-AreSpelled-another_byte_than_a_space : AreSpelled (codes "-7") (Number 7 ∷ []) → ⊥
-AreSpelled-another_byte_than_a_space (first, others, e, spelled, next) = grind arith
+SpellsArguments-another_byte_than_a_space : SpellsArguments (codes "-7") (Number 7 ∷ []) → ⊥
+SpellsArguments-another_byte_than_a_space (first, others, e, spelled, next) = grind arith
 
 -- what follows one space, if it spells one argument
-only : (rest : List ℕ) (a : Argument) → AreSpelled (space ∷ rest) (a ∷ []) → IsSpelled rest a
+only : (rest : List ℕ) (a : Argument) → SpellsArguments (space ∷ rest) (a ∷ []) → SpellsArgument rest a
 only rest a (first, [], e, spelled, next) =
-    let same : first ≡ rest = cc (append-nil first) in subst (λ bs. IsSpelled bs a) same spelled
+    let same : first ≡ rest = cc (append-nil first) in subst (λ bs. SpellsArgument bs a) same spelled
 only rest a (first, b ∷ others, e, spelled, next) = absurd (cc)
 
-AreSpelled-another_argument : AreSpelled (codes " 7") (Number 8 ∷ []) → ⊥
-AreSpelled-another_argument spelled = let number : IsNumber (codes "7") 8 = only (codes "7") (Number 8) spelled in omega arith
+SpellsArguments-another_argument : SpellsArguments (codes " 7") (Number 8 ∷ []) → ⊥
+SpellsArguments-another_argument spelled = let number : IsNumber (codes "7") 8 = only (codes "7") (Number 8) spelled in omega arith
 
-AreSpelled-something_follows : AreSpelled (codes " 7 ") (Number 7 ∷ []) → ⊥
-AreSpelled-something_follows spelled = let number : IsNumber (codes "7 ") 7 = only (codes "7 ") (Number 7) spelled in omega arith
+SpellsArguments-something_follows : SpellsArguments (codes " 7 ") (Number 7 ∷ []) → ⊥
+SpellsArguments-something_follows spelled = let number : IsNumber (codes "7 ") 7 = only (codes "7 ") (Number 7) spelled in omega arith
 
-AreSpelled-two_spaces : AreSpelled (codes " 1  2") (Number 1 ∷ Number 2 ∷ []) → ⊥
-AreSpelled-two_spaces ([], others, e, number, next) = omega arith
-AreSpelled-two_spaces (b ∷ [], others, e, number, next) =
+SpellsArguments-two_spaces : SpellsArguments (codes " 1  2") (Number 1 ∷ Number 2 ∷ []) → ⊥
+SpellsArguments-two_spaces ([], others, e, number, next) = omega arith
+SpellsArguments-two_spaces (b ∷ [], others, e, number, next) =
     let rest : others ≡ codes "  2" = grind arith in
-    let next : AreSpelled (codes "  2") (Number 2 ∷ []) = subst (λ bs. AreSpelled bs (Number 2 ∷ [])) rest next in
+    let next : SpellsArguments (codes "  2") (Number 2 ∷ []) = subst (λ bs. SpellsArguments bs (Number 2 ∷ [])) rest next in
     let number : IsNumber (codes " 2") 2 = only (codes " 2") (Number 2) next in omega arith
-AreSpelled-two_spaces (b ∷ c ∷ first, others, e, number, next) = let is : c ≡ 0x20 = grind arith in omega arith
+SpellsArguments-two_spaces (b ∷ c ∷ first, others, e, number, next) = let is : c ≡ 0x20 = grind arith in omega arith
 
 -- Lines
 
@@ -219,7 +219,7 @@ IsLineOf-space_after_a_word_alone c (rest, e, spelled) = other_word (word c) (co
 
 IsLineOf-256 : (c : Command) → IsLineOf (codes "truncate 256") c → ⊥
 IsLineOf-256 (command.Truncate i) (rest, e, spelled) =
-    let spelled : AreSpelled (codes " 256") (Number i ∷ []) = subst (λ bs. AreSpelled bs (Number i ∷ [])) (sym (ap (drop 8) e)) spelled in
+    let spelled : SpellsArguments (codes " 256") (Number i ∷ []) = subst (λ bs. SpellsArguments bs (Number i ∷ [])) (sym (ap (drop 8) e)) spelled in
     let number : IsNumber (codes "256") i = only (codes "256") (Number i) spelled in omega arith
 IsLineOf-256 c (rest, e, spelled) = other_word (word c) (codes "truncate 256") refl rest e
 
@@ -243,12 +243,12 @@ two_letters c e = grind arith
 
 IsLineOf-no_character : (c : Command) → IsLineOf (codes "try_push ") c → ⊥
 IsLineOf-no_character (command.TryPush c) (rest, e, spelled) =
-    no_utf8 c (only [] (Character c) (subst (λ bs. AreSpelled bs (Character c ∷ [])) (sym (ap (drop 8) e)) spelled)).1
+    no_utf8 c (only [] (Character c) (subst (λ bs. SpellsArguments bs (Character c ∷ [])) (sym (ap (drop 8) e)) spelled)).1
 IsLineOf-no_character c (rest, e, spelled) = other_word (word c) (codes "try_push ") refl rest e
 
 IsLineOf-two_characters : (c : Command) → IsLineOf (codes "try_push ab") c → ⊥
 IsLineOf-two_characters (command.TryPush c) (rest, e, spelled) =
-    two_letters c (only (codes "ab") (Character c) (subst (λ bs. AreSpelled bs (Character c ∷ [])) (sym (ap (drop 8) e)) spelled)).1
+    two_letters c (only (codes "ab") (Character c) (subst (λ bs. SpellsArguments bs (Character c ∷ [])) (sym (ap (drop 8) e)) spelled)).1
 IsLineOf-two_characters c (rest, e, spelled) = other_word (word c) (codes "try_push ab") refl rest e
 
 IsLineOf-capital_letter : (c : Command) → IsLineOf (codes "Push_str x") c → ⊥
@@ -257,13 +257,13 @@ IsLineOf-capital_letter c (rest, e, spelled) = other_word (word c) (codes "Push_
 
 IsLineOf-two_spaces : (c : Command) → IsLineOf (codes "get 1  2") c → ⊥
 IsLineOf-two_spaces (command.Get start end) (rest, e, spelled) =
-    apart start end (subst (λ bs. AreSpelled bs (Number start ∷ Number end ∷ [])) (sym (ap (drop 3) e)) spelled)
+    apart start end (subst (λ bs. SpellsArguments bs (Number start ∷ Number end ∷ [])) (sym (ap (drop 3) e)) spelled)
   where
-    apart : (m n : ℕ) → AreSpelled (codes " 1  2") (Number m ∷ Number n ∷ []) → ⊥
+    apart : (m n : ℕ) → SpellsArguments (codes " 1  2") (Number m ∷ Number n ∷ []) → ⊥
     apart m n ([], others, e, number, next) = omega arith
     apart m n (b ∷ [], others, e, number, next) =
         let rest : others ≡ codes "  2" = grind arith in
-        let next : AreSpelled (codes "  2") (Number n ∷ []) = subst (λ bs. AreSpelled bs (Number n ∷ [])) rest next in
+        let next : SpellsArguments (codes "  2") (Number n ∷ []) = subst (λ bs. SpellsArguments bs (Number n ∷ [])) rest next in
         let number : IsNumber (codes " 2") n = only (codes " 2") (Number n) next in omega arith
     apart m n (b ∷ c ∷ first, others, e, number, next) = let is : c ≡ 0x20 = grind arith in omega arith
 IsLineOf-two_spaces c (rest, e, spelled) = other_word (word c) (codes "get 1  2") refl rest e
@@ -342,15 +342,15 @@ IsOneWord-pop = omega arith
 IsOneWord-two : IsOneWord (codes "a b") → ⊥
 IsOneWord-two is = is.1.0 refl
 
-IsNumberBefore-a_space : IsNumberBefore (codes "12 x y") 12 (codes "x y")
-IsNumberBefore-a_space = (codes "12", omega arith, refl)
+IsNumberThenRest-a_space : IsNumberThenRest (codes "12 x y") 12 (codes "x y")
+IsNumberThenRest-a_space = (codes "12", omega arith, refl)
 
-IsNumberBefore-no_space : IsNumberBefore (codes "12") 12 [] → ⊥
-IsNumberBefore-no_space ([], number, e) = grind arith
-IsNumberBefore-no_space (b ∷ [], number, e) = grind arith
-IsNumberBefore-no_space (b ∷ c ∷ [], number, e) = cc
-IsNumberBefore-no_space (b ∷ c ∷ d ∷ bs, number, e) = cc
+IsNumberThenRest-no_space : IsNumberThenRest (codes "12") 12 [] → ⊥
+IsNumberThenRest-no_space ([], number, e) = grind arith
+IsNumberThenRest-no_space (b ∷ [], number, e) = grind arith
+IsNumberThenRest-no_space (b ∷ c ∷ [], number, e) = cc
+IsNumberThenRest-no_space (b ∷ c ∷ d ∷ bs, number, e) = cc
 
-IsNumberBefore-no_number : IsNumberBefore (codes " x") 0 (codes "x") → ⊥
-IsNumberBefore-no_number ([], number, e) = omega arith
-IsNumberBefore-no_number (b ∷ bs, number, e) = let is : b ≡ 0x20 = grind arith in omega arith
+IsNumberThenRest-no_number : IsNumberThenRest (codes " x") 0 (codes "x") → ⊥
+IsNumberThenRest-no_number ([], number, e) = omega arith
+IsNumberThenRest-no_number (b ∷ bs, number, e) = let is : b ≡ 0x20 = grind arith in omega arith

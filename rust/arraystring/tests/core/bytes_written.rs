@@ -5,7 +5,7 @@ use std::fmt::Write;
 use std::ops::{Add, Range};
 
 use crate::inputs::{at_capacities, cut, edges, letters, mixed};
-use crate::leaf::Place;
+use crate::leaf::MaybeByte;
 use crate::{ArrayString, behind, capacity, values};
 
 type Edit<'a, const N: usize> = &'a dyn Fn(&mut ArrayString<N>);
@@ -24,7 +24,7 @@ fn room_in<const N: usize>(string: &ArrayString<N>) -> usize {
 fn with_values<const N: usize>(mut string: ArrayString<N>) -> ArrayString<N> {
     let text = start(&string)..start(&string) + string.as_str().len();
     for at in (0..N).filter(|at| !text.contains(at)) {
-        string.array[at] = Place::new((at * 7 + at / 256) as u8 ^ 0xA5);
+        string.array[at] = MaybeByte::new((at * 7 + at / 256) as u8 ^ 0xA5);
     }
     string
 }

@@ -57,11 +57,11 @@ fn given_by<const N: usize>(drain: Drain<N>) -> String {
 }
 
 /// So many places with a value each, of which those near each other differ.
-fn places<const N: usize>() -> [leaf::Place; N] {
-    std::array::from_fn(|at| leaf::Place::new((at * 37 + at / 256) as u8))
+fn places<const N: usize>() -> [leaf::MaybeByte; N] {
+    std::array::from_fn(|at| leaf::MaybeByte::new((at * 37 + at / 256) as u8))
 }
 
 /// The bytes of an array of which each has a value.
-fn values(places: &[leaf::Place]) -> &[u8] {
+fn values(places: &[leaf::MaybeByte]) -> &[u8] {
     leaf::part(places, 0, places.len())
 }

@@ -5,7 +5,7 @@
 use std::ffi::c_void;
 use std::hint::black_box;
 
-use crate::leaf::Place;
+use crate::leaf::MaybeByte;
 use crate::utils::shift;
 use crate::{ArrayString, behind, capacity, places, values};
 
@@ -45,7 +45,7 @@ fn memcpy_and_memmove_are_those_of_the_environment() {
 
 /// Moves a run by `shift`, and asserts that it lies where it was to go, and that all else is as it was.
 fn is_moved<const N: usize>(from: usize, to: usize, len: usize) {
-    let before: [Place; N] = places();
+    let before: [MaybeByte; N] = places();
     let (mut array, mut wanted) = (before, before);
     shift(&mut array, from, to, len);
     wanted[to..to + len].copy_from_slice(&before[from..from + len]);

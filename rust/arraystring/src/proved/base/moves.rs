@@ -70,7 +70,12 @@ fn move_short_run<const N: usize>(all: &mut [crate::leaf::MaybeByte], from: usiz
 
 /// Moves `len` bytes, from `K` to `2 * K` of them: the first `K` and the last `K`, which may overlap.
 #[inline(always)]
-pub(crate) fn move_by_two_vectors<const K: usize>(all: &mut [crate::leaf::MaybeByte], from: usize, to: usize, len: usize) {
+pub(crate) fn move_by_two_vectors<const K: usize>(
+    all: &mut [crate::leaf::MaybeByte],
+    from: usize,
+    to: usize,
+    len: usize,
+) {
     let rest = len - K;
     let first = vector_at::<K>(all, from);
     let last = vector_at::<K>(all, from + rest);

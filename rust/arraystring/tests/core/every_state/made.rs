@@ -3,7 +3,7 @@
 use super::edits::{all_pieces, indices, piece_counts};
 use super::states::{MadeAndWanted, WIDTHS, at_each_capacity, counts, texts};
 use crate::inputs::cut;
-use crate::leaf::Place;
+use crate::leaf::MaybeByte;
 use crate::limited::Limited;
 use crate::utf16::{Unit16, Units};
 use crate::utils::{encode, is_boundary, is_inside_boundary, shift, truncate_str};
@@ -231,7 +231,7 @@ fn characters_in_an_array() {
         for ch in WIDTHS {
             for at in 0..(N + 1).saturating_sub(ch.len_utf8()) {
                 let (mut array, mut wanted) = (places::<N>(), places::<N>());
-                let spelled = ch.to_string().bytes().map(Place::new).collect::<Vec<_>>();
+                let spelled = ch.to_string().bytes().map(MaybeByte::new).collect::<Vec<_>>();
                 wanted[at..at + spelled.len()].copy_from_slice(&spelled);
                 assert_eq!(encode(ch, &mut array, at), ch.len_utf8());
                 assert_eq!(values(&array), values(&wanted), "{ch} at {at}");

@@ -11,8 +11,8 @@ returns-in_err-check_insertion g c =
     let wide : size (c.args.ch ∷ []) ≡ c.len_utf8.result = omega (arith, width-is c.args.ch) in
     rw wide (search rules)
 
-pub splice_char-requires : goal.splice_char-requires
-splice_char-requires g c =
+pub insert_at_boundary-requires : goal.insert_at_boundary-requires
+insert_at_boundary-requires g c =
     let is = takes_in _ _ _ _ c.in_ok-check_insertion.ensures in
     (search rules, (is.1, omega (arith, width-is c.args.ch)))
 
@@ -21,4 +21,4 @@ returns g c =
     let wide : size (c.args.ch ∷ []) ≡ c.len_utf8.result = omega (arith, width-is c.args.ch) in
     let row = insertion c.args.self.now.text c.args.index (c.args.ch ∷ []) (cap g.row.N) in
     let is : Ok (tt {0}) ≡ ok_unless (first_cause row.tests) (tt {0}) = rw wide c.in_ok-check_insertion.ensures in
-    makes row _ _ _ (no_cause row.tests is) refl c.splice_char.ensures
+    makes row _ _ _ (no_cause row.tests is) refl c.insert_at_boundary.ensures

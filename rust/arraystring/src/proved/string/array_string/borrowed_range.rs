@@ -3,7 +3,7 @@
 
 use crate::proved::string::ArrayString;
 use crate::proved::string::range_ends::plain_ends;
-use crate::leaf::{text_from_boundary, text_before_boundary};
+use crate::leaf::{text_before_boundary, text_from_boundary};
 use core::ops::RangeBounds;
 
 impl<const N: usize> ArrayString<N> {

@@ -18,7 +18,7 @@ impl<const N: usize> ArrayString<N> {
     #[inline]
     pub fn try_insert(&mut self, index: u8, ch: char) -> Result<(), Error> {
         self.check_insertion(index, ch.len_utf8())?;
-        self.splice_char(index as usize, ch);
+        self.insert_at_boundary(index as usize, ch);
         Ok(())
     }
 

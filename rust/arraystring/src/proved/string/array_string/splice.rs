@@ -45,7 +45,7 @@ impl<const N: usize> ArrayString<N> {
 
     /// Puts `ch` at a boundary, as `splice` does with a text. The new text must fit. If there is room behind the
     /// text, the UTF-8 of `ch` is written straight into the array, without a text of it for `splice`.
-    pub(super) fn splice_char(&mut self, at: usize, ch: char) {
+    pub(super) fn insert_at_boundary(&mut self, at: usize, ch: char) {
         let (offset, size) = (self.start as usize, self.size as usize);
         let (len, tail) = (ch.len_utf8(), size - at);
         if offset + size + len > Self::capacity() as usize {

@@ -108,7 +108,7 @@ impl<const N: usize> ArrayString<N> {
     /// The index must be a boundary, and `ch` must fit.
     #[inline]
     pub fn insert_unchecked(&mut self, index: u8, ch: char) {
-        self.splice_char(index as usize, ch);
+        self.insert_at_boundary(index as usize, ch);
     }
 
     /// Inserts `string` at the byte index `index`.

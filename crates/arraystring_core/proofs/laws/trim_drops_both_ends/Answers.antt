@@ -1,7 +1,7 @@
 use Rattle.std.specs.Prelude.{IsTrue, reverse}
 use Rattle.arraystring_core.specs.Edits.{without_trailing}
 use Rattle.arraystring_core.proofs.TrimLemmas.{leading, All-reverse, trimmed-parts, trailing-bare}
-use Rattle.arraystring_core.proofs.laws.trimmed.Goals as goal
+use Rattle.arraystring_core.proofs.laws.trim_drops_both_ends.Goals as goal
 
 pub returns-clause-dropped : goal.returns-clause-dropped
 returns-clause-dropped c = λ passes t.

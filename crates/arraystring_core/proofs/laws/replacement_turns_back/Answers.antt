@@ -7,7 +7,7 @@ use Rattle.arraystring_core.specs.Edits.{first_cause, part, replacement}
 use Rattle.arraystring_core.proofs.CauseLemmas.{IsAllowed, allowed-where}
 use Rattle.arraystring_core.proofs.EditLaws.{inside-not}
 use Rattle.arraystring_core.proofs.PartLaws.{part-joined, part-size}
-use Rattle.arraystring_core.proofs.laws.replaced_back.Goals as goal
+use Rattle.arraystring_core.proofs.laws.replacement_turns_back.Goals as goal
 
 module _ (t given : List ℕ) (start end n : ℕ) (is : IsAllowed t start end (size given) n) where
   before : size (front t start) ≡ start

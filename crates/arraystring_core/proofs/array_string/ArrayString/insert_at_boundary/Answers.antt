@@ -5,8 +5,8 @@ use Rattle.arraystring_core.proofs.GapLemmas.{shifted}
 use Rattle.arraystring_core.proofs.StoredLaws.{opened-within}
 use Rattle.arraystring_core.proofs.SpanLemmas.{StoredAt}
 use Rattle.arraystring_core.proofs.AppendLemmas.{char-utf8, char-in_front, char-spelled, char-inserted}
-use Rattle.arraystring_core.proofs.array_string.ArrayString.splice_char.Given as given
-use Rattle.arraystring_core.proofs.array_string.ArrayString.splice_char.Goals as goal
+use Rattle.arraystring_core.proofs.array_string.ArrayString.insert_at_boundary.Given as given
+use Rattle.arraystring_core.proofs.array_string.ArrayString.insert_at_boundary.Goals as goal
 
 pub overflow_sub-tail : goal.overflow_sub-tail
 overflow_sub-tail g c = opened-within c.self.invariant c.self.view_is _ c.requires.boundary

@@ -3,7 +3,7 @@ use Rattle.std.proofs.lemmas.List.{append-nil}
 use Rattle.arraystring_run.specs.declared.commands.Command.{Command}
 use Rattle.arraystring_run.specs.Line.{IsLineOf}
 use Rattle.arraystring_run.specs.ScriptLines.{AreLinesOf}
-use Rattle.arraystring_run.proofs.laws.one_bad_line.Goals as goal
+use Rattle.arraystring_run.proofs.laws.first_bad_line_is_unique.Goals as goal
 
 -- no lines of commands go past a bad line
 at-most : (f g : List (List ℕ)) (l : List ℕ) (r s : List (List ℕ)) (ds : List Command) → f ++ l ∷ r ≡ g ++ s → AreLinesOf g ds

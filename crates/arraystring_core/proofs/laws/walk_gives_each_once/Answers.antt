@@ -1,9 +1,9 @@
 use Rattle.std.proofs.Common.{◌≡◌, ℕ, ◌-◌, List, [], ◌∷◌, ◌++◌, length, reverse, refl, sym, ap, ◌∙◌, arith, Some, append_assoc}
 use Rattle.std.proofs.lemmas.List.{append-nil, nil_from_length, reverse-append}
-use Rattle.arraystring_core.specs.Drained.{End, Front, Back, add_to_backs, walk_of}
+use Rattle.arraystring_core.specs.Drained.{End, Front, Back, prepend_from_back, walk_of}
 use Rattle.arraystring_core.proofs.EditLaws.{last_of-push, all_but_last-push}
 use Rattle.arraystring_core.proofs.EndLemmas.{last-split, pushed-length}
-use Rattle.arraystring_core.proofs.laws.walks.Goals as goal
+use Rattle.arraystring_core.proofs.laws.walk_gives_each_once.Goals as goal
 
 -- if nothing is left nothing is given
 none : (ends : List End) → walk_of ends [] ≡ walk_of [] []
@@ -12,7 +12,7 @@ none (Front ∷ ends) = none ends
 none (Back ∷ ends) = none ends
 
 -- the back, and the walk from what it leaves
-walked-back : (ends : List End) (t new : List ℕ) (c : ℕ) → t ≡ new ++ c ∷ [] → walk_of (Back ∷ ends) t ≡ add_to_backs (Some c) (walk_of ends new)
+walked-back : (ends : List End) (t new : List ℕ) (c : ℕ) → t ≡ new ++ c ∷ [] → walk_of (Back ∷ ends) t ≡ prepend_from_back (Some c) (walk_of ends new)
 walked-back ends t new c e = rw (e, last_of-push new c, all_but_last-push new c) refl
 
 -- all that was walked is there
