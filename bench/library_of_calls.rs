@@ -2,7 +2,6 @@
 //! which calls it exports (`calls`: three or eight), and at how many capacities (`capacities`: one, three or eight, or none, which is
 //! the empty library). `String`, which has no capacity, has each call once.
 #![no_std]
-#![allow(dead_code, unused_imports, unused_macros, reason = "a library of few calls leaves some out")]
 
 use core::panic::PanicInfo;
 
@@ -11,37 +10,13 @@ fn panic(_: &PanicInfo) -> ! {
     loop {}
 }
 
-#[cfg(over = "crate")]
-mod over {
-    pub use strings::ArrayString as Text;
-    pub type Removed = Result<char, strings::Error>;
-
-    pub fn made<const N: usize>(given: &str) -> Option<Text<N>> {
-        Text::try_from_str(given).ok()
-    }
-}
-
-#[cfg(over = "arrayvec")]
-mod over {
-    pub use strings::ArrayString as Text;
-    pub type Removed = char;
-
-    pub fn made<const N: usize>(given: &str) -> Option<Text<N>> {
-        Text::from(given).ok()
-    }
-}
+#[cfg(not(over = "String"))]
+use strings::ArrayString as Over;
 
 #[cfg(over = "String")]
-mod over {
-    extern crate alloc;
-
-    pub type Text<const N: usize> = alloc::string::String;
-    pub type Removed = char;
-
-    pub fn made<const N: usize>(given: &str) -> Option<Text<N>> {
-        Some(given.into())
-    }
-}
+extern crate alloc;
+#[cfg(over = "String")]
+type Over<const N: usize> = alloc::string::String;
 
 /// Exports calls at a capacity, each as a function whose name ends in it.
 macro_rules! calls {
@@ -53,14 +28,14 @@ macro_rules! calls {
     )*};
 }
 
-/// Exports the calls at each of these capacities. `String` refuses nothing that is pushed.
+/// Exports the calls at each of these capacities. `String` refuses nothing that is pushed. All make a string by `try_from`, which is
+/// `try_from_str` in this crate and `from` in arrayvec.
 macro_rules! exported {
     ($($capacity:literal)*) => {$(
         const _: () = {
             use core::fmt::Write;
-            use crate::over::{Removed, made};
 
-            type Text = crate::over::Text<$capacity>;
+            type Text = Over<$capacity>;
 
             #[cfg(not(over = "String"))]
             calls! { $capacity:
@@ -73,12 +48,12 @@ macro_rules! exported {
                 try_push(text: &mut Text, ch: char) -> bool = text.write_char(ch).is_ok();
             }
             calls! { $capacity:
-                remove(text: &mut Text, at: usize) -> Removed = text.remove(at);
+                remove(text: &mut Text, at: usize) -> impl Sized = text.remove(at);
             }
             #[cfg(calls = "8")]
             calls! { $capacity:
                 pop(text: &mut Text) -> Option<char> = text.pop();
-                try_from_str(given: &str) -> Option<Text> = made::<$capacity>(given);
+                try_from_str(given: &str) -> Option<Text> = Text::try_from(given).ok();
                 equal(text: &Text, other: &Text) -> bool = text == other;
                 less(text: &Text, other: &Text) -> bool = text < other;
                 write(text: &mut Text, given: &str) -> bool = write!(text, "{given}").is_ok();

@@ -1,5 +1,5 @@
-//! Small programs over 4,000 rows, words or messages. Each is a function of its own, `.._measured`, whose instructions are counted, and
-//! gives the texts that it makes to its caller.
+//! Small programs over 4,000 rows, words or messages. Each is a function whose name ends in `measured`, whose instructions are counted, and
+//! which gives the texts that it makes to its caller.
 
 use std::fmt::{self, Display};
 use std::hint::black_box;
@@ -62,27 +62,22 @@ fn line_buffer_measured<T: Text>(lines: &str, runner: &mut impl Runner) {
     }
 }
 
-/// A line of a log that is kept: it is cleared, and what fits of a message is put behind a prefix.
+/// A line of a log that is kept: it is cleared, and what fits of a message is put behind a prefix. A constant one is known to the compiler.
 #[inline(never)]
-fn kept_line_measured<T: Text>(prefix: &str, messages: &[String], runner: &mut impl Runner) {
-    keep_line::<T>(prefix, messages, runner);
-}
-
-/// The same behind a prefix that the compiler knows.
-#[inline(never)]
-fn constant_prefix_measured<T: Text>(messages: &[String], runner: &mut impl Runner) {
-    keep_line::<T>(PREFIX, messages, runner);
-}
-
-#[inline(always)]
-fn keep_line<T: Text>(prefix: &str, messages: &[String], runner: &mut impl Runner) {
+fn kept_line_measured<T: Text>(prefix: impl Fn() -> &'static str, messages: &[String], runner: &mut impl Runner) {
     let mut line = T::with_room(0);
     for message in messages {
         line.make_empty();
-        assert!(line.offer_text(prefix, ANY));
+        assert!(line.offer_text(prefix(), ANY));
         line.push_what_fits(message, LINE);
         runner.see(&line);
     }
+}
+
+/// What a function makes of each word or message.
+#[inline(never)]
+fn made_measured<T: Text>(words: &[String], make: impl Fn(&str) -> T, runner: &mut impl Runner) {
+    words.iter().for_each(|word| runner.see(&make(word)));
 }
 
 #[inline(never)]
@@ -91,12 +86,6 @@ fn log_line<T: Text>(message: &str) -> T {
     assert!(line.offer_text(PREFIX, ANY));
     line.push_what_fits(message, LINE);
     line
-}
-
-/// The same, each made by a function.
-#[inline(never)]
-fn made_lines_measured<T: Text>(messages: &[String], runner: &mut impl Runner) {
-    messages.iter().for_each(|message| runner.see(&log_line::<T>(message)));
 }
 
 /// The last characters of a text. For each that does not fit, the first leave.
@@ -154,19 +143,14 @@ fn results_measured<T: Text>(words: &[String], most: usize, runner: &mut impl Ru
 
 /// Two digits for each byte.
 #[inline(never)]
-fn digits<T: Text>(bytes: &[u8]) -> T {
+fn digits<T: Text>(word: &str) -> T {
     let digit = |number: u8| char::from(b"0123456789abcdef"[usize::from(number)]);
     let mut digits = T::with_room(0);
-    for byte in bytes {
+    for byte in word.as_bytes() {
         assert!(digits.offer_char(digit(byte >> 4), ANY));
         assert!(digits.offer_char(digit(byte & 15), ANY));
     }
     digits
-}
-
-#[inline(never)]
-fn hex_measured<T: Text>(words: &[String], runner: &mut impl Runner) {
-    words.iter().for_each(|word| runner.see(&digits::<T>(word.as_bytes())));
 }
 
 /// An error that a program shows: a line, and its word.
@@ -216,7 +200,7 @@ fn run_over<S: Texts>(runner: &mut impl Runner) {
     runner.begin("`Result` of 255: by four functions");
     results_measured::<S::Of<LINE>>(&line, black_box(LINE), runner);
     runner.begin("hex writer: two digits for each of up to 23 bytes, in 63");
-    hex_measured::<S::Of<LONG>>(&short, runner);
+    made_measured(&short, digits::<S::Of<LONG>>, runner);
     runner.begin("error text of 255: a `Display` printed into a new string");
     errors_measured::<S::Of<LINE>>(&long, runner);
 }
@@ -234,11 +218,12 @@ fn run_lines<S: Texts>(lines: &str, messages: &[String], runner: &mut impl Runne
     runner.begin("line buffer of 255: each character pushed, and cleared");
     line_buffer_measured::<S::Of<LINE>>(lines, runner);
     runner.begin("log line of 255 that is kept: cut behind a prefix");
-    kept_line_measured::<S::Of<LINE>>(black_box(PREFIX), &black_box(rows::words(LINE + 1, 2 * LINE)), runner);
+    let prefix = black_box(PREFIX);
+    kept_line_measured::<S::Of<LINE>>(|| prefix, &black_box(rows::words(LINE + 1, 2 * LINE)), runner);
     runner.begin("log line of 255 that is kept: behind a constant, most fit");
-    constant_prefix_measured::<S::Of<LINE>>(messages, runner);
+    kept_line_measured::<S::Of<LINE>>(|| PREFIX, messages, runner);
     runner.begin("log line of 255 that a function makes: behind a constant, most fit");
-    made_lines_measured::<S::Of<LINE>>(messages, runner);
+    made_measured(messages, log_line::<S::Of<LINE>>, runner);
     runner.begin("window of 63: refused, the first out, pushed");
     let characters: String = lines.chars().take(rows::ROWS).collect();
     runner.see(&window_measured::<S::Of<LONG>>(&characters));

@@ -26,11 +26,11 @@ pub trait Texts {
     type Of<const N: usize>: Text;
 }
 
-/// The strings of a side, each as a `Text`: `it` is the string, `given` a text or a character, and `most` how many bytes `String` may have.
-macro_rules! text {
+/// The strings of a side, and how each is a `Text`: its calls, each with the expression that is its body.
+macro_rules! texts {
     (
-        $side:ident: $name:ty $(, $capacity:ident)?: |$it:ident, $given:ident, $most:ident|
-        $new:expr, $try_of:expr, $offer_text:expr, $offer_char:expr, $push_what_fits:expr, $remove_first:expr
+        $side:ident: $name:ty $(, $capacity:ident)?;
+        $(fn $call:ident($($given:tt)*) $(-> $answer:ty)? = $body:expr;)*
     ) => {
         pub struct $side;
 
@@ -39,72 +39,47 @@ macro_rules! text {
         }
 
         impl$(<const $capacity: usize>)? Text for $name {
-            #[inline(always)]
-            fn with_room($most: usize) -> Self {
-                $new
-            }
-
-            #[inline(always)]
-            fn try_of($given: &str, $most: usize) -> Option<Self> {
-                $try_of
-            }
-
-            #[inline(always)]
-            fn offer_text(&mut self, $given: &str, $most: usize) -> bool {
-                let $it = self;
-                $offer_text
-            }
-
-            #[inline(always)]
-            fn offer_char(&mut self, $given: char, $most: usize) -> bool {
-                let $it = self;
-                $offer_char
-            }
-
-            #[inline(always)]
-            fn push_what_fits(&mut self, $given: &str, $most: usize) {
-                let $it = self;
-                let _ = $push_what_fits;
-            }
-
-            #[inline(always)]
-            fn remove_first(&mut self) -> Option<char> {
-                let $it = self;
-                $remove_first
-            }
-
-            #[inline(always)]
-            fn make_empty(&mut self) {
-                self.clear();
-            }
+            $(
+                #[inline(always)]
+                fn $call($($given)*) $(-> $answer)? {
+                    $body
+                }
+            )*
         }
     };
 }
 
-text!(OfCrate: arraystring::ArrayString<N>, N: |it, given, _most|
-    Self::new(),
-    Self::try_from_str(given).ok(),
-    it.try_push_str(given).is_ok(),
-    it.try_push(given).is_ok(),
-    it.push_str_truncate(given),
-    it.remove(0).ok()
-);
+texts! { OfCrate: arraystring::ArrayString<N>, N;
+    fn with_room(_: usize) -> Self = Self::new();
+    fn try_of(text: &str, _: usize) -> Option<Self> = Self::try_from_str(text).ok();
+    fn offer_text(&mut self, text: &str, _: usize) -> bool = self.try_push_str(text).is_ok();
+    fn offer_char(&mut self, ch: char, _: usize) -> bool = self.try_push(ch).is_ok();
+    fn push_what_fits(&mut self, text: &str, _: usize) = _ = self.push_str_truncate(text);
+    fn remove_first(&mut self) -> Option<char> = self.remove(0).ok();
+    fn make_empty(&mut self) = self.clear();
+}
 
 // (arrayvec has no call that cuts, so the boundary is found first)
-text!(OfArrayvec: arrayvec::ArrayString<N>, N: |it, given, _most|
-    Self::new(),
-    Self::from(given).ok(),
-    it.try_push_str(given).is_ok(),
-    it.try_push(given).is_ok(),
-    it.push_str(&given[..given.floor_char_boundary(it.remaining_capacity())]),
-    (!it.is_empty()).then(|| it.remove(0))
-);
+texts! { OfArrayvec: arrayvec::ArrayString<N>, N;
+    fn with_room(_: usize) -> Self = Self::new();
+    fn try_of(text: &str, _: usize) -> Option<Self> = Self::from(text).ok();
+    fn offer_text(&mut self, text: &str, _: usize) -> bool = self.try_push_str(text).is_ok();
+    fn offer_char(&mut self, ch: char, _: usize) -> bool = self.try_push(ch).is_ok();
+    fn push_what_fits(&mut self, text: &str, _: usize) =
+        self.push_str(&text[..text.floor_char_boundary(self.remaining_capacity())]);
+    fn remove_first(&mut self) -> Option<char> = (!self.is_empty()).then(|| self.remove(0));
+    fn make_empty(&mut self) = self.clear();
+}
 
-text!(OfString: String: |it, given, most|
-    Self::with_capacity(most),
-    (given.len() <= most).then(|| Self::from(given)),
-    (it.len() + given.len() <= most).then(|| it.push_str(given)).is_some(),
-    (it.len() + given.len_utf8() <= most).then(|| it.push(given)).is_some(),
-    it.push_str(&given[..given.floor_char_boundary(most - it.len())]),
-    (!it.is_empty()).then(|| it.remove(0))
-);
+texts! { OfString: String;
+    fn with_room(most: usize) -> Self = Self::with_capacity(most);
+    fn try_of(text: &str, most: usize) -> Option<Self> = (text.len() <= most).then(|| Self::from(text));
+    fn offer_text(&mut self, text: &str, most: usize) -> bool =
+        (self.len() + text.len() <= most).then(|| self.push_str(text)).is_some();
+    fn offer_char(&mut self, ch: char, most: usize) -> bool =
+        (self.len() + ch.len_utf8() <= most).then(|| self.push(ch)).is_some();
+    fn push_what_fits(&mut self, text: &str, most: usize) =
+        self.push_str(&text[..text.floor_char_boundary(most - self.len())]);
+    fn remove_first(&mut self) -> Option<char> = (!self.is_empty()).then(|| self.remove(0));
+    fn make_empty(&mut self) = self.clear();
+}
