@@ -77,7 +77,7 @@ pub ruleset traces = (memory-push, traced-push, traced-rest, traced-item)
 pub ruleset characters = (taken-chars, pieces-push)
 
 -- pieces one after the other, of which what fits is kept: by `push_str`, or a character by `try_push`
-pub ruleset cut_pieces = (addition-char_cuts, cut-past, cut-past_part, cut-all)
+pub ruleset cut_pieces = (addition-char_cuts, cut-past, cut-past_part, cut-all, append-nil)
 
 -- a line that is full, or has no room for what comes next
 pub ruleset full_lines = (cut-full)
@@ -110,7 +110,7 @@ pub ruleset ascii = (bytes-ascii)
 pub ruleset digits = (bytes-decimal, size-decimal, size-signed)
 
 -- a walk over the characters of a text by `next`, in a loop of one's own
-pub ruleset walks = (walked-on, walked-out, nat_tests)
+pub ruleset walks = (walked-on, walked-out, append-nil, nat_tests)
 
 -- a text that `split_once` splits at a character, and what is behind it again
 pub ruleset fields = (fields-found, fields-none, fields-count)

@@ -1,6 +1,5 @@
 -- Texts of which each character becomes a piece of bounded size.
 use Rattle.std.specs.Prelude.{ℕ, List, [], ◌∷◌, Bool, true, false, if◌then◌else◌, ◌==◌, codes}
-use Rattle.std.specs.List.{flat_map}
 use Rattle.arraystring.specs.Loops.{flat_map_with_memory}
 
 -- a character as it stands in HTML: its entity if it is `&`, `<` or `>`

@@ -10,6 +10,7 @@ use arraystring_recipes::escapes::escape;
 use arraystring_recipes::member::member;
 use arraystring_recipes::reversal::reversed;
 use arraystring_recipes::titles::{squeeze, titled};
+use arraystring_recipes::walks::strip_backslashes;
 use arraystring_recipes::words::{filled, lines, path};
 use std::process::Abort;
 
@@ -104,6 +105,18 @@ fn a_text_has_escapes(rt: HostRuntime) {
         ("123\n5678", None),
     ] {
         check_made::<8>(&rt, escape(text), wanted);
+    }
+}
+
+#[test]
+fn a_text_loses_its_backslashes(rt: HostRuntime) {
+    for (text, wanted) in [
+        ("a\\né\\\\", Some("ané\\")),
+        ("€\\", Some("€")),
+        ("\\1234\\5", Some("12345")),
+        ("\\123456", None),
+    ] {
+        check_made::<5>(&rt, strip_backslashes(text), wanted);
     }
 }
 
