@@ -5,13 +5,13 @@ use Rattle.std.proofs.lemmas.Bool.Decides.{nat_tests}
 use Rattle.arraystring_base.specs.Text.{size, boundary}
 use Rattle.arraystring_base.specs.declared.error.Error.{Error}
 use Rattle.arraystring_base.specs.declared.error.Error.TheVariants.{Utf8, OutOfBounds}
-use Rattle.arraystring_core.specs.Causes.{Cause, Inside, Test, error_of, first_cause, past_text, inside_character}
+use Rattle.arraystring_core.specs.Causes.{Cause, Inside, RefusalTest, error_of, first_cause, past_text, inside_character}
 use Rattle.arraystring_core.specs.Held.{FirstTestHolds}
 use Rattle.arraystring_core.proofs.EditLaws.{inside-so}
 pub use Rattle.arraystring_core.proofs.EditLaws.{none-holds, inside-failed}
 
 -- if a cause is found, it is that of the first that holds
-pub first-holds : (tests : List Test) (found : Cause) → first_cause tests ≡ Some found → FirstTestHolds tests found
+pub first-holds : (tests : List RefusalTest) (found : Cause) → first_cause tests ≡ Some found → FirstTestHolds tests found
 first-holds [] found e = absurd (cc)
 first-holds (test ∷ rest) found e = elim (cases_Bool test.holds) [
   | inl holds ↦ inl (holds, cc (rw holds at e))

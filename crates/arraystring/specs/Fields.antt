@@ -1,4 +1,4 @@
--- The parts of a text between the places where a character stands.
+-- The parts into which a given character divides a text.
 use Rattle.std.specs.Prelude.{ℕ, List, [], ◌∷◌, if◌then◌else◌, ◌==◌}
 
 -- the parts with the character d put in front of the first; if there is no part, d alone is the only one

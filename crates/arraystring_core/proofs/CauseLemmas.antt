@@ -3,15 +3,15 @@ use Rattle.std.proofs.Common.{◌≡◌, ℕ, ◌+◌, ◌-◌, ◌≤◌, ◌<�
 use Rattle.std.proofs.lemmas.Bool.{ltb-false, leb-false}
 use Rattle.arraystring_base.specs.Text.{size, boundary}
 use Rattle.arraystring_base.specs.declared.error.Error.TheVariants.{OutOfBounds}
-use Rattle.arraystring_core.specs.Edits.{Test, first_cause, ok_unless, past_text, at_end, reversed_range, inside_character, no_room, Makes, Room, addition}
+use Rattle.arraystring_core.specs.Edits.{RefusalTest, first_cause, ok_unless, past_text, at_end, reversed_range, inside_character, no_room, Makes, Room, addition}
 use Rattle.arraystring_core.proofs.EditLaws.{none-holds, inside-failed, refuses, makes, addition-no_cause, addition-room}
 
 -- the tests found no cause
-abbrev Passed : List Test → Type 0
+abbrev Passed : List RefusalTest → Type 0
 Passed tests = Ok (tt {0}) ≡ ok_unless (first_cause tests) (tt {0})
 
 -- `ok_unless` returns `Ok` only without a cause
-pub no_cause : (tests : List Test) → Passed tests → first_cause tests ≡ None
+pub no_cause : (tests : List RefusalTest) → Passed tests → first_cause tests ≡ None
 no_cause tests is = grind arith
 
 -- an index in the text that is no boundary would be inside a character
@@ -46,7 +46,7 @@ pub record IsAllowed (t : List ℕ) (start end len n : ℕ) : Type 0 where
   pub ends : boundary t end ≡ true
 
 module _ (t : List ℕ) (start end len n : ℕ) where
-  abbrev tests_of_replacement : List Test
+  abbrev tests_of_replacement : List RefusalTest
   tests_of_replacement = reversed_range start end ∷ past_text t end ∷ no_room (size t - (end - start) + len) n ∷ inside_character t start ∷ inside_character t end ∷ []
 
   pub allowed-where : first_cause tests_of_replacement ≡ None → IsAllowed t start end len n

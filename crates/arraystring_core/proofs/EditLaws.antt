@@ -8,7 +8,7 @@ use Rattle.std.specs.Prelude.{◌&&◌, ◌||◌, ◌==◌, nat_le, nat_lt}
 use Rattle.arraystring_base.specs.Text.{size, boundary}
 use Rattle.arraystring_base.proofs.BoundaryLaws.{boundary-end}
 use Rattle.arraystring_core.specs.Held.{NoTestHolds}
-use Rattle.arraystring_core.specs.Edits.{Cause, Room, Test, Edit, Makes, first_cause, error_of, inside_character, addition, last_of, all_but_last, is_white_space}
+use Rattle.arraystring_core.specs.Edits.{Cause, Room, RefusalTest, Edit, Makes, first_cause, error_of, inside_character, addition, last_of, all_but_last, is_white_space}
 use Rattle.arraystring_base.specs.declared.error.Error.{Error}
 use Rattle.arraystring_base.specs.declared.error.Error.TheVariants.{OutOfBounds}
 
@@ -22,7 +22,7 @@ module _ {A : Type 0} (edit : Edit A) (t : List ℕ) where
   makes value new e a n = record { returns = rw e (ap Ok a); ok = n; err = tt }
 
 -- if no cause is found, none of the tests holds: of one that holds the cause would be found, and so the rest has none either
-pub none-holds : (tests : List Test) → first_cause tests ≡ None → NoTestHolds tests
+pub none-holds : (tests : List RefusalTest) → first_cause tests ≡ None → NoTestHolds tests
 none-holds [] e = tt
 none-holds (test ∷ rest) e = grind (arith, none-holds rest)
 

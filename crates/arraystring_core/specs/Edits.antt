@@ -9,15 +9,15 @@ use Rattle.arraystring_base.specs.declared.error.Error.TheVariants as error
 use Rattle.arraystring_base.specs.declared.error.OutOfBounds.{OutOfBounds}
 use Rattle.arraystring_base.specs.declared.error.Utf8.{Utf8}
 -- callers import these definitions from here
-pub use Rattle.arraystring_core.specs.Causes.{Cause, Past, Room, Inside, error_of, Test, past_text, past_text as past, reversed_range, reversed_range as crossed, at_end, inside_character, inside_character as inside, no_room, first_cause}
-pub use Rattle.arraystring_core.specs.Held.{NoTestHolds, FirstTestHolds}
+pub use Rattle.arraystring_core.specs.Causes.{Cause, Past, Room, Inside, error_of, RefusalTest, RefusalTest as Test, past_text, past_text as past, reversed_range, reversed_range as crossed, at_end, inside_character, inside_character as inside, no_room, first_cause}
+pub use Rattle.arraystring_core.specs.Held.{NoTestHolds, NoTestHolds as NoneHolds, FirstTestHolds, FirstTestHolds as FirstHolds}
 pub use Rattle.arraystring_core.specs.Parts.{first_of, last_of, all_but_last, without_leading, without_trailing, part, part_in}
 unfoldable pub use Rattle.arraystring_core.specs.WhiteSpace.{is_space, in_ranges, is_white_space}
 
 -- one row of the table of edits (docs/trust.md): the tests in their order, and, if no test holds, what the edit returns and the text
 -- after it
 pub record Edit (A : Type 0) : Type 0 where
-  pub tests : List Test
+  pub tests : List RefusalTest
   pub result : A
   pub after : List ℕ
 

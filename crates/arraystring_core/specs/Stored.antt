@@ -9,5 +9,5 @@ pub record StringView : Type 0 where
 
 -- a value with the text t and an empty spare, for laws and examples that name only the text. No string has an empty spare, because its
 -- spare begins with the offset at which the text starts
-abbrev pub string_of : List ℕ → StringView
-string_of t = record { text = t; spare = [] }
+abbrev pub view_with_text : List ℕ → StringView
+view_with_text t = record { text = t; spare = [] }

@@ -17,7 +17,8 @@ mod traits;
 /// array, and allocates nothing.
 #[derive(Clone, Copy)]
 pub struct Drain<const N: usize> {
-    // The numbers lie before the array. So the compiler sees that a read of the array, at whatever offset, reads none of them.
+    // These numbers lie in front of the array, where no offset into it reaches. So the compiler knows that a read of the
+    // array reads none of them.
     /// What is left begins at this index of the removed text. It is a boundary of the first `size` bytes of
     /// that text, so it is at most `size`.
     front: u8,

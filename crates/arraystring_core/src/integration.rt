@@ -49,7 +49,7 @@ pub enum ValueError {
 
 impl ValueError {
     /// The name of the variant.
-    fn name(&self) -> &'static str
+    fn case_name(&self) -> &'static str
         ensures { result.now ≡ value_error_name self.now }
     {
         match self {
@@ -66,7 +66,7 @@ impl fmt::Display for ValueError {
     ghost styled_output = { λ error _. Some (value_error_name error) };
 
     fn fmt<W: fmt::Write>(&self, f: &mut fmt::Formatter<W>) -> fmt::Result {
-        f.write_str(self.name())
+        f.write_str(self.case_name())
     }
 }
 

@@ -10,7 +10,7 @@ pub data Argument : Type 0 where
   Character : ℕ → Argument
   Text : List ℕ → Argument
 
--- the word of a command
+-- the word with which the line of a command begins
 abbrev pub word : Command → List ℕ
 word (command.TryPush c) = codes "try_push"
 word (command.TryPushStr given) = codes "try_push_str"
@@ -83,7 +83,7 @@ SpellsArgument bs (Text given) = IsWellFormed given × (bs ≡ given)
 abbrev pub space : ℕ
 space = 0x20
 
--- the bytes are one space and the spelling of an argument, for each of the arguments, and nothing else
+-- the bytes are one space and the spelled_argument of an argument, for each of the arguments, and nothing else
 abbrev pub SpellsArguments : List ℕ → List Argument → Type 0
 SpellsArguments bs [] = bs ≡ []
 SpellsArguments bs (a ∷ rest) =
@@ -94,19 +94,19 @@ abbrev pub IsLineOf : List ℕ → Command → Type 0
 IsLineOf bs c = (rest : List ℕ) × (bs ≡ word c ++ rest) × SpellsArguments rest (arguments c)
 
 -- the bytes that spell an argument; a number has no leading zeros
-abbrev pub spelling : Argument → List ℕ
-spelling (Number n) = decimal n
-spelling (Character c) = utf8 c
-spelling (Text given) = given
+abbrev pub spelled_argument : Argument → List ℕ
+spelled_argument (Number n) = decimal n
+spelled_argument (Character c) = utf8 c
+spelled_argument (Text given) = given
 
 -- the bytes that spell arguments, each after one space
-abbrev pub spellings : List Argument → List ℕ
-spellings [] = []
-spellings (a ∷ rest) = space ∷ (spelling a ++ spellings rest)
+abbrev pub spelled_arguments : List Argument → List ℕ
+spelled_arguments [] = []
+spelled_arguments (a ∷ rest) = space ∷ (spelled_argument a ++ spelled_arguments rest)
 
 -- the line of a command whose numbers have no leading zeros (`each_command_has_a_line`)
 abbrev pub line_of : Command → List ℕ
-line_of c = word c ++ spellings (arguments c)
+line_of c = word c ++ spelled_arguments (arguments c)
 
 -- each number is at most 255, each character a scalar value, each text well formed (a line feed in it is not excluded)
 abbrev pub AreArguments : List Argument → Type 0

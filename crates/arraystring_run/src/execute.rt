@@ -16,37 +16,39 @@ pub(crate) fn execute<const N: usize>(text: &mut ArrayString<N>, command: Comman
     ensures text { text.new.text ≡ (effect command.entry text.old.text (cap N)).text }
 {
     match command {
-        Command::TryPush(ch) => reply_from_addition(text.try_push(ch)),
-        Command::TryPushStr(given) => reply_from_addition(text.try_push_str(given)),
+        Command::TryPush(ch) => reply_of_addition_result(text.try_push(ch)),
+        Command::TryPushStr(given) => reply_of_addition_result(text.try_push_str(given)),
         Command::PushStr(given) => {
             text.push_str(given);
             Reply::Done
         }
-        Command::Pop => reply_from_pop(text.pop()),
-        Command::Truncate(size) => reply_from_truncate(text.truncate(size)),
+        Command::Pop => reply_of_pop_result(text.pop()),
+        Command::Truncate(size) => reply_of_truncate_result(text.truncate(size)),
         Command::Trim => {
             text.trim();
             Reply::Done
         }
-        Command::Remove(index) => reply_from_remove(text.remove(index)),
+        Command::Remove(index) => reply_of_remove_result(text.remove(index)),
         Command::RetainNot(unwanted) => {
             retain_not(text, unwanted);
             Reply::Done
         }
-        Command::TryInsert(index, ch) => reply_from_insertion(text.try_insert(index, ch)),
-        Command::TryInsertStr(index, given) => reply_from_insertion(text.try_insert_str(
+        Command::TryInsert(index, ch) => reply_of_insertion_result(text.try_insert(index, ch)),
+        Command::TryInsertStr(index, given) => reply_of_insertion_result(text.try_insert_str(
             index, given,
         )),
-        Command::InsertStr(index, given) => reply_from_insertion(text.insert_str(index, given)),
-        Command::SplitOff(at) => reply_from_split_off(text.split_off(at)),
+        Command::InsertStr(index, given) => reply_of_insertion_result(text.insert_str(
+            index, given,
+        )),
+        Command::SplitOff(at) => reply_of_split_off_result(text.split_off(at)),
         Command::Clear => {
             text.clear();
             Reply::Done
         }
-        Command::Drain { start, end } => reply_from_drain(text.drain(start..end)),
-        Command::DrainThrough { start, last } => reply_from_drain(text.drain(start..=last)),
-        Command::DrainBack { start, end } => reply_from_drain_back(text.drain(start..end)),
-        Command::ReplaceRange { start, end, given } => reply_from_insertion(text.replace_range(
+        Command::Drain { start, end } => reply_of_drain_result(text.drain(start..end)),
+        Command::DrainThrough { start, last } => reply_of_drain_result(text.drain(start..=last)),
+        Command::DrainBack { start, end } => reply_of_drain_back_result(text.drain(start..end)),
+        Command::ReplaceRange { start, end, given } => reply_of_insertion_result(text.replace_range(
             start..end,
             given,
         )),
@@ -58,7 +60,7 @@ pub(crate) fn execute<const N: usize>(text: &mut ArrayString<N>, command: Comman
             text.make_ascii_lowercase();
             Reply::Done
         }
-        Command::Get { start, end } => reply_from_get(text, start, end),
+        Command::Get { start, end } => get_and_reply(text, start, end),
         Command::Len => Reply::Number(text.len()),
         Command::Capacity => Reply::Number(ArrayString::<N>::capacity()),
         Command::AsStr => Reply::Text(*text),
@@ -66,7 +68,7 @@ pub(crate) fn execute<const N: usize>(text: &mut ArrayString<N>, command: Comman
 }
 
 /// The reply to an addition at the end.
-fn reply_from_addition<const N: usize>(outcome: Result<(), OutOfBounds>) -> Reply<N>
+fn reply_of_addition_result<const N: usize>(outcome: Result<(), OutOfBounds>) -> Reply<N>
     ensures { view_of result ≡ reply_of (λ _. Done) (from_out_of_bounds outcome) }
 {
     match outcome {
@@ -76,7 +78,7 @@ fn reply_from_addition<const N: usize>(outcome: Result<(), OutOfBounds>) -> Repl
 }
 
 /// The reply to an insertion or a replacement.
-fn reply_from_insertion<const N: usize>(outcome: Result<(), Error>) -> Reply<N>
+fn reply_of_insertion_result<const N: usize>(outcome: Result<(), Error>) -> Reply<N>
     ensures { view_of result ≡ reply_of (λ _. Done) outcome }
 {
     match outcome {
@@ -86,7 +88,7 @@ fn reply_from_insertion<const N: usize>(outcome: Result<(), Error>) -> Reply<N>
 }
 
 /// The reply to `pop`.
-fn reply_from_pop<const N: usize>(outcome: Option<char>) -> Reply<N>
+fn reply_of_pop_result<const N: usize>(outcome: Option<char>) -> Reply<N>
     ensures { view_of result ≡ char_or_none outcome }
 {
     match outcome {
@@ -96,7 +98,7 @@ fn reply_from_pop<const N: usize>(outcome: Option<char>) -> Reply<N>
 }
 
 /// The reply to `truncate`.
-fn reply_from_truncate<const N: usize>(outcome: Result<(), Utf8>) -> Reply<N>
+fn reply_of_truncate_result<const N: usize>(outcome: Result<(), Utf8>) -> Reply<N>
     ensures { view_of result ≡ reply_of (λ _. Done) (from_utf8_error outcome) }
 {
     match outcome {
@@ -106,7 +108,7 @@ fn reply_from_truncate<const N: usize>(outcome: Result<(), Utf8>) -> Reply<N>
 }
 
 /// The reply to `remove`.
-fn reply_from_remove<const N: usize>(outcome: Result<char, Error>) -> Reply<N>
+fn reply_of_remove_result<const N: usize>(outcome: Result<char, Error>) -> Reply<N>
     ensures { view_of result ≡ reply_of Char outcome }
 {
     match outcome {
@@ -123,7 +125,7 @@ fn retain_not<const N: usize>(text: &mut ArrayString<N>, unwanted: char)
 }
 
 /// The reply to `split_off`.
-fn reply_from_split_off<const N: usize>(outcome: Result<ArrayString<N>, Error>) -> Reply<N>
+fn reply_of_split_off_result<const N: usize>(outcome: Result<ArrayString<N>, Error>) -> Reply<N>
     ensures { view_of result ≡ reply_of Text (with_text outcome.entry) }
 {
     match outcome {
@@ -133,7 +135,7 @@ fn reply_from_split_off<const N: usize>(outcome: Result<ArrayString<N>, Error>) 
 }
 
 /// The reply to `drain`, with the characters in order.
-fn reply_from_drain<const N: usize>(outcome: Result<Drain<N>, Error>) -> Reply<N>
+fn reply_of_drain_result<const N: usize>(outcome: Result<Drain<N>, Error>) -> Reply<N>
     ensures { view_of result ≡ reply_of Text (result_with_left outcome.entry) }
 {
     match outcome {
@@ -146,7 +148,7 @@ fn reply_from_drain<const N: usize>(outcome: Result<Drain<N>, Error>) -> Reply<N
 }
 
 /// The reply to `drain`, with the characters from the last to the first.
-fn reply_from_drain_back<const N: usize>(outcome: Result<Drain<N>, Error>) -> Reply<N>
+fn reply_of_drain_back_result<const N: usize>(outcome: Result<Drain<N>, Error>) -> Reply<N>
     ensures { view_of result
         ≡ reply_of (λ left. Text (reverse left)) (result_with_left outcome.entry) }
 {
@@ -169,7 +171,7 @@ fn reversed_text<const N: usize>(mut removed: Drain<N>) -> ArrayString<N>
 }
 
 /// The part from `start` to `end`.
-fn reply_from_get<const N: usize>(text: &ArrayString<N>, start: u8, end: u8) -> Reply<N>
+fn get_and_reply<const N: usize>(text: &ArrayString<N>, start: u8, end: u8) -> Reply<N>
     ensures { view_of result ≡ text_or_none (part_in text.now.text start end) }
 {
     text_fits(text);

@@ -2,7 +2,7 @@
 //! names.
 ghost use Rattle.std.specs.Prelude.{◌≡◌, option_map};
 ghost use Rattle.arraystring_run.specs.Writing.{AppendsPrefix};
-ghost use Rattle.arraystring_run.specs.Program.{IsServed, IsOutcomeAt, byte_count_of, capacity_named, status_of_program, report_of_program};
+ghost use Rattle.arraystring_run.specs.Program.{IsServed, IsOutcomeAtNamedCapacity, byte_count_of, capacity_named, status_of_program, report_of_program};
 
 pub use crate::arguments::given_word;
 use crate::player::{PlayFault, play};
@@ -74,7 +74,7 @@ fn play_at<I: Read, O: Write>(
     input: &mut I,
     output: &mut O,
 ) -> Option<Result<(), PlayFault>>
-    ensures { IsOutcomeAt (option_map byte_count_of capacity) (I.remaining input.old)
+    ensures { IsOutcomeAtNamedCapacity (option_map byte_count_of capacity) (I.remaining input.old)
         (O.contents output.old) (O.contents output.new)
         (input.new ≡ input.old) (output.new ≡ output.old) result }
 {

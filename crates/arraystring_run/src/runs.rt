@@ -48,8 +48,8 @@ pub fn run<const N: usize>(
 {
     text_fits(text);
     let mut replies = Vec::with_capacity(alloc, commands.len())?;
-    // Without commands `execute_all` is not called: its proof needs the size of a reply, which the prover knows only from a list
-    // with room for one.
+    // `execute_all` takes a `&mut Vec<Reply<N>>`, so the check asks here how many bytes of memory a reply takes. The
+    // room of the list tells it, but only if there are commands, and so room for a reply.
     let mut first_tight = None;
     if !commands.is_empty() {
         first_tight = execute_all(text, commands, &mut replies);
@@ -157,8 +157,8 @@ pub fn run_both<const N: usize, const M: usize>(
     text_fits(second);
     let mut second_replies = Vec::with_capacity(alloc, commands.len())?;
     let first_outcome = run(alloc, first, commands)?;
-    // Without commands `execute_all` is not called: its proof needs the size of a reply, which the prover knows only from a list
-    // with room for one.
+    // `execute_all` takes a `&mut Vec<Reply<N>>`, so the check asks here how many bytes of memory a reply takes. The
+    // room of the list tells it, but only if there are commands, and so room for a reply.
     let mut first_tight = None;
     if !commands.is_empty() {
         first_tight = execute_all(second, commands, &mut second_replies);

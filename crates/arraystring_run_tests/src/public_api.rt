@@ -5,7 +5,7 @@ ghost use Rattle.arraystring_run.specs.Line.{IsLineOf};
 ghost use Rattle.arraystring_run.specs.ScriptLines.{line_feed, with_newline, joined_lines, IsOneLine, AreOneLine, first_byte, lines, AreLinesOf, IsBadAt};
 ghost use Rattle.arraystring_run.specs.Printing.{reply_line, replies_printed, lines_of_replies_and_text, run_printed};
 ghost use Rattle.arraystring_run.specs.Writing.{AppendsPrefix};
-ghost use Rattle.arraystring_run.specs.Player.{IfBadLine, IsPlayed, IsPartPlayed};
+ghost use Rattle.arraystring_run.specs.Player.{IfBadLine, IsScriptPlayed, IsScriptPartPlayed};
 ghost use Rattle.arraystring_run.specs.Program.{capacity_named, status_of, usage_line, fault_line, report_of, Service, IsServed};
 
 use super::runs::text_of;

@@ -19,7 +19,8 @@ module _ {A B : Type 0} (view : A → B) where
   GivesInReverse = EveryRun (YieldsLastBy view (λ left. left)) (λ run. ItemsMapToReversed run view run.from)
 
 module _ {A B : Type 0} (view : A → B) where
-  -- the items that calls of `next` give up to `None` are, copied out of their references and seen by `view`, all that was left, in order
+  -- if `next` is called until it returns `None`, the items that it gave are all that was left, in order. Each item is copied out of its
+  -- reference and seen by `view`
   abbrev pub GivesCopiesInOrder : Type 0
   GivesCopiesInOrder =
       EveryRun (YieldsFirstBy (λ (item : Bor A). view item.now) (λ left. left))

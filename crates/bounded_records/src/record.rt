@@ -50,7 +50,7 @@ pub enum RecordFault {
 
 impl RecordFault {
     /// The name of the case.
-    fn name(&self) -> &'static str
+    fn case_name(&self) -> &'static str
         ensures { result.now ≡ fault_name self.now }
     {
         match self {
@@ -69,7 +69,7 @@ impl fmt::Display for RecordFault {
     ghost styled_output = { λ fault _. Some (fault_name fault) };
 
     fn fmt<W: fmt::Write>(&self, f: &mut fmt::Formatter<W>) -> fmt::Result {
-        f.write_str(self.name())
+        f.write_str(self.case_name())
     }
 }
 

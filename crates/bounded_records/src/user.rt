@@ -54,7 +54,7 @@ pub enum UserFault {
 
 impl UserFault {
     /// The name of the case.
-    fn name(&self) -> &'static str
+    fn case_name(&self) -> &'static str
         ensures { result.now ≡ user_fault_name self.now }
     {
         match self {
@@ -71,7 +71,7 @@ impl fmt::Display for UserFault {
     ghost styled_output = { λ fault _. Some (user_fault_name fault) };
 
     fn fmt<W: fmt::Write>(&self, f: &mut fmt::Formatter<W>) -> fmt::Result {
-        f.write_str(self.name())
+        f.write_str(self.case_name())
     }
 }
 

@@ -24,8 +24,8 @@ macro_rules! required {
 /// A byte of the array of a string. It has no value before one is written.
 pub(crate) type MaybeByte = MaybeUninit<u8>;
 
-/// The content of a place in a new array: no value, or 0 if `CHECKS_ACCESS`. Where accesses are tested, a wrong index panics, perhaps when the
-/// size is already raised and the byte not yet written. Thanks to the 0, each place of the text that is left after the panic has a value.
+/// The content of a place in a new array: no value, or 0 if `CHECKS_ACCESS`. Where accesses are tested, a wrong index panics, perhaps when
+/// the size is already raised and the byte not yet written. Thanks to the 0, each place of the text that is left after the panic has a value.
 pub(crate) const NEW_BYTE: MaybeByte = if CHECKS_ACCESS { MaybeByte::new(0) } else { MaybeByte::uninit() };
 
 /// A byte that can be read: a `u8` of a text, or a place of a string's array after it was written. Both are laid out as a `u8`.
@@ -206,7 +206,7 @@ pub(crate) fn write_bytes(all: &mut [MaybeByte], given: &[u8], at: usize) {
 #[inline(always)]
 pub(crate) fn vector_at<const K: usize>(given: &[impl ReadableByte], at: usize) -> [MaybeByte; K] {
     required!(at <= given.len(), K <= given.len() - at);
-    // SAFETY: the run is within `given`, as is required. A byte is laid out as a place, and a place may have any value, or none.
+    // SAFETY: the `K` bytes are within `given`, as is required. Each `ReadableByte` is laid out as a `MaybeByte`, which may have no value.
     unsafe { given.as_ptr().add(at).cast::<[MaybeByte; K]>().read() }
 }
 

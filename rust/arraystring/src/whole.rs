@@ -41,7 +41,7 @@ impl<const N: usize> ArrayString<N> {
         if !draft.is_whole {
             return Err(fmt::Error);
         }
-        draft.keep();
+        draft.commit();
         Ok(())
     }
 
@@ -73,7 +73,7 @@ impl<const N: usize> ArrayString<N> {
         if !is_cut {
             written?;
         }
-        draft.keep();
+        draft.commit();
         Ok(is_cut)
     }
 
@@ -101,7 +101,7 @@ impl<const N: usize> ArrayString<N> {
     pub fn try_extend_chars(&mut self, characters: impl IntoIterator<Item = char>) -> Result<(), OutOfBounds> {
         let draft = Draft::begin(self);
         characters.into_iter().try_for_each(|ch| draft.string.try_push(ch))?;
-        draft.keep();
+        draft.commit();
         Ok(())
     }
 
@@ -129,7 +129,7 @@ impl<const N: usize> ArrayString<N> {
     pub fn try_extend_strs(&mut self, pieces: impl IntoIterator<Item = impl AsRef<str>>) -> Result<(), OutOfBounds> {
         let draft = Draft::begin(self);
         pieces.into_iter().try_for_each(|piece| draft.string.try_push_str(piece.as_ref()))?;
-        draft.keep();
+        draft.commit();
         Ok(())
     }
 
@@ -164,7 +164,7 @@ impl<const N: usize> ArrayString<N> {
 }
 
 /// An addition to a string, as long as it may still be taken back. `drop` takes it back, so that nothing of it stays where something is
-/// refused, or where a `Display` or an iterator panics. Only `keep` makes it stay.
+/// refused, or where a `Display` or an iterator panics. Only `commit` makes it stay.
 struct Draft<'a, const N: usize> {
     string: &'a mut ArrayString<N>,
     /// The length of the text before the draft.
@@ -185,7 +185,7 @@ impl<'a, const N: usize> Draft<'a, N> {
 
     /// Makes the draft stay in the string. It is forgotten, so its `drop` does not run.
     #[inline]
-    fn keep(self) {
+    fn commit(self) {
         mem::forget(self);
     }
 }

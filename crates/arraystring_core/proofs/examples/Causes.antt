@@ -10,8 +10,8 @@ Cause-each_is_another = (λ e. cc, λ e. cc, λ e. cc)
 error_of-each_cause : (error_of Past ≡ error.OutOfBounds) × (error_of Room ≡ error.OutOfBounds) × (error_of Inside ≡ error.Utf8)
 error_of-each_cause = (refl, refl, refl)
 
-Test-holds_and_cause : ((no_room 5 4).holds ≡ true) × ((no_room 5 4).cause ≡ Room)
-Test-holds_and_cause = (refl, refl)
+RefusalTest-holds_and_cause : ((no_room 5 4).holds ≡ true) × ((no_room 5 4).cause ≡ Room)
+RefusalTest-holds_and_cause = (refl, refl)
 
 past_text-the_text : past_text (codes "ab") 3 ≡ record { holds = true; cause = Past }
 unfolding width

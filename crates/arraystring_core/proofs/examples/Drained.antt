@@ -2,7 +2,7 @@
 use Rattle.std.proofs.Common.{◌≡◌, [], ◌∷◌, refl, arith, codes, Some, None, Ok, Err}
 use Rattle.arraystring_base.specs.Text.{width}
 use Rattle.arraystring_base.specs.declared.error.Error.TheVariants as error
-use Rattle.arraystring_core.specs.Stored.{string_of}
+use Rattle.arraystring_core.specs.Stored.{view_with_text}
 use Rattle.arraystring_core.specs.Drained.{DrainView, drain_after_front, removed_of, result_with_left, Front, Back, WalkResult, prepend_from_front, prepend_from_back, walk_of}
 
 -- of `aé`, 'a' was given from the front
@@ -10,11 +10,11 @@ abbrev rest : DrainView
 rest = record { left = codes "é"; yielded = codes "a"; spare = [] }
 
 -- what was given from the front counts too: without it the same is left, and another text was removed
-DrainView-the_same_left_of_two_texts : (rest.left ≡ (drain_after_front (string_of (codes "é")) 0).left) × (rest ≡ drain_after_front (string_of (codes "é")) 0 → ⊥)
+DrainView-the_same_left_of_two_texts : (rest.left ≡ (drain_after_front (view_with_text (codes "é")) 0).left) × (rest ≡ drain_after_front (view_with_text (codes "é")) 0 → ⊥)
 unfolding width
 DrainView-the_same_left_of_two_texts = (refl, λ e. grind arith)
 
-drain_after_front-from_an_index_on : drain_after_front (string_of (codes "aé")) 1 ≡ rest
+drain_after_front-from_an_index_on : drain_after_front (view_with_text (codes "aé")) 1 ≡ rest
 unfolding width
 drain_after_front-from_an_index_on = refl
 
@@ -22,7 +22,7 @@ drain_after_front-the_numbers_stay : drain_after_front (record { text = codes "a
 unfolding width
 drain_after_front-the_numbers_stay = refl
 
-removed_of-both_parts : removed_of rest ≡ string_of (codes "aé")
+removed_of-both_parts : removed_of rest ≡ view_with_text (codes "aé")
 removed_of-both_parts = refl
 
 removed_of-the_numbers_stay : removed_of (record { left = codes "a"; yielded = []; spare = codes "x" }) ≡ record { text = codes "a"; spare = codes "x" }

@@ -6,7 +6,7 @@ use Rattle.arraystring_base.specs.Text.{width}
 use Rattle.arraystring_base.specs.declared.error.Error.TheVariants as error
 use Rattle.arraystring_base.specs.declared.error.OutOfBounds.{OutOfBounds}
 use Rattle.arraystring_base.specs.declared.error.Utf8.{Utf8}
-use Rattle.arraystring_core.specs.Stored.{string_of}
+use Rattle.arraystring_core.specs.Stored.{view_with_text}
 use Rattle.arraystring_core.specs.WhiteSpace.{is_space, is_white_space}
 use Rattle.arraystring_core.specs.Causes.{Past, Inside, first_cause}
 use Rattle.arraystring_core.specs.Edits.{ok_unless, result_of, text_of, Makes, from_out_of_bounds, from_fmt_error, from_utf8_error, with_text, addition, addition_of_cut, popping, insertion, insertion_of_cut, truncation, trimming, removal, clearing, split, uppercase, lowercase, draining, replacement}
@@ -57,7 +57,7 @@ from_utf8_error-of_each_result : (from_utf8_error (Ok (codes "a")) ≡ Ok (codes
     × ((e : Utf8) → from_utf8_error {A = ℕ} (Err e) ≡ Err error.Utf8)
 from_utf8_error-of_each_result = (refl, λ e. refl)
 
-with_text-of_each_result : (with_text (Ok (string_of (codes "ab"))) ≡ Ok (codes "ab")) × (with_text (Err error.Utf8) ≡ Err error.Utf8)
+with_text-of_each_result : (with_text (Ok (view_with_text (codes "ab"))) ≡ Ok (codes "ab")) × (with_text (Err error.Utf8) ≡ Err error.Utf8)
 with_text-of_each_result = (refl, refl)
 
 with_text-whatever_lies_around_it : (spare : List ℕ) → with_text (Ok (record { text = codes "ab"; spare = spare })) ≡ Ok (codes "ab")

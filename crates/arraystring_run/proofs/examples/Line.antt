@@ -1,9 +1,9 @@
--- Examples of lines: of each command, of each spelling of an argument, and of what is no line. `codes "len"` is the list of the
+-- Examples of lines: of each command, of each spelled_argument of an argument, and of what is no line. `codes "len"` is the list of the
 -- characters of `"len"`. They are its bytes, since they are ASCII. C3 A9 is the UTF-8 of `'é'`, U+E9.
 use Rattle.std.proofs.Common.{◌≡◌, ℕ, ◌&&◌, Bool, true, false, true≢false, inl, inr, List, [], ◌∷◌, ◌++◌, map, drop, sym, ap, ◌∙◌, append-nil, subst, refl, arith, Bor, codes, lit≤, lit<, nat_eq}
 use Rattle.std.specs.Fmt.{digits}
 use Rattle.arraystring.specs.Text.{utf8}
-use Rattle.arraystring_run.specs.Line.{Argument, Number, Character, Text, word, arguments, AreDigits, number_with_more_digits, IsNumber, SpellsArgument, space, SpellsArguments, IsLineOf, spelling, spellings, line_of, AreArguments, IsOneWord, IsNumberThenRest}
+use Rattle.arraystring_run.specs.Line.{Argument, Number, Character, Text, word, arguments, AreDigits, number_with_more_digits, IsNumber, SpellsArgument, space, SpellsArguments, IsLineOf, spelled_argument, spelled_arguments, line_of, AreArguments, IsOneWord, IsNumberThenRest}
 use Rattle.arraystring_run.specs.declared.commands.Command.{Command}
 use Rattle.arraystring_run.specs.declared.commands.Command.TheVariants as command
 
@@ -276,23 +276,23 @@ IsLineOf-tab c (rest, e, spelled) = other_word (word c) (codes "truncate" ++ 0x0
 
 -- What is printed of a command
 
-spelling-number : map (λ n. spelling (Number n)) (0 ∷ 7 ∷ 10 ∷ 255 ∷ []) ≡ codes "0" ∷ codes "7" ∷ codes "10" ∷ codes "255" ∷ []
+spelled_argument-number : map (λ n. spelled_argument (Number n)) (0 ∷ 7 ∷ 10 ∷ 255 ∷ []) ≡ codes "0" ∷ codes "7" ∷ codes "10" ∷ codes "255" ∷ []
 unfolding digits
-spelling-number = refl
+spelled_argument-number = refl
 
-spelling-character : spelling (Character 0xE9) ≡ 0xC3 ∷ 0xA9 ∷ []
+spelled_argument-character : spelled_argument (Character 0xE9) ≡ 0xC3 ∷ 0xA9 ∷ []
 unfolding utf8
-spelling-character = refl
+spelled_argument-character = refl
 
-spelling-text : spelling (Text (codes " a")) ≡ codes " a"
-spelling-text = refl
+spelled_argument-text : spelled_argument (Text (codes " a")) ≡ codes " a"
+spelled_argument-text = refl
 
-spellings-none : spellings [] ≡ []
-spellings-none = refl
+spelled_arguments-none : spelled_arguments [] ≡ []
+spelled_arguments-none = refl
 
-spellings-each_after_a_space : spellings (Number 1 ∷ Number 20 ∷ Text (codes "ab") ∷ []) ≡ codes " 1 20 ab"
+spelled_arguments-each_after_a_space : spelled_arguments (Number 1 ∷ Number 20 ∷ Text (codes "ab") ∷ []) ≡ codes " 1 20 ab"
 unfolding digits
-spellings-each_after_a_space = refl
+spelled_arguments-each_after_a_space = refl
 
 -- the `é` of the first command is printed as its two bytes
 line_of-each : map line_of each

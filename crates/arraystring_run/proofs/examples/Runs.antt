@@ -6,7 +6,7 @@ use Rattle.std.specs.Str.{chars, encode_utf8_all}
 use Rattle.arraystring.specs.Text.{width}
 use Rattle.arraystring.specs.WhiteSpace.{is_white_space}
 use Rattle.arraystring.specs.Edits.{Past, Room, Inside, addition, insertion, removal}
-use Rattle.arraystring.specs.Stored.{string_of}
+use Rattle.arraystring.specs.Stored.{view_with_text}
 use Rattle.arraystring.specs.Refusals.{OutOfBounds, Utf8}
 use Rattle.arraystring_run.specs.Runs.{Done, Char, NoChar, Text, NoText, Number, Refused, view_of, reply_and_text, reply_of, apply, apply_unit, char_or_none, text_or_none, without, end_of_inclusive, effect, is_cause_room, lacks_room, is_made, adds_less, is_tight, after, first_tight_from, first_or_else, NoneTight, IsFirstTight}
 use Rattle.arraystring_run.specs.declared.commands.Command.{Command}
@@ -22,7 +22,7 @@ str t = record { ref_ptr = (0, 0); now = encode_utf8_all t }
 ReplyView-no_character_is_not_no_text : NoChar ≡ NoText → ⊥
 ReplyView-no_character_is_not_no_text e = cc
 
-view_of-string : view_of {N = 5} (reply.Text (string_of (codes "ab"))) ≡ Text (codes "ab")
+view_of-string : view_of {N = 5} (reply.Text (view_with_text (codes "ab"))) ≡ Text (codes "ab")
 view_of-string = refl
 
 view_of-others : map {0, 0} (view_of {N = 5}) (

@@ -6,12 +6,12 @@ use Rattle.std.specs.Ordering.{nat_cmp, eq_by_cmp}
 use Rattle.std.proofs.lemmas.Bool.{cond_both}
 use Rattle.std.proofs.lemmas.Map.Lookups.{exact_bytes}
 use Rattle.std.proofs.lemmas.Map.Views.{tells_apart}
-use Rattle.arraystring.specs.Stored.{string_of}
+use Rattle.arraystring.specs.Stored.{view_with_text}
 use Rattle.bounded_records.specs.Users.{texts, names_of, entries_as_texts, AreUnderTheirNames}
 use Rattle.bounded_records.specs.declared.user.User.{User}
 
 abbrev ann : User
-ann = record { username = string_of (codes "ann"); role = string_of (codes "admin") }
+ann = record { username = view_with_text (codes "ann"); role = view_with_text (codes "admin") }
 
 texts-username_first : texts ann ≡ (codes "ann", codes "admin")
 texts-username_first = refl
@@ -22,7 +22,7 @@ names_of-none = refl
 names_of-in_order : names_of ((codes "bob", codes "a") ∷ (codes "ann", codes "b") ∷ []) ≡ codes "bob" ∷ codes "ann" ∷ []
 names_of-in_order = refl
 
-entries_as_texts-key_and_user : entries_as_texts ((string_of (codes "key"), ann) ∷ []) ≡ (codes "key", (codes "ann", codes "admin")) ∷ []
+entries_as_texts-key_and_user : entries_as_texts ((view_with_text (codes "key"), ann) ∷ []) ≡ (codes "key", (codes "ann", codes "admin")) ∷ []
 entries_as_texts-key_and_user = refl
 
 AreUnderTheirNames-no_user : AreUnderTheirNames finite.empty

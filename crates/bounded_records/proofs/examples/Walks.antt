@@ -3,20 +3,20 @@
 use Rattle.std.proofs.Common.{◌≡◌, ℕ, ◌<◌, true, List, [], ◌∷◌, map, length, Some, refl, subst, ◌∙◌, Bor, codes, option_map, slice_index_or, lit<, ◌-◌}
 use Rattle.std.specs.Iterator.{YieldsFirstBy, YieldsLastBy}
 use Rattle.std.specs.Iterator.Runs.{Run}
-use Rattle.arraystring.specs.Stored.{StringView, string_of}
+use Rattle.arraystring.specs.Stored.{StringView, view_with_text}
 use Rattle.bounded_records.proofs.WalkLemmas.{in_order, in_reverse, copies_in_order}
 use Rattle.bounded_records.specs.Users.{texts}
 use Rattle.bounded_records.specs.Walks.{GivesInOrder, GivesInReverse, GivesCopiesInOrder, text_of_username, name_text, user_texts}
 
-text_of_username-of_a_string : text_of_username (string_of (codes "ann")) ≡ codes "ann"
+text_of_username-of_a_string : text_of_username (view_with_text (codes "ann")) ≡ codes "ann"
 text_of_username-of_a_string = refl
 
-name_text-of_a_reference : name_text (record { ref_ptr = (0, 0); now = string_of (codes "ann") }) ≡ codes "ann"
+name_text-of_a_reference : name_text (record { ref_ptr = (0, 0); now = view_with_text (codes "ann") }) ≡ codes "ann"
 name_text-of_a_reference = refl
 
 user_texts-of_a_reference : user_texts (record {
   ref_ptr = (0, 0);
-  now = record { username = string_of (codes "ann"); role = string_of (codes "admin") };
+  now = record { username = view_with_text (codes "ann"); role = view_with_text (codes "admin") };
 }) ≡ (codes "ann", codes "admin")
 user_texts-of_a_reference = refl
 

@@ -1,7 +1,7 @@
 use Rattle.std.proofs.Common.{◌∙◌, rules, rules, ap, sym}
 use Rattle.arraystring.specs.Drained.{result_with_left}
 use Rattle.arraystring_run.specs.Runs.{Text, reply_of}
-use Rattle.arraystring_run.proofs.execute.reply_from_drain.Goals as goal
+use Rattle.arraystring_run.proofs.execute.reply_of_drain_result.Goals as goal
 
 pub from_str_unchecked-requires : goal.from_str_unchecked-requires
 from_str_unchecked-requires g c =

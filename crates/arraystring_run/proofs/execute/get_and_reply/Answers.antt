@@ -2,7 +2,7 @@ use Rattle.std.proofs.Common.{◌≤◌, ap, arith, chars, rules}
 use Rattle.arraystring.specs.Text.{size, cap}
 use Rattle.arraystring.proofs.BoundaryLaws.{part-fits, part_in-found}
 use Rattle.arraystring.proofs.RangeEndLaws.{at_own_bounds}
-use Rattle.arraystring_run.proofs.execute.reply_from_get.Goals as goal
+use Rattle.arraystring_run.proofs.execute.get_and_reply.Goals as goal
 
 pub from_str_unchecked-requires : goal.from_str_unchecked-requires
 from_str_unchecked-requires g c =
