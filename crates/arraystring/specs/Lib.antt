@@ -5,7 +5,7 @@ pub use Rattle.arraystring_core.specs.Names
 pub mod Stored
 pub use Rattle.arraystring_core.specs.Parts
 pub use Rattle.arraystring_core.specs.WhiteSpace
-pub use Rattle.arraystring_core.specs.Causes
+pub mod Causes
 pub mod Held
 pub use Rattle.arraystring_core.specs.Edits
 pub use Rattle.arraystring_core.specs.Construct

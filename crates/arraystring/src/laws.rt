@@ -13,7 +13,7 @@ ghost use Rattle.arraystring_core.specs.Parts.{all_but_last};
 
 pub use arraystring_base::laws::{
     boundaries_are_sizes, cut_of_cut, equal_bytes_are_one_text, find_finds_first, longest_cut,
-    only_first_stop, order_of_bytes, order_of_texts, parts_join, reading_is_unique, size_is_length,
+    only_first_stop, only_reading, order_of_bytes, order_of_texts, parts_join, size_is_length,
     split_once_at_first, str_is_text, text_units_read_as_text,
 };
 use arraystring_core::ArrayString;
@@ -33,8 +33,8 @@ pub use crate::laws::{
 pub use arraystring_base::laws::{
     boundaries_are_sizes as boundaries, equal_bytes_are_one_text as one_text,
     find_finds_first as found_first, only_first_stop as one_stop, parts_join as parts,
-    reading_is_unique as only_reading, split_once_at_first as split_first,
-    str_is_text as borrowed_text, text_units_read_as_text as text_reading,
+    split_once_at_first as split_first, str_is_text as borrowed_text,
+    text_units_read_as_text as text_reading,
 };
 pub use arraystring_core::laws::{
     drain_gives_left as left_given, drain_left_fits as left_fits, pop_takes_last as popped,

@@ -45,7 +45,7 @@ NoPairApart items =
     (before after : List Unit16) (high low : ℕ) → items ≡ before ++ Lone high ∷ Lone low ∷ after → IsHigh high → IsLow low → ⊥
 
 -- the items are a reading of the units: the units of all items, joined, are these units, and no pair is read as two lone surrogates
--- (3.9). Units below 0x10000 have exactly one reading (`reading_is_unique`). For the units of a text it is the characters of the text
+-- (3.9). Units below 0x10000 have exactly one reading (`only_reading`). For the units of a text it is the characters of the text
 -- (`text_units_read_as_text`)
 pub record IsReading (units : List ℕ) (items : List Unit16) : Type 0 where
   pub each_unit : All (λ unit. unit < 0x1_0000) units

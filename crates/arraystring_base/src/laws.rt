@@ -85,7 +85,7 @@ pub fn order_of_texts()
 {}
 
 /// UTF-16 units can be read as characters and lone surrogates in exactly one way.
-pub fn reading_is_unique(units: &[u16])
+pub fn only_reading(units: &[u16])
     ensures some { (items : List Unit16) × IsReading units.now items }
     ensures only { (a b : List Unit16) → IsReading units.now a → IsReading units.now b → a ≡ b }
 {}

@@ -3,7 +3,7 @@ use Rattle.std.proofs.Common.{◌≡◌, ◌≢◌, ℕ, ◌≤◌, ◌⊎◌, L
 use Rattle.std.specs.Borrow.{Bor}
 use Rattle.arraystring_run.specs.Writing.{AppendsPrefix}
 use Rattle.arraystring_run.specs.Player.{IfBadLine}
-use Rattle.arraystring_run.specs.Program.{IsServed, IsOutcomeAtNamedCapacity, capacity_named, status_of, status_of_program, report_of, report_of_program, fault_line}
+use Rattle.arraystring_run.specs.Program.{IsServed, IsOutcomeAt, capacity_named, status_of, status_at, report_of, report_at, fault_line}
 use Rattle.arraystring_run.specs.declared.player.PlayFault.{PlayFault}
 use Rattle.arraystring_run.specs.declared.player.PlayFault.TheVariants.{BadLine, Memory, Read, Write}
 
@@ -45,8 +45,8 @@ unwritten (Err e) same _ _ = same (λ f. cc)
 pub served : {word : Option (Bor (List ℕ))} {given old new errors_old errors_new : Option (List ℕ)}
     {SameInput SameOutput SameErrors : Type 0} {status : ℕ}
     (named : Option ℕ) (played : Option (Result (Unit {0}) PlayFault)) → capacity_named word ≡ named
-    → IsOutcomeAtNamedCapacity named given old new SameInput SameOutput played
-    → status ≡ status_of_program played → AppendsPrefix errors_old errors_new (report_of_program played) → (status ≡ 0 → SameErrors)
+    → IsOutcomeAt named given old new SameInput SameOutput played
+    → status ≡ status_at played → AppendsPrefix errors_old errors_new (report_at played) → (status ≡ 0 → SameErrors)
     → IsServed (record {
       word = word;
       input = given;

@@ -74,39 +74,39 @@ pub record IsNumber (bs : List ℕ) (n : ℕ) : Type 0 where
   pub small : n ≤ 255
 
 -- the bytes spell an argument: they are the digits of a number, the UTF-8 of a character, or the bytes of a text
-abbrev pub SpellsArgument : List ℕ → Argument → Type 0
-SpellsArgument bs (Number n) = IsNumber bs n
-SpellsArgument bs (Character c) = IsScalarValue c × (bs ≡ utf8 c)
-SpellsArgument bs (Text given) = IsWellFormed given × (bs ≡ given)
+abbrev pub IsSpelled : List ℕ → Argument → Type 0
+IsSpelled bs (Number n) = IsNumber bs n
+IsSpelled bs (Character c) = IsScalarValue c × (bs ≡ utf8 c)
+IsSpelled bs (Text given) = IsWellFormed given × (bs ≡ given)
 
 -- the byte between a word and its arguments
 abbrev pub space : ℕ
 space = 0x20
 
--- the bytes are one space and the spelled_argument of an argument, for each of the arguments, and nothing else
-abbrev pub SpellsArguments : List ℕ → List Argument → Type 0
-SpellsArguments bs [] = bs ≡ []
-SpellsArguments bs (a ∷ rest) =
-    (first : List ℕ) × (others : List ℕ) × (bs ≡ space ∷ (first ++ others)) × SpellsArgument first a × SpellsArguments others rest
+-- the bytes are one space and the spelling of an argument, for each of the arguments, and nothing else
+abbrev pub AreSpelled : List ℕ → List Argument → Type 0
+AreSpelled bs [] = bs ≡ []
+AreSpelled bs (a ∷ rest) =
+    (first : List ℕ) × (others : List ℕ) × (bs ≡ space ∷ (first ++ others)) × IsSpelled first a × AreSpelled others rest
 
 -- the bytes are a line of a command: its word, and then its arguments (CALLING.md, Commands)
 abbrev pub IsLineOf : List ℕ → Command → Type 0
-IsLineOf bs c = (rest : List ℕ) × (bs ≡ word c ++ rest) × SpellsArguments rest (arguments c)
+IsLineOf bs c = (rest : List ℕ) × (bs ≡ word c ++ rest) × AreSpelled rest (arguments c)
 
 -- the bytes that spell an argument; a number has no leading zeros
-abbrev pub spelled_argument : Argument → List ℕ
-spelled_argument (Number n) = decimal n
-spelled_argument (Character c) = utf8 c
-spelled_argument (Text given) = given
+abbrev pub spelling : Argument → List ℕ
+spelling (Number n) = decimal n
+spelling (Character c) = utf8 c
+spelling (Text given) = given
 
 -- the bytes that spell arguments, each after one space
-abbrev pub spelled_arguments : List Argument → List ℕ
-spelled_arguments [] = []
-spelled_arguments (a ∷ rest) = space ∷ (spelled_argument a ++ spelled_arguments rest)
+abbrev pub spellings : List Argument → List ℕ
+spellings [] = []
+spellings (a ∷ rest) = space ∷ (spelling a ++ spellings rest)
 
 -- the line of a command whose numbers have no leading zeros (`each_command_has_a_line`)
 abbrev pub line_of : Command → List ℕ
-line_of c = word c ++ spelled_arguments (arguments c)
+line_of c = word c ++ spellings (arguments c)
 
 -- each number is at most 255, each character a scalar value, each text well formed (a line feed in it is not excluded)
 abbrev pub AreArguments : List Argument → Type 0

@@ -15,19 +15,19 @@ IfBadLine _ P = ⊤
 
 -- the lines of the input are those of some commands, and the printed lines of their run were appended to the output of a writer. `old`
 -- and `new` are its bytes before and after, if its contract tells them
-abbrev pub IsScriptPlayed : List ℕ → ℕ → Option (List ℕ) → Option (List ℕ) → Type 0
-IsScriptPlayed input n old new = (cs : List Command) × AreLinesOf (lines input) cs × Appends old new (run_printed cs n)
+abbrev pub IsPlayed : List ℕ → ℕ → Option (List ℕ) → Option (List ℕ) → Type 0
+IsPlayed input n old new = (cs : List Command) × AreLinesOf (lines input) cs × Appends old new (run_printed cs n)
 
--- as `IsScriptPlayed`, but only a prefix of the printed lines was appended, which may be none or all of their bytes
-abbrev pub IsScriptPartPlayed : List ℕ → ℕ → Option (List ℕ) → Option (List ℕ) → Type 0
-IsScriptPartPlayed input n old new = (cs : List Command) × AreLinesOf (lines input) cs × AppendsPrefix old new (run_printed cs n)
+-- as `IsPlayed`, but only a prefix of the printed lines was appended, which may be none or all of their bytes
+abbrev pub IsPartPlayed : List ℕ → ℕ → Option (List ℕ) → Option (List ℕ) → Type 0
+IsPartPlayed input n old new = (cs : List Command) × AreLinesOf (lines input) cs × AppendsPrefix old new (run_printed cs n)
 
 -- `played` is what `play` returned at the capacity n, and `old` and `new` are the bytes of the writer before and after. `Ok` says that the
 -- script `given` was played, and `BadLine` which line is bad. After any fault but `Write` the writer is as before (`SameOutput`), and after
 -- `Write` a prefix was appended. Nothing is said of bytes that the contracts of the streams do not tell
-pub record IsPlayOutcome (n : ℕ) (given old new : Option (List ℕ)) (SameOutput : Type 0) (played : Result (Unit {0}) PlayFault)
+pub record IsOutcome (n : ℕ) (given old new : Option (List ℕ)) (SameOutput : Type 0) (played : Result (Unit {0}) PlayFault)
     : Type 0 where
-  pub whole : OnOk played (IfSome given (λ input. IsScriptPlayed input n old new))
+  pub whole : OnOk played (IfSome given (λ input. IsPlayed input n old new))
   pub bad_line : IfErr played (λ e. IfBadLine e (λ k. IfSome given (λ input. IsBadAt (lines input) k)))
   pub unwritten : IfErr played (λ e. e ≢ Write → SameOutput)
-  pub part : IfErr played (λ e. e ≡ Write → IfSome given (λ input. IsScriptPartPlayed input n old new))
+  pub part : IfErr played (λ e. e ≡ Write → IfSome given (λ input. IsPartPlayed input n old new))

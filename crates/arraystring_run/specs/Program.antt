@@ -2,7 +2,7 @@
 use Rattle.std.specs.Prelude.{◌≡◌, ◌≢◌, ◌≤◌, ◌⊎◌, ℕ, List, [], ◌++◌, if◌then◌else◌, Option, Some, None, IfSome, IsSomeAnd, Result, Ok, Err, codes, decimal, nat_eq}
 use Rattle.std.specs.Borrow.{Bor}
 use Rattle.std.specs.Cmp.Lexicographic.{pointwise}
-use Rattle.arraystring_run.specs.Player.{IsScriptPlayed, IsScriptPartPlayed, IsPlayOutcome}
+use Rattle.arraystring_run.specs.Player.{IsPlayed, IsPartPlayed, IsOutcome}
 use Rattle.arraystring_run.specs.ScriptLines.{with_newline, lines, IsBadAt}
 use Rattle.arraystring_run.specs.Writing.{AppendsPrefix}
 use Rattle.arraystring_run.specs.declared.player.PlayFault.{PlayFault}
@@ -19,10 +19,10 @@ capacity_named (Some word) =
     if pointwise nat_eq word.now (codes "max") then Some 255 else None
 
 -- the number of bytes for which a capacity has room
-abbrev pub byte_count_of : Capacity → ℕ
-byte_count_of Small = 23
-byte_count_of Cache = 63
-byte_count_of Max = 255
+abbrev pub bytes_of : Capacity → ℕ
+bytes_of Small = 23
+bytes_of Cache = 63
+bytes_of Max = 255
 
 -- the exit status that a result of `play` gives (CALLING.md, The program)
 abbrev pub status_of : {A : Type 0} → Result A PlayFault → ℕ
@@ -48,22 +48,22 @@ abbrev pub report_of : {A : Type 0} → Result A PlayFault → List ℕ
 report_of (Ok _) = []
 report_of (Err e) = fault_line e
 
--- if a capacity is named, `play` was called at it, and `IsPlayOutcome` holds of what it returned; if none is named, nothing was read or
+-- if a capacity is named, `play` was called at it, and `IsOutcome` holds of what it returned; if none is named, nothing was read or
 -- written
-pub record IsOutcomeAtNamedCapacity (named : Option ℕ) (given old new : Option (List ℕ)) (SameInput SameOutput : Type 0)
+pub record IsOutcomeAt (named : Option ℕ) (given old new : Option (List ℕ)) (SameInput SameOutput : Type 0)
     (played : Option (Result (Unit {0}) PlayFault)) : Type 0 where
   pub none_named : named ≡ None → (played ≡ None) × SameInput × SameOutput
-  pub outcome : IfSome named (λ n. IsSomeAnd played (IsPlayOutcome n given old new SameOutput))
+  pub outcome : IfSome named (λ n. IsSomeAnd played (IsOutcome n given old new SameOutput))
 
 -- the exit status of a program: `None` stands for a word that names no capacity, so that no script is played
-abbrev pub status_of_program : Option (Result (Unit {0}) PlayFault) → ℕ
-status_of_program None = 2
-status_of_program (Some played) = status_of played
+abbrev pub status_at : Option (Result (Unit {0}) PlayFault) → ℕ
+status_at None = 2
+status_at (Some played) = status_of played
 
 -- the text that a program writes to its standard error: `None` stands for a word that names no capacity, so that no script is played
-abbrev pub report_of_program : Option (Result (Unit {0}) PlayFault) → List ℕ
-report_of_program None = usage_line
-report_of_program (Some played) = report_of played
+abbrev pub report_at : Option (Result (Unit {0}) PlayFault) → List ℕ
+report_at None = usage_line
+report_at (Some played) = report_of played
 
 -- one run of the program: its word, the bytes of its input, the bytes of its output and of its standard error before and after, as far
 -- as they are known, the claims that each of these three streams is as before, and the exit status
@@ -85,13 +85,13 @@ pub record IsServed (s : Service) : Type 0 where
   pub other_word : capacity_named s.word ≡ None
       → (s.status ≡ 2) × s.SameInput × AppendsPrefix s.errors_before s.errors_after usage_line
   pub played : IfSome (capacity_named s.word)
-      (λ n. s.status ≡ 0 → IfSome s.input (λ input. IsScriptPlayed input n s.output_before s.output_after))
+      (λ n. s.status ≡ 0 → IfSome s.input (λ input. IsPlayed input n s.output_before s.output_after))
   pub bad_line : IfSome (capacity_named s.word) (λ _. s.status ≡ 2 → (k : ℕ) × IfSome s.input (λ input. IsBadAt (lines input) k)
       × AppendsPrefix s.errors_before s.errors_after (fault_line (BadLine k)))
   pub no_memory : s.status ≡ 3 → AppendsPrefix s.errors_before s.errors_after (fault_line Memory)
   pub failed : IfSome (capacity_named s.word) (λ n. s.status ≡ 4
       → (s.SameOutput × AppendsPrefix s.errors_before s.errors_after (fault_line Read))
-      ⊎ (IfSome s.input (λ input. IsScriptPartPlayed input n s.output_before s.output_after)
+      ⊎ (IfSome s.input (λ input. IsPartPlayed input n s.output_before s.output_after)
       × AppendsPrefix s.errors_before s.errors_after (fault_line Write)))
   pub quiet : s.status ≡ 0 → s.SameErrors
   pub unwritten : s.status ≢ 0 → s.status ≢ 4 → s.SameOutput

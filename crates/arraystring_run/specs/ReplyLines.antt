@@ -22,9 +22,9 @@ replies_printed [] = []
 replies_printed (r ∷ rs) = with_newline (reply_line r) ++ replies_printed rs
 
 -- the lines of replies, and then the line of the text at the end of the run, each with its line feed
-abbrev pub lines_of_replies_and_text : List ReplyView → List ℕ → List ℕ
-lines_of_replies_and_text rs t = replies_printed rs ++ with_newline (codes "final " ++ bytes t)
+abbrev pub all_printed : List ReplyView → List ℕ → List ℕ
+all_printed rs t = replies_printed rs ++ with_newline (codes "final " ++ bytes t)
 
 -- the printed lines of a run of these commands, which begins with the empty text, at the capacity n
 abbrev pub run_printed : List Command → ℕ → List ℕ
-run_printed cs n = let ran = after cs [] n in lines_of_replies_and_text ran.replies ran.text
+run_printed cs n = let ran = after cs [] n in all_printed ran.replies ran.text

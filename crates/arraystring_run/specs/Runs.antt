@@ -66,8 +66,8 @@ abbrev pub without : ℕ → List ℕ → List ℕ
 without c t = filter (λ d. not (d == c)) t
 
 -- the end of a range that includes the byte at `last`: the next index, but at most 255
-abbrev pub end_of_inclusive : ℕ → ℕ
-end_of_inclusive last = min (last + 1) 255
+abbrev pub end_through : ℕ → ℕ
+end_through last = min (last + 1) 255
 
 -- the effect of a command on t at the capacity n
 abbrev pub effect : Command → List ℕ → ℕ → Effect
@@ -85,7 +85,7 @@ effect (command.InsertStr i given) t n = apply_unit (insertion_of_cut t i (chars
 effect (command.SplitOff i) t n = apply Text (split t i) t
 effect command.Clear t n = apply_unit clearing t
 effect (command.Drain start end) t n = apply Text (draining t start end) t
-effect (command.DrainThrough start last) t n = apply Text (draining t start (end_of_inclusive last)) t
+effect (command.DrainThrough start last) t n = apply Text (draining t start (end_through last)) t
 effect (command.DrainBack start end) t n = apply (λ removed. Text (reverse removed)) (draining t start end) t
 effect (command.ReplaceRange start end given) t n = apply_unit (replacement t start end (chars given.now) n) t
 effect command.Upper t n = apply_unit (uppercase t) t

@@ -6,6 +6,12 @@ ghost use Rattle.arraystring_run.specs.Line.{arguments, line_of, AreArguments, I
 ghost use Rattle.arraystring_run.specs.ScriptLines.{lines, with_newline, joined_lines, IsOneLine, AreOneLine, AreLinesOf, IsBadAt};
 ghost use Rattle.arraystring_run.specs.declared.commands.Command.{Command};
 
+// The old names of laws, which stay until the next release.
+pub use crate::laws::{
+    first_bad_line_is_unique as one_bad_line, first_tight_is_unique as one_first_tight,
+    script_has_one_meaning as one_reading,
+};
+
 /// A command is tight if it is refused because its result does not fit, or if it adds less than all of
 /// what it is given. `first_tight_from` finds the first tight command of a run from its first command on. If
 /// it finds a position, then the command there is tight on the text that the commands before it leave, and no

@@ -5,7 +5,7 @@ ghost use Rattle.arraystring.specs.Text.{cap};
 ghost use Rattle.arraystring_run.specs.ScriptLines.{lines, IsBadAt};
 ghost use Rattle.arraystring_run.specs.Printing.{run_printed};
 ghost use Rattle.arraystring_run.specs.Writing.{AppendsPrefix};
-ghost use Rattle.arraystring_run.specs.Player.{IfBadLine, IsScriptPlayed, IsScriptPartPlayed};
+ghost use Rattle.arraystring_run.specs.Player.{IfBadLine, IsPlayed, IsPartPlayed};
 
 use crate::printing::write_all_replies;
 use crate::script::parse_script;
@@ -64,12 +64,12 @@ pub fn play<const N: usize, I: Read, O: Write>(
     output: &mut O,
 ) -> Result<(), PlayFault>
     ensures played { OnOk result (IfSome (I.remaining input.old)
-        (λ given. IsScriptPlayed given (cap N) (O.contents output.old) (O.contents output.new))) }
+        (λ given. IsPlayed given (cap N) (O.contents output.old) (O.contents output.new))) }
     ensures bad_line { IfErr result (λ e. IfBadLine e
         (λ k. IfSome (I.remaining input.old) (λ given. IsBadAt (lines given) k))) }
     ensures unwritten { IfErr result (λ e. e ≢ PlayFault.Write → output.new ≡ output.old) }
     ensures part_played { IfErr result (λ e. e ≡ PlayFault.Write → IfSome (I.remaining input.old)
-        (λ given. IsScriptPartPlayed
+        (λ given. IsPartPlayed
         given (cap N) (O.contents output.old) (O.contents output.new))) }
     ensures end { OnOk result (IsAtEnd (I.remaining input.new)) }
     ensures end_of_bad { IfErr result (λ e. IfBadLine e (λ _. IsAtEnd (I.remaining input.new))) }

@@ -5,7 +5,7 @@ ghost use Rattle.std.specs.Io.KnownBytes.{Appends};
 ghost use Rattle.arraystring.specs.Text.{bytes};
 ghost use Rattle.arraystring_run.specs.Runs.{view_of};
 ghost use Rattle.arraystring_run.specs.ScriptLines.{with_newline};
-ghost use Rattle.arraystring_run.specs.Printing.{reply_line, lines_of_replies_and_text};
+ghost use Rattle.arraystring_run.specs.Printing.{reply_line, all_printed};
 ghost use Rattle.arraystring_run.specs.Writing.{AppendsPrefix, GoesThroughBuffer};
 
 use crate::Reply;
@@ -25,9 +25,9 @@ pub(crate) fn write_all_replies<const N: usize, O: Write>(
 ) -> io::Result<()>
     ensures whole { OnOk result
         (Appends (O.contents output.old) (O.contents output.new)
-        (lines_of_replies_and_text (map view_of replies.now) last.now.text)) }
+        (all_printed (map view_of replies.now) last.now.text)) }
     ensures part { AppendsPrefix (O.contents output.old) (O.contents output.new)
-        (lines_of_replies_and_text (map view_of replies.now) last.now.text) }
+        (all_printed (map view_of replies.now) last.now.text) }
 {
     let mut waiting = OutputBuffer::new();
     for reply in replies {

@@ -2,7 +2,7 @@
 //! names.
 ghost use Rattle.std.specs.Prelude.{◌≡◌, option_map};
 ghost use Rattle.arraystring_run.specs.Writing.{AppendsPrefix};
-ghost use Rattle.arraystring_run.specs.Program.{IsServed, IsOutcomeAtNamedCapacity, byte_count_of, capacity_named, status_of_program, report_of_program};
+ghost use Rattle.arraystring_run.specs.Program.{IsServed, IsOutcomeAt, bytes_of, capacity_named, status_at, report_at};
 
 pub use crate::arguments::given_word;
 use crate::player::{PlayFault, play};
@@ -21,7 +21,7 @@ enum Capacity {
 
 /// The capacity that a word names.
 fn capacity_of(word: Option<&str>) -> Option<Capacity>
-    ensures { option_map byte_count_of result ≡ capacity_named word.entry }
+    ensures { option_map bytes_of result ≡ capacity_named word.entry }
 {
     match word {
         Some("small") => Some(Capacity::Small),
@@ -74,7 +74,7 @@ fn play_at<I: Read, O: Write>(
     input: &mut I,
     output: &mut O,
 ) -> Option<Result<(), PlayFault>>
-    ensures { IsOutcomeAtNamedCapacity (option_map byte_count_of capacity) (I.remaining input.old)
+    ensures { IsOutcomeAt (option_map bytes_of capacity) (I.remaining input.old)
         (O.contents output.old) (O.contents output.new)
         (input.new ≡ input.old) (output.new ≡ output.old) result }
 {
@@ -87,9 +87,9 @@ fn play_at<I: Read, O: Write>(
 
 /// Writes the line of a fault, or how a program is called if nothing was played, and returns the status.
 fn report<E: Write>(played: Option<Result<(), PlayFault>>, errors: &mut E) -> u8
-    ensures status { result ≡ status_of_program played }
+    ensures status { result ≡ status_at played }
     ensures line { AppendsPrefix (E.contents errors.old) (E.contents errors.new)
-        (report_of_program played) }
+        (report_at played) }
     ensures quiet { result ≡ 0 → errors.new ≡ errors.old }
 {
     match played {

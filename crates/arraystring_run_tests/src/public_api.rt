@@ -3,9 +3,9 @@
 ghost use Rattle.arraystring_run.specs.Arguments.{IsOnlyWord};
 ghost use Rattle.arraystring_run.specs.Line.{IsLineOf};
 ghost use Rattle.arraystring_run.specs.ScriptLines.{line_feed, with_newline, joined_lines, IsOneLine, AreOneLine, first_byte, lines, AreLinesOf, IsBadAt};
-ghost use Rattle.arraystring_run.specs.Printing.{reply_line, replies_printed, lines_of_replies_and_text, run_printed};
+ghost use Rattle.arraystring_run.specs.Printing.{reply_line, replies_printed, all_printed, run_printed};
 ghost use Rattle.arraystring_run.specs.Writing.{AppendsPrefix};
-ghost use Rattle.arraystring_run.specs.Player.{IfBadLine, IsScriptPlayed, IsScriptPartPlayed};
+ghost use Rattle.arraystring_run.specs.Player.{IfBadLine, IsPlayed, IsPartPlayed};
 ghost use Rattle.arraystring_run.specs.Program.{capacity_named, status_of, usage_line, fault_line, report_of, Service, IsServed};
 
 use super::runs::text_of;
@@ -114,4 +114,8 @@ fn the_laws_are_at_hand(_rt: HostRuntime) {
     laws::each_command_has_a_line();
     laws::script_has_one_meaning();
     laws::first_bad_line_is_unique();
+    // the old names of the last two, and of `first_tight_is_unique`
+    laws::one_first_tight();
+    laws::one_reading();
+    laws::one_bad_line();
 }

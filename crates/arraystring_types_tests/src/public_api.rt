@@ -131,7 +131,7 @@ fn the_laws_are_at_hand(rt: HostRuntime) {
     laws::longest_cut();
     laws::only_first_stop();
     laws::equal_bytes_are_one_text();
-    laws::reading_is_unique(&[0xD800]);
+    laws::only_reading(&[0xD800]);
     laws::order_of_bytes();
     laws::order_of_texts();
     laws::parts_join();
@@ -146,6 +146,35 @@ fn the_laws_are_at_hand(rt: HostRuntime) {
     laws::walk_gives_each_once();
     laws::what_comes_past_the_room();
     laws::white_space_is_that_of_std();
+}
+
+/// The old name of each law that has a new one is at hand until the next release.
+#[test]
+fn the_old_names_of_laws_are_at_hand() {
+    laws::boundaries();
+    let mut text = ArrayString::<5>::from("é");
+    laws::text_spelled(&text);
+    if let Ok(drained) = text.drain(..) {
+        laws::left_fits(&drained);
+        laws::left_given(&drained);
+    }
+    laws::first_given("a", "a".chars().next());
+    laws::last_given("a", "a".chars().next_back());
+    laws::borrowed_text("a");
+    laws::found_first("a", 'a', "a".find('a'));
+    laws::split_first("a", 'a', "a".split_once('a'));
+    laws::found_last("a", 'a', "a".rfind('a'));
+    laws::split_last("a", 'a', "a".rsplit_once('a'));
+    laws::one_stop();
+    laws::one_text();
+    laws::parts();
+    laws::popped();
+    laws::replaced_back();
+    laws::split_back();
+    laws::text_reading();
+    laws::trimmed();
+    laws::walks();
+    laws::white_space();
 }
 
 /// Each call that is `const` and reads a value: a constant function can make no other.

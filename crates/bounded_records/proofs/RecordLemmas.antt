@@ -8,7 +8,7 @@ use Rattle.std.proofs.lemmas.List.Elements.{All-head, All-tail, All-replicate}
 use borrow.Rule.Slice.PartMut.{put_mid}
 use Rattle.arraystring.specs.Text.{size, bytes, IsText, IsWellFormed}
 use Rattle.arraystring.proofs.TextLaws.{size-is, bytes_same}
-use Rattle.bounded_records.specs.Records.{field_of, count, counted_bytes, padding, IsRecord, username_field, role_field, HasLength, CountsFit, FieldsAreUtf8, ArePadded, IsFirstFault}
+use Rattle.bounded_records.specs.Records.{field_of, count, counted_bytes, padding, IsRecord, username_field, role_field, HasLength, CountsFit, AreWellFormed, ArePadded, IsFirstFault}
 use Rattle.bounded_records.specs.declared.user.User.{User}
 use Rattle.bounded_records.specs.declared.record.RecordFault.{RecordFault}
 use Rattle.bounded_records.specs.declared.record.RecordFault.TheVariants.{Length, Count, Utf8, Padding}
@@ -71,7 +71,7 @@ module _ (bs username role : List ℕ) (is : IsRecord bs username role) where
   role_bytes : counted_bytes (role_field bs) ≡ bytes role
   role_bytes = ap counted_bytes second ∙ counted_bytes-field 5 role is.role_fits
 
-  are_well_formed : FieldsAreUtf8 bs
+  are_well_formed : AreWellFormed bs
   are_well_formed = ((username, (is.username_text, sym username_bytes)), (role, (is.role_text, sym role_bytes)))
 
   are_padded : ArePadded bs

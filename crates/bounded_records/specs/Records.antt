@@ -51,8 +51,8 @@ abbrev pub CountsFit : List ℕ → Type 0
 CountsFit bs = (count (username_field bs) ≤ 20) × (count (role_field bs) ≤ 5)
 
 -- the third test of `decode`: the counted bytes of both fields are well-formed UTF-8
-abbrev pub FieldsAreUtf8 : List ℕ → Type 0
-FieldsAreUtf8 bs = IsWellFormed (counted_bytes (username_field bs)) × IsWellFormed (counted_bytes (role_field bs))
+abbrev pub AreWellFormed : List ℕ → Type 0
+AreWellFormed bs = IsWellFormed (counted_bytes (username_field bs)) × IsWellFormed (counted_bytes (role_field bs))
 
 -- the fourth test of `decode`: in both fields the bytes behind those that are counted are zero
 abbrev pub ArePadded : List ℕ → Type 0
@@ -62,5 +62,5 @@ ArePadded bs = All (λ b. b ≡ 0) (padding (username_field bs)) × All (λ b. b
 abbrev pub IsFirstFault : List ℕ → RecordFault → Type 0
 IsFirstFault bs Length = ¬ (HasLength bs)
 IsFirstFault bs Count = HasLength bs × ¬ (CountsFit bs)
-IsFirstFault bs Utf8 = HasLength bs × CountsFit bs × ¬ (FieldsAreUtf8 bs)
-IsFirstFault bs Padding = HasLength bs × CountsFit bs × FieldsAreUtf8 bs × ¬ (ArePadded bs)
+IsFirstFault bs Utf8 = HasLength bs × CountsFit bs × ¬ (AreWellFormed bs)
+IsFirstFault bs Padding = HasLength bs × CountsFit bs × AreWellFormed bs × ¬ (ArePadded bs)

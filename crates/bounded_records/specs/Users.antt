@@ -15,8 +15,8 @@ abbrev pub names_of : List (List ℕ × List ℕ) → List (List ℕ)
 names_of users = map (λ user. user.0) users
 
 -- the entries of a map from strings to users, with texts in place of strings and users, as contracts see a `Directory`
-abbrev pub entries_as_texts : List (StringView × User) → List (List ℕ × (List ℕ × List ℕ))
-entries_as_texts entries = map (λ e. (e.0.text, texts e.1)) entries
+abbrev pub by_text : List (StringView × User) → List (List ℕ × (List ℕ × List ℕ))
+by_text entries = map (λ e. (e.0.text, texts e.1)) entries
 
 -- in the map each user is found under its own username
 abbrev pub AreUnderTheirNames : finite.FinMap (slice_cmp nat_cmp) (List ℕ × List ℕ) → Type 0

@@ -27,8 +27,8 @@ module _ {A B : Type 0} (view : A → B) where
       (λ run. run.whole ≡ true → map view (map (λ item. item.now) run.items) ≡ run.from)
 
 -- the text of a username
-abbrev pub text_of_username : StringView → List ℕ
-text_of_username name = name.text
+abbrev pub stored_text : StringView → List ℕ
+stored_text name = name.text
 
 -- the text of a borrowed username
 abbrev pub name_text : Bor StringView → List ℕ

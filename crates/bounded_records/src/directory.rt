@@ -5,7 +5,7 @@ ghost use Rattle.std.specs.List.{AllPairs};
 ghost use Rattle.std.specs.FinMap as map;
 ghost use Rattle.arraystring.specs.Text.{IsBefore};
 ghost use Rattle.bounded_records.specs.Users.{texts, names_of};
-ghost use Rattle.bounded_records.specs.Walks.{GivesInOrder, GivesInReverse, GivesCopiesInOrder, name_text, text_of_username, user_texts};
+ghost use Rattle.bounded_records.specs.Walks.{GivesInOrder, GivesInReverse, GivesCopiesInOrder, name_text, stored_text, user_texts};
 
 use crate::User;
 use crate::walks::{Names, Users};
@@ -30,17 +30,17 @@ impl Model for Directory {
     ghost use Rattle.std.specs.Cmp.Lexicographic.{slice_cmp};
     ghost use Rattle.std.specs.FinMap as map;
     ghost use Rattle.std.specs.Coded.{coded_list, coded_ℕ, coded×};
-    ghost use Rattle.bounded_records.specs.Users.{entries_as_texts, AreUnderTheirNames};
+    ghost use Rattle.bounded_records.specs.Users.{by_text, AreUnderTheirNames};
 
     ghost Value = { map.FinMap (slice_cmp nat_cmp) (List ℕ × List ℕ) };
 
     ghost coded = { map.code (coded_list coded_ℕ)
         (coded× (coded_list coded_ℕ) (coded_list coded_ℕ)) };
 
-    ghost view = { λ d. map.from_entries (entries_as_texts d.users.entries) };
+    ghost view = { λ d. map.from_entries (by_text d.users.entries) };
 
     ghost invariant = { λ d. AreUnderTheirNames
-        (map.from_entries (entries_as_texts d.users.entries)) };
+        (map.from_entries (by_text d.users.entries)) };
 }
 
 impl Directory {
@@ -167,7 +167,7 @@ impl Directory {
         ensures countable { length result < 2 ^ 63 }
         ensures runs { GivesInOrder name_text }
         ensures runs_back { GivesInReverse name_text }
-        ensures copies { GivesCopiesInOrder text_of_username }
+        ensures copies { GivesCopiesInOrder stored_text }
     {
         Names {
             keys: self.users.keys(),

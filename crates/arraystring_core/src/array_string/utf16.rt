@@ -7,7 +7,7 @@ ghost use Rattle.arraystring_core.specs.FromUtf16.{GivesWhole, GivesPrefix, stop
 
 use crate::ArrayString;
 use arraystring_base::error::{Error, Utf16};
-use arraystring_base::laws::reading_is_unique;
+use arraystring_base::laws::only_reading;
 use arraystring_base::utf16::{Unit16, Units};
 use std::char;
 
@@ -87,7 +87,7 @@ impl<const N: usize> ArrayString<N> {
         ensures { (items : List Unit16) → IsReading units.now items
             → result.text ≡ cut (lossy_text items) (cap N) }
     {
-        reading_is_unique(units); // gives the prover that what `Units` reads is the only reading
+        only_reading(units); // gives the prover that what `Units` reads is the only reading
         let mut made = Self::new();
         for item in Units::new(units) {
             match made.try_push(char_or_replacement(item)) {
@@ -106,7 +106,7 @@ impl<const N: usize> ArrayString<N> {
         ensures { (items : List Unit16) → IsReading units.now items
             → first_stop items (cap N) ≡ stop_by_next result self.new.text }
     {
-        reading_is_unique(units); // gives the prover that what `Units` reads is the only reading
+        only_reading(units); // gives the prover that what `Units` reads is the only reading
         for item in Units::new(units) {
             match item {
                 Unit16::Char(ch) => match self.try_push(ch) {

@@ -1,9 +1,9 @@
--- Examples of lines: of each command, of each spelled_argument of an argument, and of what is no line. `codes "len"` is the list of the
+-- Examples of lines: of each command, of each spelling of an argument, and of what is no line. `codes "len"` is the list of the
 -- characters of `"len"`. They are its bytes, since they are ASCII. C3 A9 is the UTF-8 of `'é'`, U+E9.
 use Rattle.std.proofs.Common.{◌≡◌, ℕ, ◌&&◌, Bool, true, false, true≢false, inl, inr, List, [], ◌∷◌, ◌++◌, map, drop, sym, ap, ◌∙◌, append-nil, subst, refl, arith, Bor, codes, lit≤, lit<, nat_eq}
 use Rattle.std.specs.Fmt.{digits}
 use Rattle.arraystring.specs.Text.{utf8}
-use Rattle.arraystring_run.specs.Line.{Argument, Number, Character, Text, word, arguments, AreDigits, number_with_more_digits, IsNumber, SpellsArgument, space, SpellsArguments, IsLineOf, spelled_argument, spelled_arguments, line_of, AreArguments, IsOneWord, IsNumberThenRest}
+use Rattle.arraystring_run.specs.Line.{Argument, Number, Character, Text, word, arguments, AreDigits, number_with_more_digits, IsNumber, IsSpelled, space, AreSpelled, IsLineOf, spelling, spellings, line_of, AreArguments, IsOneWord, IsNumberThenRest}
 use Rattle.arraystring_run.specs.declared.commands.Command.{Command}
 use Rattle.arraystring_run.specs.declared.commands.Command.TheVariants as command
 
@@ -82,49 +82,49 @@ IsNumber-another_value is = omega arith
 
 -- Arguments
 
-SpellsArgument-number : SpellsArgument (codes "007") (Number 7)
-SpellsArgument-number = omega arith
+IsSpelled-number : IsSpelled (codes "007") (Number 7)
+IsSpelled-number = omega arith
 
-SpellsArgument-another_number : SpellsArgument (codes "007") (Number 8) → ⊥
-SpellsArgument-another_number is = omega arith
+IsSpelled-another_number : IsSpelled (codes "007") (Number 8) → ⊥
+IsSpelled-another_number is = omega arith
 
-SpellsArgument-character : SpellsArgument (0xC3 ∷ 0xA9 ∷ []) (Character 0xE9)
+IsSpelled-character : IsSpelled (0xC3 ∷ 0xA9 ∷ []) (Character 0xE9)
 unfolding utf8
-SpellsArgument-character = (inl (lit< tt), refl)
+IsSpelled-character = (inl (lit< tt), refl)
 
-SpellsArgument-character_in_one_byte : SpellsArgument (0xE9 ∷ []) (Character 0xE9) → ⊥
+IsSpelled-character_in_one_byte : IsSpelled (0xE9 ∷ []) (Character 0xE9) → ⊥
 unfolding utf8
-SpellsArgument-character_in_one_byte (is, e) = grind arith
+IsSpelled-character_in_one_byte (is, e) = grind arith
 
 -- ED A0 80 would be the UTF-8 of the surrogate D800
-SpellsArgument-surrogate : SpellsArgument (0xED ∷ 0xA0 ∷ 0x80 ∷ []) (Character 0xD800) → ⊥
-SpellsArgument-surrogate (inl low, e) = omega arith
-SpellsArgument-surrogate (inr high, e) = omega arith
+IsSpelled-surrogate : IsSpelled (0xED ∷ 0xA0 ∷ 0x80 ∷ []) (Character 0xD800) → ⊥
+IsSpelled-surrogate (inl low, e) = omega arith
+IsSpelled-surrogate (inr high, e) = omega arith
 
-SpellsArgument-text : SpellsArgument (0x20 ∷ 0xC3 ∷ 0xA9 ∷ []) (Text (0x20 ∷ 0xC3 ∷ 0xA9 ∷ []))
+IsSpelled-text : IsSpelled (0x20 ∷ 0xC3 ∷ 0xA9 ∷ []) (Text (0x20 ∷ 0xC3 ∷ 0xA9 ∷ []))
 unfolding utf8
-SpellsArgument-text = ((codes " é", ((inl (lit< tt), (inl (lit< tt), tt)), refl)), refl)
+IsSpelled-text = ((codes " é", ((inl (lit< tt), (inl (lit< tt), tt)), refl)), refl)
 
-SpellsArgument-another_text : SpellsArgument (codes "a") (Text (codes "b")) → ⊥
-SpellsArgument-another_text (is, e) = grind arith
+IsSpelled-another_text : IsSpelled (codes "a") (Text (codes "b")) → ⊥
+IsSpelled-another_text (is, e) = grind arith
 
-SpellsArgument-text_that_is_no_utf8 : SpellsArgument (0xFF ∷ []) (Text (0xFF ∷ [])) → ⊥
+IsSpelled-text_that_is_no_utf8 : IsSpelled (0xFF ∷ []) (Text (0xFF ∷ [])) → ⊥
 unfolding utf8
-SpellsArgument-text_that_is_no_utf8 (([], (is, e)), same) = cc
-SpellsArgument-text_that_is_no_utf8 ((c ∷ t, (is, e)), same) = grind arith
+IsSpelled-text_that_is_no_utf8 (([], (is, e)), same) = cc
+IsSpelled-text_that_is_no_utf8 ((c ∷ t, (is, e)), same) = grind arith
 
 space-is_20 : space ≡ 0x20
 space-is_20 = refl
 
-SpellsArguments-none : SpellsArguments [] []
-SpellsArguments-none = refl
+AreSpelled-none : AreSpelled [] []
+AreSpelled-none = refl
 
-SpellsArguments-space_and_no_argument : SpellsArguments (codes " ") [] → ⊥
-SpellsArguments-space_and_no_argument e = cc
+AreSpelled-space_and_no_argument : AreSpelled (codes " ") [] → ⊥
+AreSpelled-space_and_no_argument e = cc
 
-SpellsArguments-each_after_a_space : SpellsArguments (codes " 7 ab") (Number 7 ∷ Text (codes "ab") ∷ [])
+AreSpelled-each_after_a_space : AreSpelled (codes " 7 ab") (Number 7 ∷ Text (codes "ab") ∷ [])
 unfolding utf8
-SpellsArguments-each_after_a_space = (
+AreSpelled-each_after_a_space = (
   codes "7",
   codes " ab",
   refl,
@@ -132,31 +132,31 @@ SpellsArguments-each_after_a_space = (
   (codes "ab", [], refl, ((codes "ab", ((inl (lit< tt), (inl (lit< tt), tt)), refl)), refl), refl),
 )
 
-SpellsArguments-nothing_but_the_argument : SpellsArguments [] (Text [] ∷ []) → ⊥
-SpellsArguments-nothing_but_the_argument (first, others, e, spelled, next) = cc
+AreSpelled-nothing_but_the_argument : AreSpelled [] (Text [] ∷ []) → ⊥
+AreSpelled-nothing_but_the_argument (first, others, e, spelled, next) = cc
 
-SpellsArguments-another_byte_than_a_space : SpellsArguments (codes "-7") (Number 7 ∷ []) → ⊥
-SpellsArguments-another_byte_than_a_space (first, others, e, spelled, next) = grind arith
+AreSpelled-another_byte_than_a_space : AreSpelled (codes "-7") (Number 7 ∷ []) → ⊥
+AreSpelled-another_byte_than_a_space (first, others, e, spelled, next) = grind arith
 
 -- what follows one space, if it spells one argument
-only : (rest : List ℕ) (a : Argument) → SpellsArguments (space ∷ rest) (a ∷ []) → SpellsArgument rest a
+only : (rest : List ℕ) (a : Argument) → AreSpelled (space ∷ rest) (a ∷ []) → IsSpelled rest a
 only rest a (first, [], e, spelled, next) =
-    let same : first ≡ rest = cc (append-nil first) in subst (λ bs. SpellsArgument bs a) same spelled
+    let same : first ≡ rest = cc (append-nil first) in subst (λ bs. IsSpelled bs a) same spelled
 only rest a (first, b ∷ others, e, spelled, next) = absurd (cc)
 
-SpellsArguments-another_argument : SpellsArguments (codes " 7") (Number 8 ∷ []) → ⊥
-SpellsArguments-another_argument spelled = let number : IsNumber (codes "7") 8 = only (codes "7") (Number 8) spelled in omega arith
+AreSpelled-another_argument : AreSpelled (codes " 7") (Number 8 ∷ []) → ⊥
+AreSpelled-another_argument spelled = let number : IsNumber (codes "7") 8 = only (codes "7") (Number 8) spelled in omega arith
 
-SpellsArguments-something_follows : SpellsArguments (codes " 7 ") (Number 7 ∷ []) → ⊥
-SpellsArguments-something_follows spelled = let number : IsNumber (codes "7 ") 7 = only (codes "7 ") (Number 7) spelled in omega arith
+AreSpelled-something_follows : AreSpelled (codes " 7 ") (Number 7 ∷ []) → ⊥
+AreSpelled-something_follows spelled = let number : IsNumber (codes "7 ") 7 = only (codes "7 ") (Number 7) spelled in omega arith
 
-SpellsArguments-two_spaces : SpellsArguments (codes " 1  2") (Number 1 ∷ Number 2 ∷ []) → ⊥
-SpellsArguments-two_spaces ([], others, e, number, next) = omega arith
-SpellsArguments-two_spaces (b ∷ [], others, e, number, next) =
+AreSpelled-two_spaces : AreSpelled (codes " 1  2") (Number 1 ∷ Number 2 ∷ []) → ⊥
+AreSpelled-two_spaces ([], others, e, number, next) = omega arith
+AreSpelled-two_spaces (b ∷ [], others, e, number, next) =
     let rest : others ≡ codes "  2" = grind arith in
-    let next : SpellsArguments (codes "  2") (Number 2 ∷ []) = subst (λ bs. SpellsArguments bs (Number 2 ∷ [])) rest next in
+    let next : AreSpelled (codes "  2") (Number 2 ∷ []) = subst (λ bs. AreSpelled bs (Number 2 ∷ [])) rest next in
     let number : IsNumber (codes " 2") 2 = only (codes " 2") (Number 2) next in omega arith
-SpellsArguments-two_spaces (b ∷ c ∷ first, others, e, number, next) = let is : c ≡ 0x20 = grind arith in omega arith
+AreSpelled-two_spaces (b ∷ c ∷ first, others, e, number, next) = let is : c ≡ 0x20 = grind arith in omega arith
 
 -- Lines
 
@@ -219,7 +219,7 @@ IsLineOf-space_after_a_word_alone c (rest, e, spelled) = other_word (word c) (co
 
 IsLineOf-256 : (c : Command) → IsLineOf (codes "truncate 256") c → ⊥
 IsLineOf-256 (command.Truncate i) (rest, e, spelled) =
-    let spelled : SpellsArguments (codes " 256") (Number i ∷ []) = subst (λ bs. SpellsArguments bs (Number i ∷ [])) (sym (ap (drop 8) e)) spelled in
+    let spelled : AreSpelled (codes " 256") (Number i ∷ []) = subst (λ bs. AreSpelled bs (Number i ∷ [])) (sym (ap (drop 8) e)) spelled in
     let number : IsNumber (codes "256") i = only (codes "256") (Number i) spelled in omega arith
 IsLineOf-256 c (rest, e, spelled) = other_word (word c) (codes "truncate 256") refl rest e
 
@@ -243,12 +243,12 @@ two_letters c e = grind arith
 
 IsLineOf-no_character : (c : Command) → IsLineOf (codes "try_push ") c → ⊥
 IsLineOf-no_character (command.TryPush c) (rest, e, spelled) =
-    no_utf8 c (only [] (Character c) (subst (λ bs. SpellsArguments bs (Character c ∷ [])) (sym (ap (drop 8) e)) spelled)).1
+    no_utf8 c (only [] (Character c) (subst (λ bs. AreSpelled bs (Character c ∷ [])) (sym (ap (drop 8) e)) spelled)).1
 IsLineOf-no_character c (rest, e, spelled) = other_word (word c) (codes "try_push ") refl rest e
 
 IsLineOf-two_characters : (c : Command) → IsLineOf (codes "try_push ab") c → ⊥
 IsLineOf-two_characters (command.TryPush c) (rest, e, spelled) =
-    two_letters c (only (codes "ab") (Character c) (subst (λ bs. SpellsArguments bs (Character c ∷ [])) (sym (ap (drop 8) e)) spelled)).1
+    two_letters c (only (codes "ab") (Character c) (subst (λ bs. AreSpelled bs (Character c ∷ [])) (sym (ap (drop 8) e)) spelled)).1
 IsLineOf-two_characters c (rest, e, spelled) = other_word (word c) (codes "try_push ab") refl rest e
 
 IsLineOf-capital_letter : (c : Command) → IsLineOf (codes "Push_str x") c → ⊥
@@ -257,13 +257,13 @@ IsLineOf-capital_letter c (rest, e, spelled) = other_word (word c) (codes "Push_
 
 IsLineOf-two_spaces : (c : Command) → IsLineOf (codes "get 1  2") c → ⊥
 IsLineOf-two_spaces (command.Get start end) (rest, e, spelled) =
-    apart start end (subst (λ bs. SpellsArguments bs (Number start ∷ Number end ∷ [])) (sym (ap (drop 3) e)) spelled)
+    apart start end (subst (λ bs. AreSpelled bs (Number start ∷ Number end ∷ [])) (sym (ap (drop 3) e)) spelled)
   where
-    apart : (m n : ℕ) → SpellsArguments (codes " 1  2") (Number m ∷ Number n ∷ []) → ⊥
+    apart : (m n : ℕ) → AreSpelled (codes " 1  2") (Number m ∷ Number n ∷ []) → ⊥
     apart m n ([], others, e, number, next) = omega arith
     apart m n (b ∷ [], others, e, number, next) =
         let rest : others ≡ codes "  2" = grind arith in
-        let next : SpellsArguments (codes "  2") (Number n ∷ []) = subst (λ bs. SpellsArguments bs (Number n ∷ [])) rest next in
+        let next : AreSpelled (codes "  2") (Number n ∷ []) = subst (λ bs. AreSpelled bs (Number n ∷ [])) rest next in
         let number : IsNumber (codes " 2") n = only (codes " 2") (Number n) next in omega arith
     apart m n (b ∷ c ∷ first, others, e, number, next) = let is : c ≡ 0x20 = grind arith in omega arith
 IsLineOf-two_spaces c (rest, e, spelled) = other_word (word c) (codes "get 1  2") refl rest e
@@ -276,23 +276,23 @@ IsLineOf-tab c (rest, e, spelled) = other_word (word c) (codes "truncate" ++ 0x0
 
 -- What is printed of a command
 
-spelled_argument-number : map (λ n. spelled_argument (Number n)) (0 ∷ 7 ∷ 10 ∷ 255 ∷ []) ≡ codes "0" ∷ codes "7" ∷ codes "10" ∷ codes "255" ∷ []
+spelling-number : map (λ n. spelling (Number n)) (0 ∷ 7 ∷ 10 ∷ 255 ∷ []) ≡ codes "0" ∷ codes "7" ∷ codes "10" ∷ codes "255" ∷ []
 unfolding digits
-spelled_argument-number = refl
+spelling-number = refl
 
-spelled_argument-character : spelled_argument (Character 0xE9) ≡ 0xC3 ∷ 0xA9 ∷ []
+spelling-character : spelling (Character 0xE9) ≡ 0xC3 ∷ 0xA9 ∷ []
 unfolding utf8
-spelled_argument-character = refl
+spelling-character = refl
 
-spelled_argument-text : spelled_argument (Text (codes " a")) ≡ codes " a"
-spelled_argument-text = refl
+spelling-text : spelling (Text (codes " a")) ≡ codes " a"
+spelling-text = refl
 
-spelled_arguments-none : spelled_arguments [] ≡ []
-spelled_arguments-none = refl
+spellings-none : spellings [] ≡ []
+spellings-none = refl
 
-spelled_arguments-each_after_a_space : spelled_arguments (Number 1 ∷ Number 20 ∷ Text (codes "ab") ∷ []) ≡ codes " 1 20 ab"
+spellings-each_after_a_space : spellings (Number 1 ∷ Number 20 ∷ Text (codes "ab") ∷ []) ≡ codes " 1 20 ab"
 unfolding digits
-spelled_arguments-each_after_a_space = refl
+spellings-each_after_a_space = refl
 
 -- the `é` of the first command is printed as its two bytes
 line_of-each : map line_of each

@@ -3,7 +3,7 @@
 use Rattle.std.proofs.Common.{◌≡◌, ℕ, ◌+◌, List, [], ◌∷◌, ◌++◌, length, Some, None, Ok, Err, refl, arith, codes}
 use Rattle.std.specs.Fmt.{digits}
 use Rattle.arraystring_run.specs.Line.{IsLineOf}
-use Rattle.arraystring_run.specs.Player.{IfBadLine, IsScriptPlayed, IsScriptPartPlayed, IsPlayOutcome}
+use Rattle.arraystring_run.specs.Player.{IfBadLine, IsPlayed, IsPartPlayed, IsOutcome}
 use Rattle.arraystring_run.specs.Printing.{reply_line, replies_printed}
 use Rattle.arraystring_run.specs.Runs.{ReplyView, after}
 use Rattle.arraystring_run.specs.ScriptLines.{IsBadAt}
@@ -24,21 +24,21 @@ IfBadLine-no_claim_on_others = (tt, tt, tt)
 abbrev output : List ℕ
 output = codes "number 5" ++ 0x0A ∷ codes "final " ++ 0x0A ∷ []
 
-IsScriptPlayed-appended : IsScriptPlayed (codes "capacity") 5 (Some (codes "x")) (Some (0x78 ∷ output))
+IsPlayed-appended : IsPlayed (codes "capacity") 5 (Some (codes "x")) (Some (0x78 ∷ output))
 unfolding digits
-IsScriptPlayed-appended = (command.Capacity ∷ [], (([], refl, refl), tt), refl)
+IsPlayed-appended = (command.Capacity ∷ [], (([], refl, refl), tt), refl)
 
-IsScriptPlayed-to_unknown_bytes : IsScriptPlayed [] 5 None None
-IsScriptPlayed-to_unknown_bytes = ([], tt, tt)
+IsPlayed-to_unknown_bytes : IsPlayed [] 5 None None
+IsPlayed-to_unknown_bytes = ([], tt, tt)
 
 -- an empty line is no command
 no_command : (c : Command) → IsLineOf [] c → ⊥
 no_command command.Pop (rest, e, spelled) = cc
 no_command _ (rest, e, spelled) = cc
 
-IsScriptPlayed-bad_line : IsScriptPlayed (0x0A ∷ []) 5 None None → ⊥
-IsScriptPlayed-bad_line ([], are, appended) = are
-IsScriptPlayed-bad_line (c ∷ cs, are, appended) = no_command c are.0
+IsPlayed-bad_line : IsPlayed (0x0A ∷ []) 5 None None → ⊥
+IsPlayed-bad_line ([], are, appended) = are
+IsPlayed-bad_line (c ∷ cs, are, appended) = no_command c are.0
 
 -- what is printed is never nothing
 some_printed : (rs : List ReplyView) (ys : List ℕ) (b : ℕ) → [] ≡ replies_printed rs ++ b ∷ ys → ⊥
@@ -49,12 +49,12 @@ some_printed (r ∷ rs) ys b e = some_first (reply_line r) (replies_printed rs) 
     some_first [] zs e = cc
     some_first (x ∷ xs) zs e = cc
 
-IsScriptPlayed-nothing_was_written : IsScriptPlayed (codes "capacity") 5 (Some []) (Some []) → ⊥
-IsScriptPlayed-nothing_was_written (cs, are, e) = some_printed (after cs [] 5).replies _ _ e
+IsPlayed-nothing_was_written : IsPlayed (codes "capacity") 5 (Some []) (Some []) → ⊥
+IsPlayed-nothing_was_written (cs, are, e) = some_printed (after cs [] 5).replies _ _ e
 
-IsScriptPartPlayed-a_part : IsScriptPartPlayed (codes "capacity") 5 (Some (codes "x")) (Some (codes "xnumber 5"))
+IsPartPlayed-a_part : IsPartPlayed (codes "capacity") 5 (Some (codes "x")) (Some (codes "xnumber 5"))
 unfolding digits
-IsScriptPartPlayed-a_part = (
+IsPartPlayed-a_part = (
   command.Capacity ∷ [],
   (([], refl, refl), tt),
   record {
@@ -65,26 +65,26 @@ IsScriptPartPlayed-a_part = (
   },
 )
 
-IsScriptPartPlayed-bad_line : IsScriptPartPlayed (0x0A ∷ []) 5 None None → ⊥
-IsScriptPartPlayed-bad_line ([], are, appended) = are
-IsScriptPartPlayed-bad_line (c ∷ cs, are, appended) = no_command c are.0
+IsPartPlayed-bad_line : IsPartPlayed (0x0A ∷ []) 5 None None → ⊥
+IsPartPlayed-bad_line ([], are, appended) = are
+IsPartPlayed-bad_line (c ∷ cs, are, appended) = no_command c are.0
 
-IsScriptPartPlayed-what_was_there_is_lost : IsScriptPartPlayed (codes "capacity") 5 (Some (codes "x")) (Some []) → ⊥
-IsScriptPartPlayed-what_was_there_is_lost (cs, are, appends) = cc
+IsPartPlayed-what_was_there_is_lost : IsPartPlayed (codes "capacity") 5 (Some (codes "x")) (Some []) → ⊥
+IsPartPlayed-what_was_there_is_lost (cs, are, appends) = cc
 
 -- Outcomes. `Unit` as `SameOutput` says that the output is as before, `⊥` that it is not.
 
-IsPlayOutcome-played : IsPlayOutcome 5 (Some (codes "capacity")) (Some []) (Some output) ⊥ (Ok tt)
+IsOutcome-played : IsOutcome 5 (Some (codes "capacity")) (Some []) (Some output) ⊥ (Ok tt)
 unfolding digits
-IsPlayOutcome-played = record {
+IsOutcome-played = record {
   whole = (command.Capacity ∷ [], (([], refl, refl), tt), refl);
   bad_line = tt;
   unwritten = tt;
   part = tt;
 }
 
-IsPlayOutcome-bad_line : IsPlayOutcome 5 (Some (0x0A ∷ [])) (Some []) (Some []) (Unit {0}) (Err (BadLine 1))
-IsPlayOutcome-bad_line = record {
+IsOutcome-bad_line : IsOutcome 5 (Some (0x0A ∷ [])) (Some []) (Some []) (Unit {0}) (Err (BadLine 1))
+IsOutcome-bad_line = record {
   whole = tt;
   bad_line =
       record { front = []; commands = []; line = []; rest = []; whole = refl; number = refl; before = tt; bad = no_command };
@@ -92,32 +92,32 @@ IsPlayOutcome-bad_line = record {
   part = λ e. absurd (cc);
 }
 
-IsPlayOutcome-no_memory : IsPlayOutcome 5 (Some []) (Some []) (Some []) (Unit {0}) (Err Memory)
-IsPlayOutcome-no_memory = record { whole = tt; bad_line = tt; unwritten = λ other. tt; part = λ e. absurd (cc) }
+IsOutcome-no_memory : IsOutcome 5 (Some []) (Some []) (Some []) (Unit {0}) (Err Memory)
+IsOutcome-no_memory = record { whole = tt; bad_line = tt; unwritten = λ other. tt; part = λ e. absurd (cc) }
 
-IsPlayOutcome-write_failed : IsPlayOutcome 5 (Some []) (Some []) (Some (codes "fin")) ⊥ (Err Write)
-IsPlayOutcome-write_failed = record {
+IsOutcome-write_failed : IsOutcome 5 (Some []) (Some []) (Some (codes "fin")) ⊥ (Err Write)
+IsOutcome-write_failed = record {
   whole = tt;
   bad_line = tt;
   unwritten = λ other. absurd (other refl);
   part = λ e. ([], tt, record { done = codes "fin"; later = codes "al " ++ 0x0A ∷ []; whole = refl; appended = refl });
 }
 
-IsPlayOutcome-played_and_nothing_written : IsPlayOutcome 5 (Some (codes "capacity")) (Some []) (Some []) (Unit {0}) (Ok tt) → ⊥
-IsPlayOutcome-played_and_nothing_written o = IsScriptPlayed-nothing_was_written o.whole
+IsOutcome-played_and_nothing_written : IsOutcome 5 (Some (codes "capacity")) (Some []) (Some []) (Unit {0}) (Ok tt) → ⊥
+IsOutcome-played_and_nothing_written o = IsPlayed-nothing_was_written o.whole
 
-IsPlayOutcome-another_bad_line : IsPlayOutcome 5 (Some (0x0A ∷ [])) (Some []) (Some []) (Unit {0}) (Err (BadLine 0)) → ⊥
-IsPlayOutcome-another_bad_line o =
+IsOutcome-another_bad_line : IsOutcome 5 (Some (0x0A ∷ [])) (Some []) (Some []) (Unit {0}) (Err (BadLine 0)) → ⊥
+IsOutcome-another_bad_line o =
     let bad : IsBadAt ([] ∷ []) 0 = o.bad_line in let number : 0 ≡ length bad.front + 1 = bad.number in omega arith
 
-IsPlayOutcome-written_where_a_line_is_bad : IsPlayOutcome 5 (Some (0x0A ∷ [])) (Some []) (Some []) ⊥ (Err (BadLine 1)) → ⊥
-IsPlayOutcome-written_where_a_line_is_bad o = o.unwritten (λ e. cc)
+IsOutcome-written_where_a_line_is_bad : IsOutcome 5 (Some (0x0A ∷ [])) (Some []) (Some []) ⊥ (Err (BadLine 1)) → ⊥
+IsOutcome-written_where_a_line_is_bad o = o.unwritten (λ e. cc)
 
-IsPlayOutcome-written_without_memory : IsPlayOutcome 5 (Some []) (Some []) (Some []) ⊥ (Err Memory) → ⊥
-IsPlayOutcome-written_without_memory o = o.unwritten (λ e. cc)
+IsOutcome-written_without_memory : IsOutcome 5 (Some []) (Some []) (Some []) ⊥ (Err Memory) → ⊥
+IsOutcome-written_without_memory o = o.unwritten (λ e. cc)
 
-IsPlayOutcome-written_where_a_read_failed : IsPlayOutcome 5 (Some []) (Some []) (Some []) ⊥ (Err Read) → ⊥
-IsPlayOutcome-written_where_a_read_failed o = o.unwritten (λ e. cc)
+IsOutcome-written_where_a_read_failed : IsOutcome 5 (Some []) (Some []) (Some []) ⊥ (Err Read) → ⊥
+IsOutcome-written_where_a_read_failed o = o.unwritten (λ e. cc)
 
-IsPlayOutcome-lost_where_a_write_failed : IsPlayOutcome 5 (Some (codes "capacity")) (Some (codes "x")) (Some []) ⊥ (Err Write) → ⊥
-IsPlayOutcome-lost_where_a_write_failed o = IsScriptPartPlayed-what_was_there_is_lost (o.part refl)
+IsOutcome-lost_where_a_write_failed : IsOutcome 5 (Some (codes "capacity")) (Some (codes "x")) (Some []) ⊥ (Err Write) → ⊥
+IsOutcome-lost_where_a_write_failed o = IsPartPlayed-what_was_there_is_lost (o.part refl)

@@ -3,8 +3,8 @@
 use Rattle.std.proofs.Common.{◌≡◌, ap, sym, append-nil, ◌⊎◌, ℕ, inl, inr, List, [], ◌∷◌, ◌++◌, map, Some, None, Ok, Err, refl, arith, Bor, codes}
 use Rattle.std.specs.Fmt.{digits}
 use Rattle.arraystring_run.specs.Line.{IsLineOf}
-use Rattle.arraystring_run.specs.Player.{IsScriptPlayed, IsScriptPartPlayed, IsPlayOutcome}
-use Rattle.arraystring_run.specs.Program.{capacity_named, byte_count_of, status_of, usage_line, fault_line, report_of, IsOutcomeAtNamedCapacity, status_of_program, report_of_program, Service, IsServed}
+use Rattle.arraystring_run.specs.Player.{IsPlayed, IsPartPlayed, IsOutcome}
+use Rattle.arraystring_run.specs.Program.{capacity_named, bytes_of, status_of, usage_line, fault_line, report_of, IsOutcomeAt, status_at, report_at, Service, IsServed}
 use Rattle.arraystring_run.specs.ScriptLines.{IsBadAt}
 use Rattle.arraystring_run.specs.Writing.{AppendsPrefix}
 use Rattle.arraystring_run.specs.declared.commands.Command.{Command}
@@ -28,8 +28,8 @@ capacity_named-other_words = refl
 capacity_named-no_word : capacity_named None ≡ None
 capacity_named-no_word = refl
 
-byte_count_of-each : map byte_count_of (Small ∷ Cache ∷ Max ∷ []) ≡ 23 ∷ 63 ∷ 255 ∷ []
-byte_count_of-each = refl
+bytes_of-each : map bytes_of (Small ∷ Cache ∷ Max ∷ []) ≡ 23 ∷ 63 ∷ 255 ∷ []
+bytes_of-each = refl
 
 status_of-each : map (status_of {A = ℕ}) (Ok 7 ∷ Err (BadLine 1) ∷ Err Memory ∷ Err Read ∷ Err Write ∷ []) ≡ 0 ∷ 2 ∷ 3 ∷ 4 ∷ 4 ∷ []
 status_of-each = refl
@@ -49,23 +49,23 @@ report_of-played = refl
 report_of-fault : report_of {A = ℕ} (Err Memory) ≡ codes "out of memory" ++ 0x0A ∷ []
 report_of-fault = refl
 
-status_of_program-no_capacity : status_of_program None ≡ 2
-status_of_program-no_capacity = refl
+status_at-no_capacity : status_at None ≡ 2
+status_at-no_capacity = refl
 
-status_of_program-a_capacity : status_of_program (Some (Err Memory)) ≡ 3
-status_of_program-a_capacity = refl
+status_at-a_capacity : status_at (Some (Err Memory)) ≡ 3
+status_at-a_capacity = refl
 
-report_of_program-no_capacity : report_of_program None ≡ codes "usage: arraystring_run small or cache or max" ++ 0x0A ∷ []
-report_of_program-no_capacity = refl
+report_at-no_capacity : report_at None ≡ codes "usage: arraystring_run small or cache or max" ++ 0x0A ∷ []
+report_at-no_capacity = refl
 
-report_of_program-a_capacity : report_of_program (Some (Err Memory)) ≡ codes "out of memory" ++ 0x0A ∷ []
-report_of_program-a_capacity = refl
+report_at-a_capacity : report_at (Some (Err Memory)) ≡ codes "out of memory" ++ 0x0A ∷ []
+report_at-a_capacity = refl
 
 -- what the script `capacity` prints at the capacity 23
 abbrev output : List ℕ
 output = codes "number 23" ++ 0x0A ∷ codes "final " ++ 0x0A ∷ []
 
-outcome-of_a_script : IsPlayOutcome 23 (Some (codes "capacity")) (Some []) (Some output) ⊥ (Ok tt)
+outcome-of_a_script : IsOutcome 23 (Some (codes "capacity")) (Some []) (Some output) ⊥ (Ok tt)
 unfolding digits
 outcome-of_a_script = record {
   whole = (command.Capacity ∷ [], (([], refl, refl), tt), refl);
@@ -74,23 +74,23 @@ outcome-of_a_script = record {
   part = tt;
 }
 
-IsOutcomeAtNamedCapacity-no_capacity : IsOutcomeAtNamedCapacity None (Some []) (Some []) (Some []) (Unit {0}) (Unit {0}) None
-IsOutcomeAtNamedCapacity-no_capacity = record { none_named = λ e. (refl, tt, tt); outcome = tt }
+IsOutcomeAt-no_capacity : IsOutcomeAt None (Some []) (Some []) (Some []) (Unit {0}) (Unit {0}) None
+IsOutcomeAt-no_capacity = record { none_named = λ e. (refl, tt, tt); outcome = tt }
 
-IsOutcomeAtNamedCapacity-a_capacity : IsOutcomeAtNamedCapacity (Some 23) (Some (codes "capacity")) (Some []) (Some output) ⊥ ⊥ (Some (Ok tt))
-IsOutcomeAtNamedCapacity-a_capacity = record { none_named = λ e. absurd (cc); outcome = outcome-of_a_script }
+IsOutcomeAt-a_capacity : IsOutcomeAt (Some 23) (Some (codes "capacity")) (Some []) (Some output) ⊥ ⊥ (Some (Ok tt))
+IsOutcomeAt-a_capacity = record { none_named = λ e. absurd (cc); outcome = outcome-of_a_script }
 
-IsOutcomeAtNamedCapacity-played_at_no_capacity : IsOutcomeAtNamedCapacity None (Some []) (Some []) (Some []) (Unit {0}) (Unit {0}) (Some (Ok tt)) → ⊥
-IsOutcomeAtNamedCapacity-played_at_no_capacity o = let none : Some (Ok tt) ≡ None = (o.none_named refl).0 in cc
+IsOutcomeAt-played_at_no_capacity : IsOutcomeAt None (Some []) (Some []) (Some []) (Unit {0}) (Unit {0}) (Some (Ok tt)) → ⊥
+IsOutcomeAt-played_at_no_capacity o = let none : Some (Ok tt) ≡ None = (o.none_named refl).0 in cc
 
-IsOutcomeAtNamedCapacity-read_at_no_capacity : IsOutcomeAtNamedCapacity None (Some []) (Some []) (Some []) ⊥ (Unit {0}) None → ⊥
-IsOutcomeAtNamedCapacity-read_at_no_capacity o = (o.none_named refl).1
+IsOutcomeAt-read_at_no_capacity : IsOutcomeAt None (Some []) (Some []) (Some []) ⊥ (Unit {0}) None → ⊥
+IsOutcomeAt-read_at_no_capacity o = (o.none_named refl).1
 
-IsOutcomeAtNamedCapacity-written_at_no_capacity : IsOutcomeAtNamedCapacity None (Some []) (Some []) (Some []) (Unit {0}) ⊥ None → ⊥
-IsOutcomeAtNamedCapacity-written_at_no_capacity o = (o.none_named refl).2
+IsOutcomeAt-written_at_no_capacity : IsOutcomeAt None (Some []) (Some []) (Some []) (Unit {0}) ⊥ None → ⊥
+IsOutcomeAt-written_at_no_capacity o = (o.none_named refl).2
 
-IsOutcomeAtNamedCapacity-not_played : IsOutcomeAtNamedCapacity (Some 23) (Some []) (Some []) (Some []) (Unit {0}) (Unit {0}) None → ⊥
-IsOutcomeAtNamedCapacity-not_played o = o.outcome
+IsOutcomeAt-not_played : IsOutcomeAt (Some 23) (Some []) (Some []) (Some []) (Unit {0}) (Unit {0}) None → ⊥
+IsOutcomeAt-not_played o = o.outcome
 
 -- What was served. An empty line is no command.
 no_command : (c : Command) → IsLineOf [] c → ⊥
@@ -258,7 +258,7 @@ IsServed-no_usage_line is = let said : AppendsPrefix (Some []) (Some (codes "bad
 IsServed-output_lacks_a_byte : IsServed (record played_capacity { input = Some []; output_after = Some (codes "final ") }) → ⊥
 IsServed-output_lacks_a_byte is = go (is.played refl)
   where
-    go : IsScriptPlayed [] 23 (Some []) (Some (codes "final ")) → ⊥
+    go : IsPlayed [] 23 (Some []) (Some (codes "final ")) → ⊥
     go ([], are, e) = grind arith
     go (c ∷ cs, are, e) = are
 
@@ -290,7 +290,7 @@ IsServed-written_without_memory is = is.unwritten (omega arith) (omega arith)
 -- what status 4 says of the service with no input, by what was written to the output and to the errors
 abbrev Failed : Type 0 → List ℕ → List ℕ → Type 0
 Failed Same out said = (Same × AppendsPrefix (Some []) (Some said) (fault_line Read))
-    ⊎ (IsScriptPartPlayed [] 23 (Some []) (Some out) × AppendsPrefix (Some []) (Some said) (fault_line Write))
+    ⊎ (IsPartPlayed [] 23 (Some []) (Some out) × AppendsPrefix (Some []) (Some said) (fault_line Write))
 
 IsServed-says_another_fault_than_a_failed_read : IsServed (record of_failed_read { errors_after = Some (codes "out of memory") }) → ⊥
 IsServed-says_another_fault_than_a_failed_read is = go (is.failed refl)
@@ -310,7 +310,7 @@ IsServed-wrote_and_says_that_a_read_failed is = go (is.failed refl)
 IsServed-wrote_what_the_script_does_not_print : IsServed (record of_failed_write { input = Some []; output_after = Some (codes "number") }) → ⊥
 IsServed-wrote_what_the_script_does_not_print is = go (is.failed refl)
   where
-    no_part : IsScriptPartPlayed [] 23 (Some []) (Some (codes "number")) → ⊥
+    no_part : IsPartPlayed [] 23 (Some []) (Some (codes "number")) → ⊥
     no_part ([], are, appends) = grind arith
     no_part (c ∷ cs, are, appends) = are
 

@@ -5,7 +5,7 @@ use Rattle.std.specs.Fmt.{digits}
 use Rattle.std.specs.Str.{chars}
 use Rattle.arraystring.specs.Refusals.{OutOfBounds, Utf8, Utf16}
 use Rattle.arraystring.specs.Text.{width, utf8}
-use Rattle.arraystring_run.specs.Printing.{reply_line, replies_printed, lines_of_replies_and_text, run_printed}
+use Rattle.arraystring_run.specs.Printing.{reply_line, replies_printed, all_printed, run_printed}
 use Rattle.arraystring_run.specs.Runs.{Done, Char, NoChar, Text, NoText, Number, Refused}
 use Rattle.arraystring_run.specs.declared.commands.Command.TheVariants as command
 
@@ -45,12 +45,12 @@ replies_printed-none = refl
 replies_printed-in_order : replies_printed (Done ∷ NoChar ∷ []) ≡ codes "done" ++ 0x0A ∷ codes "no char" ++ 0x0A ∷ []
 replies_printed-in_order = refl
 
-lines_of_replies_and_text-no_reply : lines_of_replies_and_text [] (codes "aé") ≡ codes "final a" ++ 0xC3 ∷ 0xA9 ∷ 0x0A ∷ []
+all_printed-no_reply : all_printed [] (codes "aé") ≡ codes "final a" ++ 0xC3 ∷ 0xA9 ∷ 0x0A ∷ []
 unfolding utf8
-lines_of_replies_and_text-no_reply = refl
+all_printed-no_reply = refl
 
-lines_of_replies_and_text-replies_first : lines_of_replies_and_text (Done ∷ []) [] ≡ codes "done" ++ 0x0A ∷ codes "final " ++ 0x0A ∷ []
-lines_of_replies_and_text-replies_first = refl
+all_printed-replies_first : all_printed (Done ∷ []) [] ≡ codes "done" ++ 0x0A ∷ codes "final " ++ 0x0A ∷ []
+all_printed-replies_first = refl
 
 run_printed-no_command : run_printed [] 23 ≡ codes "final " ++ 0x0A ∷ []
 run_printed-no_command = refl

@@ -8,7 +8,7 @@ use Rattle.arraystring.specs.WhiteSpace.{is_white_space}
 use Rattle.arraystring.specs.Edits.{Past, Room, Inside, addition, insertion, removal}
 use Rattle.arraystring.specs.Stored.{view_with_text}
 use Rattle.arraystring.specs.Refusals.{OutOfBounds, Utf8}
-use Rattle.arraystring_run.specs.Runs.{Done, Char, NoChar, Text, NoText, Number, Refused, view_of, reply_and_text, reply_of, apply, apply_unit, char_or_none, text_or_none, without, end_of_inclusive, effect, is_cause_room, lacks_room, is_made, adds_less, is_tight, after, first_tight_from, first_or_else, NoneTight, IsFirstTight}
+use Rattle.arraystring_run.specs.Runs.{Done, Char, NoChar, Text, NoText, Number, Refused, view_of, reply_and_text, reply_of, apply, apply_unit, char_or_none, text_or_none, without, end_through, effect, is_cause_room, lacks_room, is_made, adds_less, is_tight, after, first_tight_from, first_or_else, NoneTight, IsFirstTight}
 use Rattle.arraystring_run.specs.declared.commands.Command.{Command}
 use Rattle.arraystring_run.specs.declared.commands.Command.TheVariants as command
 use Rattle.arraystring_run.specs.declared.commands.Reply.TheVariants as reply
@@ -285,8 +285,8 @@ unfolding width
 effect-drain_past_the_text_before_it_is_inside = refl
 
 -- the byte at `last` belongs to the range, and 255 is the greatest end
-end_of_inclusive-one_more : (end_of_inclusive 0 ≡ 1) × (end_of_inclusive 254 ≡ 255) × (end_of_inclusive 255 ≡ 255)
-end_of_inclusive-one_more = (refl, refl, refl)
+end_through-one_more : (end_through 0 ≡ 1) × (end_through 254 ≡ 255) × (end_through 255 ≡ 255)
+end_through-one_more = (refl, refl, refl)
 
 effect-drain_through_the_last_byte : effect (command.DrainThrough 1 4) (codes "D🤔E") 23 ≡ reply_and_text (Text (codes "🤔")) (codes "DE")
 unfolding width

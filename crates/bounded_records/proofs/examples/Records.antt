@@ -3,7 +3,7 @@ use Rattle.std.proofs.Common.{◌≡◌, ℕ, zero, suc, List, [], ◌∷◌, �
 use Rattle.std.specs.List.{All}
 use Rattle.std.proofs.lemmas.List.Elements.{All-replicate}
 use Rattle.arraystring.specs.Text.{IsText, IsWellFormed, width, utf8}
-use Rattle.bounded_records.specs.Records.{field_of, record_of, IsRecord, username_field, role_field, count, counted_bytes, padding, HasLength, CountsFit, FieldsAreUtf8, ArePadded, IsFirstFault}
+use Rattle.bounded_records.specs.Records.{field_of, record_of, IsRecord, username_field, role_field, count, counted_bytes, padding, HasLength, CountsFit, AreWellFormed, ArePadded, IsFirstFault}
 use Rattle.bounded_records.specs.declared.record.RecordFault.TheVariants.{Length, Count, Utf8, Padding}
 
 field_of-ascii : field_of 5 (codes "admin") ≡ 5 ∷ codes "admin"
@@ -131,14 +131,14 @@ CountsFit-username_of_21 fit = omega (arith, fit.0)
 CountsFit-role_of_6 : CountsFit (set good 21 6) → ⊥
 CountsFit-role_of_6 fit = omega (arith, fit.1)
 
-FieldsAreUtf8-good : FieldsAreUtf8 good
+AreWellFormed-good : AreWellFormed good
 unfolding utf8
-FieldsAreUtf8-good = ((codes "user", (user-text, refl)), (codes "admin", (admin-text, refl)))
+AreWellFormed-good = ((codes "user", (user-text, refl)), (codes "admin", (admin-text, refl)))
 
 -- a byte that is not counted is not read
-FieldsAreUtf8-in_the_padding : FieldsAreUtf8 (set good 5 0xFF)
+AreWellFormed-in_the_padding : AreWellFormed (set good 5 0xFF)
 unfolding utf8
-FieldsAreUtf8-in_the_padding = ((codes "user", (user-text, refl)), (codes "admin", (admin-text, refl)))
+AreWellFormed-in_the_padding = ((codes "user", (user-text, refl)), (codes "admin", (admin-text, refl)))
 
 -- FF is in the UTF-8 of no text
 ill_formed : (rest : List ℕ) → IsWellFormed (0xFF ∷ rest) → ⊥
@@ -146,11 +146,11 @@ unfolding utf8
 ill_formed rest ([], (is, e)) = cc
 ill_formed rest (c ∷ t, (is, e)) = grind arith
 
-FieldsAreUtf8-username : FieldsAreUtf8 (set good 1 0xFF) → ⊥
-FieldsAreUtf8-username are = ill_formed (codes "ser") are.0
+AreWellFormed-username : AreWellFormed (set good 1 0xFF) → ⊥
+AreWellFormed-username are = ill_formed (codes "ser") are.0
 
-FieldsAreUtf8-role : FieldsAreUtf8 (set good 22 0xFF) → ⊥
-FieldsAreUtf8-role are = ill_formed (codes "dmin") are.1
+AreWellFormed-role : AreWellFormed (set good 22 0xFF) → ⊥
+AreWellFormed-role are = ill_formed (codes "dmin") are.1
 
 all_zero : (n : ℕ) → All {X = ℕ} (λ b. b ≡ 0) (replicate n 0)
 all_zero n = All-replicate (λ b. b ≡ 0) n 0 refl
@@ -186,10 +186,10 @@ IsFirstFault-count_of_the_role : IsFirstFault (set good 21 6) Count
 IsFirstFault-count_of_the_role = (refl, CountsFit-role_of_6)
 
 IsFirstFault-utf8_of_the_username : IsFirstFault (set good 1 0xFF) Utf8
-IsFirstFault-utf8_of_the_username = (refl, (lit≤ tt, lit≤ tt), FieldsAreUtf8-username)
+IsFirstFault-utf8_of_the_username = (refl, (lit≤ tt, lit≤ tt), AreWellFormed-username)
 
 IsFirstFault-utf8_of_the_role : IsFirstFault (set good 22 0xFF) Utf8
-IsFirstFault-utf8_of_the_role = (refl, (lit≤ tt, lit≤ tt), FieldsAreUtf8-role)
+IsFirstFault-utf8_of_the_role = (refl, (lit≤ tt, lit≤ tt), AreWellFormed-role)
 
 IsFirstFault-padding_of_the_username : IsFirstFault (set good 5 1) Padding
 unfolding utf8
@@ -203,7 +203,7 @@ IsFirstFault-count_of_the_good : IsFirstFault good Count → ⊥
 IsFirstFault-count_of_the_good is = is.1 CountsFit-good
 
 IsFirstFault-utf8_of_the_good : IsFirstFault good Utf8 → ⊥
-IsFirstFault-utf8_of_the_good is = is.2 FieldsAreUtf8-good
+IsFirstFault-utf8_of_the_good is = is.2 AreWellFormed-good
 
 IsFirstFault-padding_of_the_good : IsFirstFault good Padding → ⊥
 IsFirstFault-padding_of_the_good is = is.3 ArePadded-good

@@ -7,7 +7,7 @@ use Rattle.std.proofs.lemmas.Bool.{cond_both}
 use Rattle.std.proofs.lemmas.Map.Lookups.{exact_bytes}
 use Rattle.std.proofs.lemmas.Map.Views.{tells_apart}
 use Rattle.arraystring.specs.Stored.{view_with_text}
-use Rattle.bounded_records.specs.Users.{texts, names_of, entries_as_texts, AreUnderTheirNames}
+use Rattle.bounded_records.specs.Users.{texts, names_of, by_text, AreUnderTheirNames}
 use Rattle.bounded_records.specs.declared.user.User.{User}
 
 abbrev ann : User
@@ -22,8 +22,8 @@ names_of-none = refl
 names_of-in_order : names_of ((codes "bob", codes "a") ∷ (codes "ann", codes "b") ∷ []) ≡ codes "bob" ∷ codes "ann" ∷ []
 names_of-in_order = refl
 
-entries_as_texts-key_and_user : entries_as_texts ((view_with_text (codes "key"), ann) ∷ []) ≡ (codes "key", (codes "ann", codes "admin")) ∷ []
-entries_as_texts-key_and_user = refl
+by_text-key_and_user : by_text ((view_with_text (codes "key"), ann) ∷ []) ≡ (codes "key", (codes "ann", codes "admin")) ∷ []
+by_text-key_and_user = refl
 
 AreUnderTheirNames-no_user : AreUnderTheirNames finite.empty
 AreUnderTheirNames-no_user name = rw finite.get-empty tt

@@ -6,10 +6,10 @@ use Rattle.std.specs.Iterator.Runs.{Run}
 use Rattle.arraystring.specs.Stored.{StringView, view_with_text}
 use Rattle.bounded_records.proofs.WalkLemmas.{in_order, in_reverse, copies_in_order}
 use Rattle.bounded_records.specs.Users.{texts}
-use Rattle.bounded_records.specs.Walks.{GivesInOrder, GivesInReverse, GivesCopiesInOrder, text_of_username, name_text, user_texts}
+use Rattle.bounded_records.specs.Walks.{GivesInOrder, GivesInReverse, GivesCopiesInOrder, stored_text, name_text, user_texts}
 
-text_of_username-of_a_string : text_of_username (view_with_text (codes "ann")) ≡ codes "ann"
-text_of_username-of_a_string = refl
+stored_text-of_a_string : stored_text (view_with_text (codes "ann")) ≡ codes "ann"
+stored_text-of_a_string = refl
 
 name_text-of_a_reference : name_text (record { ref_ptr = (0, 0); now = view_with_text (codes "ann") }) ≡ codes "ann"
 name_text-of_a_reference = refl
@@ -55,10 +55,10 @@ GivesInReverse-the_first_of_two gives run from some =
     → option_map name_text (run.at (length left - 1 - 1)) ≡ Some (slice_index_or left 1 []))
     from ((gives run run.seen).2 1 []) (lit< tt) some
 
-GivesCopiesInOrder-names_and_users : GivesCopiesInOrder text_of_username × GivesCopiesInOrder texts
-GivesCopiesInOrder-names_and_users = (copies_in_order text_of_username, copies_in_order texts)
+GivesCopiesInOrder-names_and_users : GivesCopiesInOrder stored_text × GivesCopiesInOrder texts
+GivesCopiesInOrder-names_and_users = (copies_in_order stored_text, copies_in_order texts)
 
-GivesCopiesInOrder-all_of_two : GivesCopiesInOrder text_of_username
-    → (run : Run (YieldsFirstBy (λ (item : Bor StringView). text_of_username item.now) (λ left. left))) → run.from ≡ two → run.whole ≡ true
-    → map text_of_username (map (λ item. item.now) run.items) ≡ codes "ann" ∷ codes "bob" ∷ []
+GivesCopiesInOrder-all_of_two : GivesCopiesInOrder stored_text
+    → (run : Run (YieldsFirstBy (λ (item : Bor StringView). stored_text item.now) (λ left. left))) → run.from ≡ two → run.whole ≡ true
+    → map stored_text (map (λ item. item.now) run.items) ≡ codes "ann" ∷ codes "bob" ∷ []
 GivesCopiesInOrder-all_of_two gives run from whole = gives run run.seen whole ∙ from

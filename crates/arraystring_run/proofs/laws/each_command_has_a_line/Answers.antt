@@ -3,7 +3,7 @@ use Rattle.std.proofs.lemmas.Fmt.{digits_decimal, digits_value-decimal, decimal_
 use Rattle.std.proofs.lemmas.Str.Parse.{IsNumeralModel, numerals_by_fold}
 use Rattle.std.specs.Fmt.{decimal}
 use Rattle.arraystring.specs.Text.{utf8}
-use Rattle.arraystring_run.specs.Line.{Argument, Number, Character, Text, arguments, AreDigits, number_with_more_digits, IsNumber, SpellsArguments, spelled_arguments, AreArguments}
+use Rattle.arraystring_run.specs.Line.{Argument, Number, Character, Text, arguments, AreDigits, number_with_more_digits, IsNumber, AreSpelled, spellings, AreArguments}
 use Rattle.arraystring_run.proofs.laws.each_command_has_a_line.Goals as goal
 
 -- a number as it is printed
@@ -20,11 +20,11 @@ decimal-number n small =
       small = small;
     }
 
-spelled_arguments-are : (given : List Argument) → AreArguments given → SpellsArguments (spelled_arguments given) given
-spelled_arguments-are [] are = refl
-spelled_arguments-are (Number n ∷ rest) are = (decimal n, spelled_arguments rest, refl, decimal-number n are.0, spelled_arguments-are rest are.1)
-spelled_arguments-are (Character c ∷ rest) are = (utf8 c, spelled_arguments rest, refl, (are.0, refl), spelled_arguments-are rest are.1)
-spelled_arguments-are (Text given ∷ rest) are = (given, spelled_arguments rest, refl, (are.0, refl), spelled_arguments-are rest are.1)
+spellings-are : (given : List Argument) → AreArguments given → AreSpelled (spellings given) given
+spellings-are [] are = refl
+spellings-are (Number n ∷ rest) are = (decimal n, spellings rest, refl, decimal-number n are.0, spellings-are rest are.1)
+spellings-are (Character c ∷ rest) are = (utf8 c, spellings rest, refl, (are.0, refl), spellings-are rest are.1)
+spellings-are (Text given ∷ rest) are = (given, spellings rest, refl, (are.0, refl), spellings-are rest are.1)
 
 pub returns : goal.returns
-returns c d are = (spelled_arguments (arguments d), refl, spelled_arguments-are (arguments d) are)
+returns c d are = (spellings (arguments d), refl, spellings-are (arguments d) are)

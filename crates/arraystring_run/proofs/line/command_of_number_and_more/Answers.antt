@@ -6,7 +6,7 @@ use Rattle.arraystring.specs.Text.{IsWellFormed}
 use Rattle.arraystring.proofs.TextLaws.{well_formed-utf8, utf8-well_formed}
 use Rattle.arraystring_run.specs.declared.commands.Command.{Command}
 use Rattle.arraystring_run.specs.declared.commands.Command.TheVariants as command
-use Rattle.arraystring_run.specs.Line.{Argument, Number, Character, Text, SpellsArguments, IsNumberThenRest, arguments, word, space}
+use Rattle.arraystring_run.specs.Line.{Argument, Number, Character, Text, AreSpelled, IsNumberThenRest, arguments, word, space}
 use Rattle.arraystring_run.proofs.CommandLemmas.{kind, numbers_first, kinds-numbers_first}
 use Rattle.arraystring_run.proofs.LineLemmas.{Reads, same-word, digits-one, if-none, unread, line-parts, no-character, no-number, line-given, spelled-one}
 use Rattle.arraystring_run.proofs.line.command_of_number_and_more.Goals as goal
@@ -23,7 +23,7 @@ no-before rest {k} {others} bad read = let found = reads-before rest k others re
 
 -- of two arguments or more the first is a number
 no-start : (rest : List ℕ) → ((n : ℕ) (behind : List ℕ) → IsNumberThenRest rest n behind → ⊥)
-    → (given : List Argument) → numbers_first (map kind given) ≡ true → 2 ≤ length given → SpellsArguments (space ∷ rest) given → ⊥
+    → (given : List Argument) → numbers_first (map kind given) ≡ true → 2 ≤ length given → AreSpelled (space ∷ rest) given → ⊥
 no-start rest bad [] first more spelled = omega arith
 no-start rest bad (a ∷ []) first more spelled = omega arith
 no-start rest bad (Number n ∷ b ∷ given) first more spelled = no-before rest bad (Number n ∷ b ∷ given, refl, spelled)
@@ -52,7 +52,7 @@ reads-behind rest n behind k kinds (digits, number, e) read =
     let this : others ≡ behind = cc in subst (λ l. Reads l (k ∷ kinds)) this found
 
 spelled-before : (rest : List ℕ) (n : ℕ) (behind : List ℕ) (given : List Argument) → IsNumberThenRest rest n behind
-    → SpellsArguments (space ∷ behind) given → SpellsArguments (space ∷ rest) (Number n ∷ given)
+    → AreSpelled (space ∷ behind) given → AreSpelled (space ∷ rest) (Number n ∷ given)
 spelled-before rest n behind given (digits, number, e) spelled = (digits, space ∷ behind, cc, number, spelled)
 
 -- what follows a space is well formed
@@ -118,7 +118,7 @@ returns-in_err-number-in_default-clause-none c =
 pub returns-in_ok-number-in_default-clause-some : goal.returns-in_ok-number-in_default-clause-some
 returns-in_ok-number-in_default-clause-some c =
     IfSome_then c.command_of_range.result c.command_of_range.ensures.some (λ d found.
-    line-given d _ _ found.0 (subst (SpellsArguments _) (sym found.1)
+    line-given d _ _ found.0 (subst (AreSpelled _) (sym found.1)
     (spelled-before _ _ _ (Number _ ∷ []) c.in_ok-start.ensures.some (spelled-one (Number _) _ c.in_ok-number-in_default.ensures.some))))
 
 pub returns-in_ok-number-in_default-clause-none : goal.returns-in_ok-number-in_default-clause-none

@@ -2,12 +2,12 @@ use Rattle.std.proofs.Common.{◌≢◌, ℕ, List, [], ◌∷◌, length, refl,
 use Rattle.std.proofs.lemmas.Bool.{cases_lt}
 use Rattle.arraystring.proofs.TextLaws.{utf8-well_formed}
 use Rattle.arraystring_run.specs.declared.commands.Command.TheVariants as command
-use Rattle.arraystring_run.specs.Line.{Argument, Number, Character, Text, SpellsArguments, arguments, space}
+use Rattle.arraystring_run.specs.Line.{Argument, Number, Character, Text, AreSpelled, arguments, space}
 use Rattle.arraystring_run.proofs.LineLemmas.{unread, no-character, no-number, if-none, line-parts, line-given, spelled-one}
 use Rattle.arraystring_run.proofs.line.command_with_arguments.Goals as goal
 
 -- a space is followed by an argument
-has-argument : (rest : List ℕ) (given : List Argument) → SpellsArguments (space ∷ rest) given → given ≢ []
+has-argument : (rest : List ℕ) (given : List Argument) → AreSpelled (space ∷ rest) given → given ≢ []
 has-argument rest [] none e = absurd (cc)
 has-argument rest (a ∷ given) spelled e = absurd (cc)
 

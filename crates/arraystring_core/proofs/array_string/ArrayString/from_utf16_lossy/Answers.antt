@@ -24,7 +24,7 @@ pub loop-item-init : goal.loop-item-init
 loop-item-init g c = record {
   fits = omega (arith, ap size c.new-made.ensures);
   read = λ items is.
-      ap lossy_text (c.reading_is_unique.ensures.only _ _ is c.new-item-items.ensures)
+      ap lossy_text (c.only_reading.ensures.only _ _ is c.new-item-items.ensures)
       ∙ grind (arith, c.into_iter-item-iterator.ensures.into_iter_gives, c.new-made.ensures);
 }
 

@@ -1,7 +1,7 @@
 use Rattle.std.proofs.Common.{◌∙◌, ap, sym}
 use Rattle.std.specs.FinMap as finite
 use Rattle.std.proofs.lemmas.List.{length-map}
-use Rattle.bounded_records.specs.Walks.{name_text, text_of_username}
+use Rattle.bounded_records.specs.Walks.{name_text, stored_text}
 use Rattle.arraystring.proofs.MapLaws.{keys-ascend}
 use Rattle.bounded_records.proofs.MapLemmas.{len_users}
 use Rattle.bounded_records.proofs.OwnNameLemmas.{names-found}
@@ -26,4 +26,4 @@ pub returns-clause-runs_back : goal.returns-clause-runs_back
 returns-clause-runs_back c = in_reverse name_text
 
 pub returns-clause-copies : goal.returns-clause-copies
-returns-clause-copies c = copies_in_order text_of_username
+returns-clause-copies c = copies_in_order stored_text

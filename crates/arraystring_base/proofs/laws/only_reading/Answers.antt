@@ -2,7 +2,7 @@ use Rattle.std.proofs.Common.{arith, ◌<◌}
 use Rattle.std.proofs.lemmas.List.Elements.{All-from_get_or}
 use Rattle.arraystring_base.specs.Reading.{reading}
 use Rattle.arraystring_base.proofs.ReadingLaws.{reading-only, reading-reads}
-use Rattle.arraystring_base.proofs.laws.reading_is_unique.Goals as goal
+use Rattle.arraystring_base.proofs.laws.only_reading.Goals as goal
 
 pub returns-clause-some : goal.returns-clause-some
 returns-clause-some c =
