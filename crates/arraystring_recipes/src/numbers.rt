@@ -1,8 +1,8 @@
 //! Numbers that are appended to a text.
-ghost use Rattle.std.specs.Prelude.{◌≡◌, ◌++◌, OnOk, OnErr};
+ghost use Rattle.std.specs.Prelude.{◌≡◌, ◌≤◌, ◌++◌, OnOk, OnErr};
 ghost use Rattle.std.specs.Fmt.{decimal, signed_decimal};
 ghost use Rattle.arraystring.specs.Edits.{Makes, addition};
-ghost use Rattle.arraystring.specs.Text.{cap};
+ghost use Rattle.arraystring.specs.Text.{cap, size};
 
 use arraystring::{ArrayString, Error};
 use std::fmt;
@@ -82,4 +82,12 @@ pub fn signed_text(number: i32) -> ArrayString<11>
     let mut line = ArrayString::new();
     let _ = push_signed(&mut line, number);
     line
+}
+
+/// Returns a number of bytes that is large enough for the digits of `number` and its sign.
+#[tactic(auto, using(arraystring::proofs::Rules::digits))]
+pub fn room_for_signed(number: i128) -> usize
+    ensures { size (signed_decimal number) ≤ result }
+{
+    40
 }

@@ -6,7 +6,7 @@ use arraystring_recipes::letters::{
     take_last,
 };
 use arraystring_recipes::numbers::{
-    number_text, push_number, push_signed, signed_text, write_number,
+    number_text, push_number, push_signed, room_for_signed, signed_text, write_number,
 };
 use arraystring_recipes::parts::{drop_part, part, prefix, start_of_rest, taken_out};
 use arraystring_recipes::paths::{go_up, last_segment};
@@ -49,6 +49,8 @@ fn numbers_are_appended(rt: HostRuntime) {
         agree(&rt, push_signed(&mut pushed, number), Ok(()));
         agree(&rt, pushed.as_str(), digits);
     }
+    let longest = "-170141183460469231731687303715884105728";
+    agree(&rt, room_for_signed(i128::MIN), longest.len());
 }
 
 #[test]

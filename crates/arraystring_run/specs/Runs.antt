@@ -134,13 +134,13 @@ after [] t n = record { replies = []; text = t }
 after (c ∷ cs) t n =
     let rest = after cs (effect c t n).text n in record { replies = (effect c t n).reply ∷ rest.replies; text = rest.text }
 
--- the position of the first tight command in a run that begins with the text t, at the capacity n, if the first of the commands has the
--- position k
+-- the position of the first tight command, counted from k on, or `None` if none is tight, in a run that begins with the text t, at the
+-- capacity n
 abbrev pub first_tight_from : ℕ → List Command → List ℕ → ℕ → Option ℕ
 first_tight_from k [] t n = None
 first_tight_from k (c ∷ cs) t n = if is_tight c t n then Some k else first_tight_from (k + 1) cs (effect c t n).text n
 
--- the first of two positions if it is there, and else the second
+-- the position that was found already, if there is one, and else the next
 abbrev pub first_or_else : Option ℕ → Option ℕ → Option ℕ
 first_or_else None next = next
 first_or_else (Some k) next = Some k

@@ -48,9 +48,9 @@ pub fn run<const N: usize>(
 {
     text_fits(text);
     let mut replies = Vec::with_capacity(alloc, commands.len())?;
-    // `execute_all` takes a `&mut Vec<Reply<N>>`, so the check asks here how many bytes of memory a reply takes. The
-    // room of the list tells it, but only if there are commands, and so room for a reply.
     let mut first_tight = None;
+    // Where a `&mut Vec<Reply<N>>` is passed, the checker asks for a bound on the bytes of memory that a reply takes. That
+    // the list has room for one gives the bound, but it has room only if there is a command.
     if !commands.is_empty() {
         first_tight = execute_all(text, commands, &mut replies);
     }
@@ -157,9 +157,9 @@ pub fn run_both<const N: usize, const M: usize>(
     text_fits(second);
     let mut second_replies = Vec::with_capacity(alloc, commands.len())?;
     let first_outcome = run(alloc, first, commands)?;
-    // `execute_all` takes a `&mut Vec<Reply<N>>`, so the check asks here how many bytes of memory a reply takes. The
-    // room of the list tells it, but only if there are commands, and so room for a reply.
     let mut first_tight = None;
+    // Where a `&mut Vec<Reply<N>>` is passed, the checker asks for a bound on the bytes of memory that a reply takes. That
+    // the list has room for one gives the bound, but it has room only if there is a command.
     if !commands.is_empty() {
         first_tight = execute_all(second, commands, &mut second_replies);
     }
