@@ -61,16 +61,16 @@ AreDigits [] = ⊤
 AreDigits (b ∷ bs) = (0x30 ≤ b) × (b ≤ 0x39) × AreDigits bs
 
 -- the number whose digits are those of n and then these bytes
-abbrev pub number_with_more_digits : ℕ → List ℕ → ℕ
-number_with_more_digits n [] = n
-number_with_more_digits n (b ∷ bs) = number_with_more_digits (n * 10 + (b - 0x30)) bs
+abbrev pub value_after : ℕ → List ℕ → ℕ
+value_after n [] = n
+value_after n (b ∷ bs) = value_after (n * 10 + (b - 0x30)) bs
 
 -- the bytes are one to three digits that write the number n, which is at most 255; leading zeros are allowed
 pub record IsNumber (bs : List ℕ) (n : ℕ) : Type 0 where
   pub some : 1 ≤ length bs
   pub short : length bs ≤ 3
   pub digits : AreDigits bs
-  pub value : n ≡ number_with_more_digits 0 bs
+  pub value : n ≡ value_after 0 bs
   pub small : n ≤ 255
 
 -- the bytes spell an argument: they are the digits of a number, the UTF-8 of a character, or the bytes of a text
@@ -121,5 +121,5 @@ IsOneWord [] = ⊤
 IsOneWord (b ∷ bs) = (b ≢ space) × IsOneWord bs
 
 -- the bytes are the digits of the number n, one space, and then the rest
-abbrev pub IsNumberThenRest : List ℕ → ℕ → List ℕ → Type 0
-IsNumberThenRest bs n rest = (digits : List ℕ) × IsNumber digits n × (bs ≡ digits ++ space ∷ rest)
+abbrev pub IsNumberBefore : List ℕ → ℕ → List ℕ → Type 0
+IsNumberBefore bs n rest = (digits : List ℕ) × IsNumber digits n × (bs ≡ digits ++ space ∷ rest)

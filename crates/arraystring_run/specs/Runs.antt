@@ -96,13 +96,13 @@ effect command.Capacity t n = reply_and_text (Number n) t
 effect command.AsStr t n = reply_and_text (Text t) t
 
 -- whether a cause is `Room`
-abbrev pub is_cause_room : Option Cause → Bool
-is_cause_room (Some Room) = true
-is_cause_room _ = false
+abbrev pub is_room : Option Cause → Bool
+is_room (Some Room) = true
+is_room _ = false
 
 -- whether an edit is refused for want of room: the first of its tests that holds has the cause `Room`
 abbrev pub lacks_room : {A : Type 0} → Edit A → Bool
-lacks_room row = is_cause_room (first_cause row.tests)
+lacks_room row = is_room (first_cause row.tests)
 
 -- whether an edit is made, which it is if none of its tests holds
 abbrev pub is_made : {A : Type 0} → Edit A → Bool
@@ -141,9 +141,9 @@ first_tight_from k [] t n = None
 first_tight_from k (c ∷ cs) t n = if is_tight c t n then Some k else first_tight_from (k + 1) cs (effect c t n).text n
 
 -- the position that was found already, if there is one, and else the next
-abbrev pub first_or_else : Option ℕ → Option ℕ → Option ℕ
-first_or_else None next = next
-first_or_else (Some k) next = Some k
+abbrev pub earlier_of : Option ℕ → Option ℕ → Option ℕ
+earlier_of None next = next
+earlier_of (Some k) next = Some k
 
 -- in a run that begins with the text t, at the capacity n, no command is tight on the text that the commands before it leave
 abbrev pub NoneTight : List Command → List ℕ → ℕ → Type 0

@@ -27,15 +27,15 @@ AreOneLine [] = ⊤
 AreOneLine (line ∷ rest) = IsOneLine line × AreOneLine rest
 
 -- the lines with the byte b put in front of the first line; if there is no line, b alone is the only line
-abbrev pub prepend_to_first_line : ℕ → List (List ℕ) → List (List ℕ)
-prepend_to_first_line b [] = (b ∷ []) ∷ []
-prepend_to_first_line b (line ∷ rest) = (b ∷ line) ∷ rest
+abbrev pub first_byte : ℕ → List (List ℕ) → List (List ℕ)
+first_byte b [] = (b ∷ []) ∷ []
+first_byte b (line ∷ rest) = (b ∷ line) ∷ rest
 
 -- the lines of an input, without their line feeds (`lines_of_input`). The last line may have no line feed in the input. An empty input
 -- has no line, and a line feed alone is one empty line
 abbrev pub lines : List ℕ → List (List ℕ)
 lines [] = []
-lines (b ∷ bs) = if b == line_feed then [] ∷ lines bs else prepend_to_first_line b (lines bs)
+lines (b ∷ bs) = if b == line_feed then [] ∷ lines bs else first_byte b (lines bs)
 
 -- each line is the line of the command at the same position (`script_has_one_meaning`)
 abbrev pub AreLinesOf : List (List ℕ) → List Command → Type 0

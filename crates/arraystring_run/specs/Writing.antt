@@ -11,7 +11,7 @@ pub record AppendsPrefix (old new : Option (List ℕ)) (bs : List ℕ) : Type 0 
 
 -- bs was put behind the bytes that waited (`waited`). Of both together a prefix was appended to the output, whose bytes are `old` before
 -- and `new` after, and the rest waits now (`waits`)
-pub record GoesThroughBuffer (old new : Option (List ℕ)) (waited waits bs : List ℕ) : Type 0 where
+pub record IsPassed (old new : Option (List ℕ)) (waited waits bs : List ℕ) : Type 0 where
   pub done : List ℕ
   pub whole : waited ++ bs ≡ done ++ waits
   pub appended : Appends old new done

@@ -1,7 +1,7 @@
 //! The command of a line.
 ghost use Rattle.std.specs.Prelude.{◌≡◌, ◌≤◌, [], ◌∷◌, ◌++◌, ℕ, List, length, IfSome, IfNone};
 ghost use Rattle.arraystring.specs.Text.{utf8, IsScalarValue};
-ghost use Rattle.arraystring_run.specs.Line.{word as word_of, arguments, Number, IsLineOf, IsNumber, IsNumberThenRest, IsOneWord, space};
+ghost use Rattle.arraystring_run.specs.Line.{word as word_of, arguments, Number, IsLineOf, IsNumber, IsNumberBefore, IsOneWord, space};
 ghost use Rattle.arraystring_run.specs.declared.commands.Command.{Command};
 
 use crate::Command;
@@ -132,8 +132,8 @@ fn number(text: &str) -> Option<u8>
 
 /// The number before the first space, and what is after that space.
 fn number_before_space(text: &str) -> Option<(u8, &str)>
-    ensures some { IfSome result (λ parts. IsNumberThenRest text.now parts.0 parts.1.now) }
-    ensures none { IfNone result ((n : ℕ) (rest : List ℕ) → IsNumberThenRest text.now n rest → ⊥) }
+    ensures some { IfSome result (λ parts. IsNumberBefore text.now parts.0 parts.1.now) }
+    ensures none { IfNone result ((n : ℕ) (rest : List ℕ) → IsNumberBefore text.now n rest → ⊥) }
 {
     let (digits, rest) = split_at_space(text)?;
     Some((number(digits)?, rest))

@@ -1,7 +1,7 @@
 //! Bytes that wait in an array until they are written.
 ghost use Rattle.std.specs.Prelude.{◌≡◌, ◌+◌, ◌<◌, ◌≤◌, ◌++◌, [], OnOk, length};
 ghost use Rattle.std.specs.Io.KnownBytes.{Appends};
-ghost use Rattle.arraystring_run.specs.Writing.{AppendsPrefix, GoesThroughBuffer};
+ghost use Rattle.arraystring_run.specs.Writing.{AppendsPrefix, IsPassed};
 
 use crate::writing::write_bytes;
 use std::io;
@@ -46,7 +46,7 @@ impl OutputBuffer {
     /// written as one block, so that a script takes few writes.
     #[inline(always)]
     pub(crate) fn put<O: Write>(&mut self, output: &mut O, text: &str) -> io::Result<()>
-        ensures whole { OnOk result (GoesThroughBuffer
+        ensures whole { OnOk result (IsPassed
             (O.contents output.old) (O.contents output.new) self.old self.new text.now) }
         ensures part { AppendsPrefix (O.contents output.old) (O.contents output.new)
             (self.old ++ text.now) }
@@ -68,7 +68,7 @@ impl OutputBuffer {
     #[inline(never)]
     fn put_past_room<O: Write>(&mut self, output: &mut O, bytes: &[u8]) -> io::Result<()>
         requires { 8192 < length self.old + length bytes.now }
-        ensures whole { OnOk result (GoesThroughBuffer
+        ensures whole { OnOk result (IsPassed
             (O.contents output.old) (O.contents output.new) self.old self.new bytes.now) }
         ensures part { AppendsPrefix (O.contents output.old) (O.contents output.new)
             (self.old ++ bytes.now) }

@@ -6,7 +6,7 @@ ghost use Rattle.arraystring.specs.Text.{bytes};
 ghost use Rattle.arraystring_run.specs.Runs.{view_of};
 ghost use Rattle.arraystring_run.specs.ScriptLines.{with_newline};
 ghost use Rattle.arraystring_run.specs.Printing.{reply_line, all_printed};
-ghost use Rattle.arraystring_run.specs.Writing.{AppendsPrefix, GoesThroughBuffer};
+ghost use Rattle.arraystring_run.specs.Writing.{AppendsPrefix, IsPassed};
 
 use crate::Reply;
 use crate::output_buffer::OutputBuffer;
@@ -44,7 +44,7 @@ fn put_reply<const N: usize, O: Write>(
     output: &mut O,
     reply: &Reply<N>,
 ) -> io::Result<()>
-    ensures whole { OnOk result (GoesThroughBuffer
+    ensures whole { OnOk result (IsPassed
         (O.contents output.old) (O.contents output.new) waiting.old waiting.new
         (with_newline (reply_line (view_of reply.now)))) }
     ensures part { AppendsPrefix (O.contents output.old) (O.contents output.new)
@@ -69,7 +69,7 @@ fn put_word_and_value<D: Display + Drop, O: Write>(
     value: D,
 ) -> io::Result<()>
     ensures whole { OnOk result (IfSome (D.output value)
-        (λ bs. GoesThroughBuffer
+        (λ bs. IsPassed
         (O.contents output.old) (O.contents output.new) waiting.old waiting.new
         (with_newline (word.now ++ bs)))) }
     ensures part { IfSome (D.output value)
@@ -119,7 +119,7 @@ fn put_text_line<O: Write>(
     word: &str,
     text: &str,
 ) -> io::Result<()>
-    ensures whole { OnOk result (GoesThroughBuffer
+    ensures whole { OnOk result (IsPassed
         (O.contents output.old) (O.contents output.new) waiting.old waiting.new
         (with_newline (word.now ++ text.now))) }
     ensures part { AppendsPrefix (O.contents output.old) (O.contents output.new)

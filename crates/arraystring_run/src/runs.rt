@@ -2,7 +2,7 @@
 ghost use Rattle.std.specs.Prelude.{◌≡◌, ◌+◌, ◌<◌, ◌≤◌, [], ◌∷◌, ◌++◌, length, map, vec_len, vec_capacity, if◌then◌else◌, IfOk, IsOk, OnOk, OnErr, MatchOption, Some, None};
 ghost use Rattle.std.specs.Vec.{vec_ptr};
 ghost use Rattle.arraystring.specs.Text.{cap, size};
-ghost use Rattle.arraystring_run.specs.Runs.{view_of, effect, is_tight, after, first_tight_from, first_or_else, NoneTight, IsFirstTight};
+ghost use Rattle.arraystring_run.specs.Runs.{view_of, effect, is_tight, after, first_tight_from, earlier_of, NoneTight, IsFirstTight};
 ghost use Rattle.arraystring_run.specs.Agreement.{commands_before, AllAgree, IsNoSooner};
 
 use crate::execute::execute;
@@ -176,7 +176,7 @@ pub fn run_both<const N: usize, const M: usize>(
 /// The first tight position, if `first` is that of the commands before `position`, and `is_tight` says whether the
 /// command there is tight.
 fn first_tight_so_far(first: Option<usize>, is_tight: bool, position: usize) -> Option<usize>
-    ensures { result ≡ first_or_else first (if is_tight then Some position else None) }
+    ensures { result ≡ earlier_of first (if is_tight then Some position else None) }
 {
     match first {
         Some(_) => first,

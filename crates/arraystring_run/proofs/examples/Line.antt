@@ -3,7 +3,7 @@
 use Rattle.std.proofs.Common.{◌≡◌, ℕ, ◌&&◌, Bool, true, false, true≢false, inl, inr, List, [], ◌∷◌, ◌++◌, map, drop, sym, ap, ◌∙◌, append-nil, subst, refl, arith, Bor, codes, lit≤, lit<, nat_eq}
 use Rattle.std.specs.Fmt.{digits}
 use Rattle.arraystring.specs.Text.{utf8}
-use Rattle.arraystring_run.specs.Line.{Argument, Number, Character, Text, word, arguments, AreDigits, number_with_more_digits, IsNumber, IsSpelled, space, AreSpelled, IsLineOf, spelling, spellings, line_of, AreArguments, IsOneWord, IsNumberThenRest}
+use Rattle.arraystring_run.specs.Line.{Argument, Number, Character, Text, word, arguments, AreDigits, value_after, IsNumber, IsSpelled, space, AreSpelled, IsLineOf, spelling, spellings, line_of, AreArguments, IsOneWord, IsNumberBefore}
 use Rattle.arraystring_run.specs.declared.commands.Command.{Command}
 use Rattle.arraystring_run.specs.declared.commands.Command.TheVariants as command
 
@@ -49,11 +49,11 @@ AreDigits-before_them are = omega arith
 AreDigits-behind_them : AreDigits (codes "1:") → ⊥
 AreDigits-behind_them are = omega arith
 
-number_with_more_digits-leading_zeros : number_with_more_digits 0 (codes "007") ≡ 7
-number_with_more_digits-leading_zeros = refl
+value_after-leading_zeros : value_after 0 (codes "007") ≡ 7
+value_after-leading_zeros = refl
 
-number_with_more_digits-goes_on : number_with_more_digits 12 (codes "34") ≡ 1234
-number_with_more_digits-goes_on = refl
+value_after-goes_on : value_after 12 (codes "34") ≡ 1234
+value_after-goes_on = refl
 
 IsNumber-one_digit : IsNumber (codes "0") 0
 IsNumber-one_digit = omega arith
@@ -342,15 +342,15 @@ IsOneWord-pop = omega arith
 IsOneWord-two : IsOneWord (codes "a b") → ⊥
 IsOneWord-two is = is.1.0 refl
 
-IsNumberThenRest-a_space : IsNumberThenRest (codes "12 x y") 12 (codes "x y")
-IsNumberThenRest-a_space = (codes "12", omega arith, refl)
+IsNumberBefore-a_space : IsNumberBefore (codes "12 x y") 12 (codes "x y")
+IsNumberBefore-a_space = (codes "12", omega arith, refl)
 
-IsNumberThenRest-no_space : IsNumberThenRest (codes "12") 12 [] → ⊥
-IsNumberThenRest-no_space ([], number, e) = grind arith
-IsNumberThenRest-no_space (b ∷ [], number, e) = grind arith
-IsNumberThenRest-no_space (b ∷ c ∷ [], number, e) = cc
-IsNumberThenRest-no_space (b ∷ c ∷ d ∷ bs, number, e) = cc
+IsNumberBefore-no_space : IsNumberBefore (codes "12") 12 [] → ⊥
+IsNumberBefore-no_space ([], number, e) = grind arith
+IsNumberBefore-no_space (b ∷ [], number, e) = grind arith
+IsNumberBefore-no_space (b ∷ c ∷ [], number, e) = cc
+IsNumberBefore-no_space (b ∷ c ∷ d ∷ bs, number, e) = cc
 
-IsNumberThenRest-no_number : IsNumberThenRest (codes " x") 0 (codes "x") → ⊥
-IsNumberThenRest-no_number ([], number, e) = omega arith
-IsNumberThenRest-no_number (b ∷ bs, number, e) = let is : b ≡ 0x20 = grind arith in omega arith
+IsNumberBefore-no_number : IsNumberBefore (codes " x") 0 (codes "x") → ⊥
+IsNumberBefore-no_number ([], number, e) = omega arith
+IsNumberBefore-no_number (b ∷ bs, number, e) = let is : b ≡ 0x20 = grind arith in omega arith

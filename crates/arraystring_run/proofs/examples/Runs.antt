@@ -8,7 +8,7 @@ use Rattle.arraystring.specs.WhiteSpace.{is_white_space}
 use Rattle.arraystring.specs.Edits.{Past, Room, Inside, addition, insertion, removal}
 use Rattle.arraystring.specs.Stored.{view_with_text}
 use Rattle.arraystring.specs.Refusals.{OutOfBounds, Utf8}
-use Rattle.arraystring_run.specs.Runs.{Done, Char, NoChar, Text, NoText, Number, Refused, view_of, reply_and_text, reply_of, apply, apply_unit, char_or_none, text_or_none, without, end_through, effect, is_cause_room, lacks_room, is_made, adds_less, is_tight, after, first_tight_from, first_or_else, NoneTight, IsFirstTight}
+use Rattle.arraystring_run.specs.Runs.{Done, Char, NoChar, Text, NoText, Number, Refused, view_of, reply_and_text, reply_of, apply, apply_unit, char_or_none, text_or_none, without, end_through, effect, is_room, lacks_room, is_made, adds_less, is_tight, after, first_tight_from, earlier_of, NoneTight, IsFirstTight}
 use Rattle.arraystring_run.specs.declared.commands.Command.{Command}
 use Rattle.arraystring_run.specs.declared.commands.Command.TheVariants as command
 use Rattle.arraystring_run.specs.declared.commands.Reply.TheVariants as reply
@@ -391,9 +391,9 @@ effect-as_str = refl
 
 -- What is tight: a command that is refused for `Room`, or adds less than all of its text
 
-is_cause_room-each_cause : (is_cause_room None ≡ false) × (is_cause_room (Some Past) ≡ false) × (is_cause_room (Some Room) ≡ true)
-    × (is_cause_room (Some Inside) ≡ false)
-is_cause_room-each_cause = (refl, refl, refl, refl)
+is_room-each_cause : (is_room None ≡ false) × (is_room (Some Past) ≡ false) × (is_room (Some Room) ≡ true)
+    × (is_room (Some Inside) ≡ false)
+is_room-each_cause = (refl, refl, refl, refl)
 
 lacks_room-made : lacks_room (addition (codes "aé") (codes "x") 4) ≡ false
 unfolding width
@@ -570,14 +570,14 @@ first_tight_from-counts_on : first_tight_from 5 pushes [] 8 ≡ Some 6
 unfolding width chars encode_utf8
 first_tight_from-counts_on = refl
 
-first_or_else-the_first : first_or_else (Some 2) (Some 1) ≡ Some 2
-first_or_else-the_first = refl
+earlier_of-the_first : earlier_of (Some 2) (Some 1) ≡ Some 2
+earlier_of-the_first = refl
 
-first_or_else-the_next : first_or_else None (Some 1) ≡ Some 1
-first_or_else-the_next = refl
+earlier_of-the_next : earlier_of None (Some 1) ≡ Some 1
+earlier_of-the_next = refl
 
-first_or_else-none : first_or_else None None ≡ None
-first_or_else-none = refl
+earlier_of-none : earlier_of None None ≡ None
+earlier_of-none = refl
 
 NoneTight-of_no_command : NoneTight [] [] 0
 NoneTight-of_no_command [] c later e = absurd (cc)

@@ -1,7 +1,7 @@
 -- Examples of the lines of a script. `codes "len"` is the list of the bytes of `"len"`, and 0x0A is the line feed.
 use Rattle.std.proofs.Common.{◌≡◌, ℕ, List, [], ◌∷◌, ◌++◌, length, refl, arith, codes, ◌+◌}
 use Rattle.arraystring_run.specs.Line.{IsLineOf}
-use Rattle.arraystring_run.specs.ScriptLines.{line_feed, with_newline, joined_lines, IsOneLine, AreOneLine, prepend_to_first_line, lines, AreLinesOf, IsBadAt}
+use Rattle.arraystring_run.specs.ScriptLines.{line_feed, with_newline, joined_lines, IsOneLine, AreOneLine, first_byte, lines, AreLinesOf, IsBadAt}
 use Rattle.arraystring_run.specs.declared.commands.Command.{Command}
 use Rattle.arraystring_run.specs.declared.commands.Command.TheVariants as command
 
@@ -39,11 +39,11 @@ AreOneLine-the_first_is_two are = are.0.1.0 refl
 AreOneLine-the_second_is_two : AreOneLine ([] ∷ (0x0A ∷ []) ∷ []) → ⊥
 AreOneLine-the_second_is_two are = are.1.0.0 refl
 
-prepend_to_first_line-of_no_line : prepend_to_first_line 0x61 [] ≡ (0x61 ∷ []) ∷ []
-prepend_to_first_line-of_no_line = refl
+first_byte-of_no_line : first_byte 0x61 [] ≡ (0x61 ∷ []) ∷ []
+first_byte-of_no_line = refl
 
-prepend_to_first_line-of_two_lines : prepend_to_first_line 0x61 (codes "b" ∷ codes "c" ∷ []) ≡ codes "ab" ∷ codes "c" ∷ []
-prepend_to_first_line-of_two_lines = refl
+first_byte-of_two_lines : first_byte 0x61 (codes "b" ∷ codes "c" ∷ []) ≡ codes "ab" ∷ codes "c" ∷ []
+first_byte-of_two_lines = refl
 
 lines-empty_input : lines [] ≡ []
 lines-empty_input = refl

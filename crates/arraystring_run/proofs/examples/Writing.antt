@@ -1,6 +1,6 @@
 -- Examples of what a write that failed has written. `codes "ab"` is the list of the bytes of `"ab"`.
 use Rattle.std.proofs.Common.{[], Some, None, refl, arith, codes}
-use Rattle.arraystring_run.specs.Writing.{AppendsPrefix, GoesThroughBuffer}
+use Rattle.arraystring_run.specs.Writing.{AppendsPrefix, IsPassed}
 
 AppendsPrefix-none_of_it : AppendsPrefix (Some (codes "x")) (Some (codes "x")) (codes "ab")
 AppendsPrefix-none_of_it = record { done = []; later = codes "ab"; whole = refl; appended = refl }
@@ -24,14 +24,14 @@ AppendsPrefix-more is = grind arith
 AppendsPrefix-what_was_there_is_lost : AppendsPrefix (Some (codes "x")) (Some []) (codes "ab") → ⊥
 AppendsPrefix-what_was_there_is_lost is = cc
 
-GoesThroughBuffer-all_waits : GoesThroughBuffer (Some (codes "x")) (Some (codes "x")) (codes "a") (codes "ab") (codes "b")
-GoesThroughBuffer-all_waits = record { done = []; whole = refl; appended = refl }
+IsPassed-all_waits : IsPassed (Some (codes "x")) (Some (codes "x")) (codes "a") (codes "ab") (codes "b")
+IsPassed-all_waits = record { done = []; whole = refl; appended = refl }
 
-GoesThroughBuffer-the_front_was_appended : GoesThroughBuffer (Some (codes "x")) (Some (codes "xab")) (codes "a") (codes "c") (codes "bc")
-GoesThroughBuffer-the_front_was_appended = record { done = codes "ab"; whole = refl; appended = refl }
+IsPassed-the_front_was_appended : IsPassed (Some (codes "x")) (Some (codes "xab")) (codes "a") (codes "c") (codes "bc")
+IsPassed-the_front_was_appended = record { done = codes "ab"; whole = refl; appended = refl }
 
-GoesThroughBuffer-a_byte_is_lost : GoesThroughBuffer (Some (codes "x")) (Some (codes "xa")) (codes "a") [] (codes "b") → ⊥
-GoesThroughBuffer-a_byte_is_lost is = grind arith
+IsPassed-a_byte_is_lost : IsPassed (Some (codes "x")) (Some (codes "xa")) (codes "a") [] (codes "b") → ⊥
+IsPassed-a_byte_is_lost is = grind arith
 
-GoesThroughBuffer-a_byte_was_not_appended : GoesThroughBuffer (Some (codes "x")) (Some (codes "x")) (codes "a") (codes "b") (codes "b") → ⊥
-GoesThroughBuffer-a_byte_was_not_appended is = grind arith
+IsPassed-a_byte_was_not_appended : IsPassed (Some (codes "x")) (Some (codes "x")) (codes "a") (codes "b") (codes "b") → ⊥
+IsPassed-a_byte_was_not_appended is = grind arith

@@ -3,13 +3,13 @@ use Rattle.std.proofs.lemmas.Fmt.{digits_decimal, digits_value-decimal, decimal_
 use Rattle.std.proofs.lemmas.Str.Parse.{IsNumeralModel, numerals_by_fold}
 use Rattle.std.specs.Fmt.{decimal}
 use Rattle.arraystring.specs.Text.{utf8}
-use Rattle.arraystring_run.specs.Line.{Argument, Number, Character, Text, arguments, AreDigits, number_with_more_digits, IsNumber, AreSpelled, spellings, AreArguments}
+use Rattle.arraystring_run.specs.Line.{Argument, Number, Character, Text, arguments, AreDigits, value_after, IsNumber, AreSpelled, spellings, AreArguments}
 use Rattle.arraystring_run.proofs.laws.each_command_has_a_line.Goals as goal
 
 -- a number as it is printed
 decimal-number : (n : ℕ) → n ≤ 255 → IsNumber (decimal n) n
 decimal-number n small =
-    let own : IsNumeralModel AreDigits (number_with_more_digits 0) = numerals_by_fold AreDigits (search rules) number_with_more_digits (search rules) in
+    let own : IsNumeralModel AreDigits (value_after 0) = numerals_by_fold AreDigits (search rules) value_after (search rules) in
     let fits : n < 2 ^ 64 = omega arith in
     let below : n < 10 ^ 3 = omega arith in
     record {

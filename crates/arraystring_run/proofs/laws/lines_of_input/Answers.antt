@@ -1,16 +1,16 @@
 use Rattle.std.proofs.Common.{◌≡◌, ◌≢◌, ◌<◌, ℕ, List, [], ◌∷◌, ◌++◌, ◌⊎◌, length, refl, ap, arith, append_assoc, inl, inr}
 use Rattle.std.proofs.lemmas.Bool.{ne_eqb}
 use Rattle.std.proofs.lemmas.Bool.Decides.{eqb_tells}
-use Rattle.arraystring_run.specs.ScriptLines.{lines, line_feed, prepend_to_first_line, with_newline, joined_lines, IsOneLine, AreOneLine}
+use Rattle.arraystring_run.specs.ScriptLines.{lines, line_feed, first_byte, with_newline, joined_lines, IsOneLine, AreOneLine}
 use Rattle.arraystring_run.proofs.laws.lines_of_input.Goals as goal
 
 line-before : (line rest : List ℕ) → IsOneLine line → lines (line ++ line_feed ∷ rest) ≡ line ∷ lines rest
 line-before [] rest one = refl
-line-before (b ∷ line) rest one = rw (ne_eqb b line_feed one.0) (ap (prepend_to_first_line b) (line-before line rest one.1))
+line-before (b ∷ line) rest one = rw (ne_eqb b line_feed one.0) (ap (first_byte b) (line-before line rest one.1))
 
 line-alone : (b : ℕ) (line : List ℕ) → IsOneLine (b ∷ line) → lines (b ∷ line) ≡ (b ∷ line) ∷ []
 line-alone b [] one = rw (ne_eqb b line_feed one.0) refl
-line-alone b (d ∷ line) one = rw (ne_eqb b line_feed one.0) (ap (prepend_to_first_line b) (line-alone d line one.1))
+line-alone b (d ∷ line) one = rw (ne_eqb b line_feed one.0) (ap (first_byte b) (line-alone d line one.1))
 
 line-with_newline : (line rest : List ℕ) → IsOneLine line → lines (with_newline line ++ rest) ≡ line ∷ lines rest
 line-with_newline line rest one = cc (append_assoc line (line_feed ∷ []) rest, line-before line rest one)
@@ -30,7 +30,7 @@ lines-open (line ∷ rest) (b ∷ last) are one some =
       lines-open rest (b ∷ last) are.1 one some,
     )
 
-first-one_line : (b : ℕ) (all : List (List ℕ)) → b ≢ line_feed → AreOneLine all → AreOneLine (prepend_to_first_line b all)
+first-one_line : (b : ℕ) (all : List (List ℕ)) → b ≢ line_feed → AreOneLine all → AreOneLine (first_byte b all)
 first-one_line b [] other are = ((other, tt), tt)
 first-one_line b (line ∷ rest) other are = ((other, are.0), are.1)
 
@@ -46,7 +46,7 @@ lines-one_line (b ∷ bs) =
 abbrev IsJoined : List (List ℕ) → List ℕ → Type 0
 IsJoined all bs = (joined_lines all ≡ bs) ⊎ (joined_lines all ≡ with_newline bs)
 
-first-joined : (b : ℕ) (all : List (List ℕ)) (bs : List ℕ) → IsJoined all bs → IsJoined (prepend_to_first_line b all) (b ∷ bs)
+first-joined : (b : ℕ) (all : List (List ℕ)) (bs : List ℕ) → IsJoined all bs → IsJoined (first_byte b all) (b ∷ bs)
 first-joined b [] [] (inl e) = inr refl
 first-joined b [] [] (inr e) = absurd (cc)
 first-joined b [] (d ∷ bs) (inl e) = absurd (cc)

@@ -6,23 +6,23 @@ use Rattle.arraystring.specs.Text.{IsWellFormed}
 use Rattle.arraystring.proofs.TextLaws.{well_formed-utf8, utf8-well_formed}
 use Rattle.arraystring_run.specs.declared.commands.Command.{Command}
 use Rattle.arraystring_run.specs.declared.commands.Command.TheVariants as command
-use Rattle.arraystring_run.specs.Line.{Argument, Number, Character, Text, AreSpelled, IsNumberThenRest, arguments, word, space}
+use Rattle.arraystring_run.specs.Line.{Argument, Number, Character, Text, AreSpelled, IsNumberBefore, arguments, word, space}
 use Rattle.arraystring_run.proofs.CommandLemmas.{kind, numbers_first, kinds-numbers_first}
 use Rattle.arraystring_run.proofs.LineLemmas.{Reads, same-word, digits-one, if-none, unread, line-parts, no-character, no-number, line-given, spelled-one}
 use Rattle.arraystring_run.proofs.line.command_of_number_and_more.Goals as goal
 
 reads-before : (rest : List ℕ) (k : ℕ) (kinds : List ℕ) → Reads rest (0 ∷ k ∷ kinds)
-    → (n : ℕ) × (behind : List ℕ) × IsNumberThenRest rest n behind × Reads behind (k ∷ kinds)
+    → (n : ℕ) × (behind : List ℕ) × IsNumberBefore rest n behind × Reads behind (k ∷ kinds)
 reads-before rest k kinds (Number n ∷ a ∷ given, e, (first, others, whole, number, (second, more, others_whole, spelled, next))) =
     (n, second ++ more, (first, number, cc), (a ∷ given, cc, (second, more, refl, spelled, next)))
 reads-before rest k kinds (other, e, spelled) = absurd (cc)
 
-no-before : (rest : List ℕ) {k : ℕ} {others : List ℕ} → ((n : ℕ) (behind : List ℕ) → IsNumberThenRest rest n behind → ⊥)
+no-before : (rest : List ℕ) {k : ℕ} {others : List ℕ} → ((n : ℕ) (behind : List ℕ) → IsNumberBefore rest n behind → ⊥)
     → Reads rest (0 ∷ k ∷ others) → ⊥
 no-before rest {k} {others} bad read = let found = reads-before rest k others read in bad found.0 found.1 found.2
 
 -- of two arguments or more the first is a number
-no-start : (rest : List ℕ) → ((n : ℕ) (behind : List ℕ) → IsNumberThenRest rest n behind → ⊥)
+no-start : (rest : List ℕ) → ((n : ℕ) (behind : List ℕ) → IsNumberBefore rest n behind → ⊥)
     → (given : List Argument) → numbers_first (map kind given) ≡ true → 2 ≤ length given → AreSpelled (space ∷ rest) given → ⊥
 no-start rest bad [] first more spelled = omega arith
 no-start rest bad (a ∷ []) first more spelled = omega arith
@@ -43,7 +43,7 @@ ranges (command.Get m n) more is a b d e = (m, n, refl)
 ranges other more is a b d e = absurd (omega arith)
 
 -- what is after a number that was read
-reads-behind : (rest : List ℕ) (n : ℕ) (behind : List ℕ) (k : ℕ) (kinds : List ℕ) → IsNumberThenRest rest n behind
+reads-behind : (rest : List ℕ) (n : ℕ) (behind : List ℕ) (k : ℕ) (kinds : List ℕ) → IsNumberBefore rest n behind
     → Reads rest (0 ∷ k ∷ kinds) → Reads behind (k ∷ kinds)
 reads-behind rest n behind k kinds (digits, number, e) read =
     let (m, others, (also, is, f), found) = reads-before rest k kinds read in
@@ -51,12 +51,12 @@ reads-behind rest n behind k kinds (digits, number, e) read =
     (digits-one also is.digits) refl refl (sym e ∙ f) in
     let this : others ≡ behind = cc in subst (λ l. Reads l (k ∷ kinds)) this found
 
-spelled-before : (rest : List ℕ) (n : ℕ) (behind : List ℕ) (given : List Argument) → IsNumberThenRest rest n behind
+spelled-before : (rest : List ℕ) (n : ℕ) (behind : List ℕ) (given : List Argument) → IsNumberBefore rest n behind
     → AreSpelled (space ∷ behind) given → AreSpelled (space ∷ rest) (Number n ∷ given)
 spelled-before rest n behind given (digits, number, e) spelled = (digits, space ∷ behind, cc, number, spelled)
 
 -- what follows a space is well formed
-number-behind : (bs : List ℕ) (n : ℕ) (rest : List ℕ) → IsUtf8 bs → IsNumberThenRest bs n rest → IsWellFormed rest
+number-behind : (bs : List ℕ) (n : ℕ) (rest : List ℕ) → IsUtf8 bs → IsNumberBefore bs n rest → IsWellFormed rest
 number-behind bs n rest utf8 (front, number, e) =
     let line = front ++ space ∷ rest in
     let u = subst IsUtf8 e utf8 in

@@ -2,15 +2,15 @@ use Rattle.std.proofs.Common.{◌≡◌, ◌<◌, ◌≤◌, ℕ, List, length, 
 use Rattle.std.proofs.lemmas.Str.Parse.{numerals_by_fold, parse_plain}
 use Rattle.std.proofs.lemmas.Str.Pattern.{starts_char}
 use Rattle.std.specs.Result.{OkIff, result_ok}
-use Rattle.arraystring_run.specs.Line.{AreDigits, number_with_more_digits, IsNumber}
+use Rattle.arraystring_run.specs.Line.{AreDigits, value_after, IsNumber}
 use Rattle.arraystring_run.proofs.line.number.Goals as goal
 
 -- what `parse` gives of at most three bytes that begin with no sign
 abbrev IsParsed : {E : Type 0} → List ℕ → Result ℕ E → Type 0
-IsParsed bs r = OkIff r (AreDigits bs × (0 < length bs) × (number_with_more_digits 0 bs < 256)) (number_with_more_digits 0 bs)
+IsParsed bs r = OkIff r (AreDigits bs × (0 < length bs) × (value_after 0 bs < 256)) (value_after 0 bs)
 
 parsed : (c : goal.After-ok) → IsParsed c.args.text.now c.parse.result
-parsed c = parse_plain (numerals_by_fold AreDigits (search rules) number_with_more_digits (search rules)) 8 c.args.text.now c.parse.result
+parsed c = parse_plain (numerals_by_fold AreDigits (search rules) value_after (search rules)) 8 c.args.text.now c.parse.result
     c.parse.ensures.value.0 (λ is.
     let tells = starts_char 43 c.args.text.now c.starts_with.result c.starts_with.ensures.cases (omega arith) (omega arith) in
     let yes : c.starts_with.result ≡ true = tells.1 is in

@@ -4,7 +4,7 @@ use Rattle.std.proofs.KnownBytes.{Appends-nil, Appends-kept}
 use Rattle.arraystring_run.specs.Runs.{view_of}
 use Rattle.arraystring_run.specs.ScriptLines.{with_newline}
 use Rattle.arraystring_run.specs.Printing.{reply_line, replies_printed}
-use Rattle.arraystring_run.specs.Writing.{GoesThroughBuffer}
+use Rattle.arraystring_run.specs.Writing.{IsPassed}
 use Rattle.arraystring_run.specs.declared.commands.Reply.{Reply}
 use Rattle.arraystring_run.proofs.PrintLemmas.{front-all, front-more, passed-then, passed-front, sent-all, sent-front}
 use Rattle.arraystring_run.proofs.printing.write_all_replies.Invariants.{IsPartWritten}
@@ -18,7 +18,7 @@ one-more rs i r done lt is parts =
     cc (parts, drop_more rs i r lt, append_assoc done (with_newline (reply_line (view_of r))) (replies_printed (map view_of (drop (i + 1) rs))))
 
 all-written : {N : ℕ} (rs : List (Reply N)) (i : ℕ) (old new : Option (List ℕ)) (waits : List ℕ) → length rs ≤ i
-    → IsPartWritten rs i old new waits → GoesThroughBuffer old new [] waits (replies_printed (map view_of rs))
+    → IsPartWritten rs i old new waits → IsPassed old new [] waits (replies_printed (map view_of rs))
 all-written rs i old new waits le (done, parts, passed) = rw (parts, drop_all i rs le, append-nil) passed
 
 on_ok_always : {T E P : Type 0} (r : Result T E) → P → OnOk r P

@@ -1,6 +1,6 @@
 use Rattle.std.proofs.Common.{◌≡◌, ℕ, List, [], ◌++◌, map, drop, Option}
 use Rattle.arraystring_run.specs.Runs.{view_of}
-use Rattle.arraystring_run.specs.Writing.{GoesThroughBuffer}
+use Rattle.arraystring_run.specs.Writing.{IsPassed}
 use Rattle.arraystring_run.specs.Printing.{replies_printed}
 use Rattle.arraystring_run.specs.declared.commands.Reply.{Reply}
 use Rattle.arraystring_run.proofs.printing.write_all_replies.Given as goal
@@ -8,7 +8,7 @@ use Rattle.arraystring_run.proofs.printing.write_all_replies.Given as goal
 -- the lines of the replies before i were written, or wait
 abbrev pub IsPartWritten : {N : ℕ} → List (Reply N) → ℕ → Option (List ℕ) → Option (List ℕ) → List ℕ → Type 0
 IsPartWritten rs i old new waits =
-    (done : List ℕ) × (replies_printed (map view_of rs) ≡ done ++ replies_printed (map view_of (drop i rs))) × GoesThroughBuffer old new [] waits done
+    (done : List ℕ) × (replies_printed (map view_of rs) ≡ done ++ replies_printed (map view_of (drop i rs))) × IsPassed old new [] waits done
 
 abbrev pub invariant-loop-reply : goal.invariant-loop-reply
 invariant-loop-reply g l =

@@ -1,19 +1,19 @@
 use Rattle.std.proofs.Common.{◌≡◌, ℕ, ◌+◌, ◌<◌, ◌≤◌, List, [], ◌∷◌, ◌++◌, length, drop, get_or, append_assoc, refl, rules, sym, ◌∙◌, Option, Some, None, Bool, true, false, if◌then◌else◌}
 use Rattle.std.proofs.lemmas.List.{append-nil, drop_all, drop_more, nil_from_length}
-use Rattle.arraystring_run.specs.Runs.{ReplyView, effect, is_tight, after, first_tight_from, first_or_else}
+use Rattle.arraystring_run.specs.Runs.{ReplyView, effect, is_tight, after, first_tight_from, earlier_of}
 use Rattle.arraystring_run.specs.declared.commands.Command.{Command}
 use Rattle.arraystring_run.proofs.runs.execute_all.Invariants.{IsPartWay}
 use Rattle.arraystring_run.proofs.runs.execute_all.Goals as goal
 
-first_or_else-none : (first : Option ℕ) → first_or_else first None ≡ first
-first_or_else-none None = refl
-first_or_else-none (Some k) = refl
+earlier_of-none : (first : Option ℕ) → earlier_of first None ≡ first
+earlier_of-none None = refl
+earlier_of-none (Some k) = refl
 
-first_or_else-step : (first : Option ℕ) (b : Bool) (i : ℕ) (rest : Option ℕ)
-    → first_or_else first (if b then Some i else rest) ≡ first_or_else (first_or_else first (if b then Some i else None)) rest
-first_or_else-step None true i rest = refl
-first_or_else-step None false i rest = refl
-first_or_else-step (Some k) b i rest = refl
+earlier_of-step : (first : Option ℕ) (b : Bool) (i : ℕ) (rest : Option ℕ)
+    → earlier_of first (if b then Some i else rest) ≡ earlier_of (earlier_of first (if b then Some i else None)) rest
+earlier_of-step None true i rest = refl
+earlier_of-step None false i rest = refl
+earlier_of-step (Some k) b i rest = refl
 
 module _ {cs : List Command} {t₀ : List ℕ} {n i : ℕ} {done : List ReplyView} {t : List ℕ} {first : Option ℕ}
     (way : IsPartWay cs t₀ n i done t first) where
@@ -22,13 +22,13 @@ module _ {cs : List Command} {t₀ : List ℕ} {n i : ℕ} {done : List ReplyVie
       let none = drop_all i cs le in (
         way.replies ∙ rw none (append-nil done),
         way.text ∙ rw none refl,
-        way.tight ∙ rw none (first_or_else-none first),
+        way.tight ∙ rw none (earlier_of-none first),
       )
 
   -- the next command is done
   one-more : (d : Command) → i < length cs → let command = get_or cs i d in
       IsPartWay cs t₀ n (i + 1) (done ++ (effect command t n).reply ∷ []) (effect command t n).text
-      (first_or_else first (if is_tight command t n then Some i else None))
+      (earlier_of first (if is_tight command t n then Some i else None))
   one-more d lt =
       let command = get_or cs i d in
       let next = drop_more cs i d lt in
@@ -36,7 +36,7 @@ module _ {cs : List Command} {t₀ : List ℕ} {n i : ℕ} {done : List ReplyVie
         replies = way.replies ∙ rw next (sym (append_assoc done ((effect command t n).reply ∷ [])
             (after (drop (i + 1) cs) later n).replies));
         text = way.text ∙ rw next refl;
-        tight = way.tight ∙ rw next (first_or_else-step first (is_tight command t n) i (first_tight_from (i + 1) (drop (i + 1) cs) later n));
+        tight = way.tight ∙ rw next (earlier_of-step first (is_tight command t n) i (first_tight_from (i + 1) (drop (i + 1) cs) later n));
       }
 
 pub returns-clause-replies : goal.returns-clause-replies

@@ -1,7 +1,7 @@
 use Rattle.std.proofs.Common.{◌≡◌, ◌≤◌, ℕ, List, ◌++◌, drop, length, map, Option, vec_len, vec_capacity}
 use Rattle.std.specs.Vec.{vec_ptr}
 use Rattle.arraystring.specs.Text.{cap}
-use Rattle.arraystring_run.specs.Runs.{ReplyView, view_of, after, first_tight_from, first_or_else}
+use Rattle.arraystring_run.specs.Runs.{ReplyView, view_of, after, first_tight_from, earlier_of}
 use Rattle.arraystring_run.specs.declared.commands.Command.{Command}
 use Rattle.arraystring_run.proofs.runs.execute_all.Given as goal
 
@@ -9,7 +9,7 @@ use Rattle.arraystring_run.proofs.runs.execute_all.Given as goal
 pub record IsPartWay (cs : List Command) (t₀ : List ℕ) (n i : ℕ) (done : List ReplyView) (t : List ℕ) (first : Option ℕ) : Type 0 where
   pub replies : (after cs t₀ n).replies ≡ done ++ (after (drop i cs) t n).replies
   pub text : (after cs t₀ n).text ≡ (after (drop i cs) t n).text
-  pub tight : first_tight_from 0 cs t₀ n ≡ first_or_else first (first_tight_from i (drop i cs) t n)
+  pub tight : first_tight_from 0 cs t₀ n ≡ earlier_of first (first_tight_from i (drop i cs) t n)
 
 abbrev pub invariant-loop-position : goal.invariant-loop-position
 invariant-loop-position g l = record {

@@ -3,7 +3,7 @@ use Rattle.std.proofs.lemmas.Bool.{ne_eqb}
 use Rattle.std.proofs.lemmas.List.{append-nil, drop_all, drop-drop, get_or-drop}
 use Rattle.std.proofs.lemmas.Str.{IsCharBoundary-start, lead_after_ascii}
 use Rattle.arraystring_run.specs.Line.{IsLineOf}
-use Rattle.arraystring_run.specs.ScriptLines.{lines, line_feed, prepend_to_first_line, AreLinesOf, IsBadAt}
+use Rattle.arraystring_run.specs.ScriptLines.{lines, line_feed, first_byte, AreLinesOf, IsBadAt}
 use Rattle.arraystring_run.specs.declared.commands.Command.{Command}
 use Rattle.arraystring_run.proofs.script.parse_script.Invariants.{IsPartRead}
 use Rattle.arraystring_run.proofs.script.parse_script.Goals as goal
@@ -20,7 +20,7 @@ first-line (b ∷ []) (suc end) some le ends one =
 first-line (b ∷ d ∷ bs) (suc end) some le ends one =
     let rest = first-line (d ∷ bs) end (omega arith) (omega arith) (λ lt. ends (omega arith)) (λ i lt. one (suc i) (omega arith)) in
     let up : suc end + 1 ≡ suc (end + 1) = omega arith in
-    rw (ne_eqb b line_feed (one 0 (omega arith)), up) (ap (prepend_to_first_line b) rest)
+    rw (ne_eqb b line_feed (one 0 (omega arith)), up) (ap (first_byte b) rest)
 
 -- A line of a script, if a search in what is left from `start` on found its end.
 module _ (bs : List ℕ) (start len : ℕ) where
