@@ -84,10 +84,11 @@ pub fn signed_text(number: i32) -> ArrayString<11>
     line
 }
 
-/// Returns a number of bytes that is large enough for the digits of `number` and its sign.
+/// Returns a number of bytes, 40 at most, that is large enough for the digits of `number` and its sign.
 #[tactic(auto, using(arraystring::proofs::Rules::digits))]
 pub fn room_for_signed(number: i128) -> usize
-    ensures { size (signed_decimal number) ≤ result }
+    ensures enough { size (signed_decimal number) ≤ result }
+    ensures most { result ≤ 40 }
 {
     40
 }
