@@ -12,7 +12,7 @@ as it is, with its comments, and rustc compiles it or refuses it. A comment befo
  5. paths      `std` is `core`, `crate` and a crate's name a module of `crate::proved`, but for `leaf`, which is by hand.
  6. places     `[u8` behind `mut` or as the type of an `array` is of `leaf::MaybeByte`, which may have no value; `[0; N]` of `leaf::NEW_BYTE`.
  7. fields     A struct with an array is `#[repr(C)]` and has it last: no write into it seems to change a number. A field is `pub(crate)`.
- 8. constants  `as_str` and `as_bytes` are `const`: in Rattle an index is none, and in Rust it is `leaf::part`.
+ 8. constants  `as_str` and `as_bytes` are `const`: in Rattle an index is none, and in Rust it is `leaf::part_of_length`.
  9. examples   `# Examples` is left out of a comment: it would be a test of rustdoc, which sees no private module.
 10. formatter  `fn fmt<W: fmt::Write>(.. fmt::Formatter<W>)` is `fn fmt(.. fmt::Formatter<'_>)`.
 

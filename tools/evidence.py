@@ -42,7 +42,7 @@ FOR_TESTS = {"test_support", "memory_tests", "bench_calls"}
 # Callers that pages quote. What a call that they make can do wrong, its own crate shows.
 EXAMPLES = {"arraystring_uses", "arraystring_recipes", "bounded_records_uses"}
 # They borrow what they speak of, or call it, so that the prover has the fact. Without that they are as true.
-LAWS_THAT_BORROW = {"text_fits", "text_reads_back", "drain_left_fits", "keys_ascend"}
+LAWS_THAT_BORROW = {"text_fits", "utf8_decodes_to_text", "drain_text_fits", "keys_ascend"}
 # What the prover says before the values at which a goal is false; the log cuts it off somewhere behind.
 VALUES = "the goal does not follow from what it read. All of"
 # (what is refused only because a name is gone is told in other words, and is no evidence)

@@ -15,7 +15,7 @@ from repository import closed, read, sources
 
 # What moves bytes, or writes them over others: each `pub fn` of MODULE, each of LEAF but READS, and what a slice of std has.
 MODULE, LEAF = "crates/arraystring_base/src/moves.rt", "crates/arraystring_base/src/leaf.rt"
-MOVES, READS = {"shift", "shift_by_call", "write_over", "write_by_call"}, {"byte", "part", "text_before_boundary", "text_from_boundary", "make_upper", "make_lower"}
+MOVES, READS = {"shift", "shift_on_cold_path", "write_over", "write_by_call"}, {"byte", "part_of_length", "text_before_boundary", "text_from_boundary", "uppercase_between", "lowercase_between"}
 OF_STD = {"copy_within", "copy_from_slice", "clone_from_slice", "copy_to_slice", "swap", "swap_with_slice", "rotate_left", "rotate_right",
           "reverse", "iter_mut"}
 # A cut and a pop, and what they may call beside `look`: nothing of it reads a byte.

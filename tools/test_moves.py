@@ -82,11 +82,11 @@ class Moves(TreeTest):
                 ("byte", "byte(all, 1)"), ("first", "all.first()"), ("[", "all[1]"), ("count_looks", "count_looks(all, look(all, 1, steps))"))),
             ("pop_counted is no function that is given a Steps\n", (CUT, "pop_counted", "pop")),
             *((leaf(it), (CORE, r"\A", line)) for it, line in (
-                ("write_bytes", "use arraystring_base::leaf::write_bytes;\n"), ("move_bytes", "use arraystring_base::leaf::{byte, move_bytes};\n"),
+                ("write_bytes", "use arraystring_base::leaf::write_bytes;\n"), ("move_on_cold_path", "use arraystring_base::leaf::{byte, move_on_cold_path};\n"),
                 ("as", "use arraystring_base::leaf::{byte as moved};\n"), ("all", "use arraystring_base::{leaf as l};\n"),
                 ("all", "use arraystring_base::leaf::*;\n"))),
             (leaf("put_array"), (CORE, SOURCE.format("arraystring_base::leaf::put_array(all, 0, steps)"))),
         )
         for body in ("look(all, all.len(), steps)", "look(text.as_bytes(), 1, steps) // byte(all, 1)"):
-            with self.changed((CUT, LOOKING.format(body)), (CORE, r"\A", "use arraystring_base::leaf::{byte, part};\n")):
+            with self.changed((CUT, LOOKING.format(body)), (CORE, r"\A", "use arraystring_base::leaf::{byte, part_of_length};\n")):
                 self.assertFalse(self.told(moves)[0])

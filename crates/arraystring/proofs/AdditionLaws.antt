@@ -13,7 +13,7 @@ use Rattle.arraystring_base.proofs.CutLaws.{cut-all, cut-fits, cut-past_part}
 use Rattle.arraystring_base.proofs.BoundaryLaws.{boundary-within, front-start, back-start, boundary-is}
 use Rattle.arraystring_base.specs.declared.error.Error.{Error}
 use Rattle.arraystring_base.specs.declared.error.Error.TheVariants.{Utf8, OutOfBounds}
-use Rattle.arraystring_core.specs.Edits.{Past, Room, Inside, Makes, text_of, addition, addition_of_cut, insertion, insertion_of_cut}
+use Rattle.arraystring_core.specs.Edits.{Past, Room, Inside, Makes, text_after_edit, addition, addition_of_cut, insertion, insertion_of_cut}
 use Rattle.arraystring_core.proofs.EditLaws.{addition-no_cause, addition-room, inside-so}
 pub use Rattle.arraystring_core.proofs.EditLaws.{addition-made, addition-refused}
 use Rattle.arraystring.proofs.TestLaws.{inside-failed, index-held}
@@ -44,7 +44,7 @@ module _ {t : List ℕ} (given : List ℕ) (n : ℕ) {new : List ℕ} {result : 
   addition_of_cut-cuts fits m = rw (cut-past_part t given n fits) (edit-makes refl m).1
 
 -- for one character a refusal is a cut: if the text before fits, the text after is the cut of the text and the character
-pub addition-char_cuts : (t : List ℕ) (ch n : ℕ) → size t ≤ n → cut (t ++ ch ∷ []) n ≡ text_of (addition t (ch ∷ []) n) t
+pub addition-char_cuts : (t : List ℕ) (ch n : ℕ) → size t ≤ n → cut (t ++ ch ∷ []) n ≡ text_after_edit (addition t (ch ∷ []) n) t
 addition-char_cuts t ch n fits = grind (arith, nat_tests, append-nil t, cut-past_part t (ch ∷ []) n fits)
 
 -- less than all of it is added exactly if all of it does not fit

@@ -3,10 +3,10 @@ use Rattle.std.proofs.Common.{◌≡◌, ℕ, ◌+◌, ◌-◌, ◌≤◌, List,
 use Rattle.std.proofs.lemmas.Bool.Decides.{nat_tests}
 use Rattle.arraystring_base.specs.Text.{width, size, front, back, boundary}
 use Rattle.arraystring_base.proofs.TextLaws.{size-append}
-use Rattle.arraystring_core.specs.Edits.{part, part_in}
+use Rattle.arraystring_core.specs.Edits.{part, checked_part}
 pub use Rattle.arraystring_base.proofs.BoundaryLaws.{front-back, front-start, back-start, front-end, back-end, front-is, back-is, front-size, back-size}
 pub use Rattle.arraystring_base.proofs.BoundaryLaws.{boundary-is, boundary-end, boundary-within, boundary-prefix}
-pub use Rattle.arraystring_core.proofs.PartLaws.{part-joined, part-size, part_in-some}
+pub use Rattle.arraystring_core.proofs.PartLaws.{part-joined, part-size, checked_part-some}
 
 -- the start is a boundary
 pub boundary-start : (t : List ℕ) → boundary t 0 ≡ true
@@ -32,14 +32,14 @@ part-start t i = back-start (front t i)
 pub part-end : (t : List ℕ) (i : ℕ) → part t i (size t) ≡ back t i
 part-end t i = rw front-end refl
 
--- a range that has a part is in order and lies between two boundaries: `part_in` tests all three, and is `None` unless they hold
-pub part_in-found : (t : List ℕ) (start end : ℕ) {found : List ℕ} → part_in t start end ≡ Some found
+-- a range that has a part is in order and lies between two boundaries: `checked_part` tests all three, and is `None` unless they hold
+pub part_in-found : (t : List ℕ) (start end : ℕ) {found : List ℕ} → checked_part t start end ≡ Some found
     → (start ≤ end) × (boundary t start ≡ true) × (boundary t end ≡ true) × (found ≡ part t start end)
 part_in-found t start end {found} some = grind (arith, nat_tests)
 
 -- the range from the start to a boundary has a part: what is before the boundary
-pub part_in-front : (t : List ℕ) (i : ℕ) → boundary t i ≡ true → part_in t 0 i ≡ Some (front t i)
-part_in-front t i b = part_in-some t 0 i (omega arith) (boundary-start t) b ∙ ap (λ part. Some part) (part-start t i)
+pub part_in-front : (t : List ℕ) (i : ℕ) → boundary t i ≡ true → checked_part t 0 i ≡ Some (front t i)
+part_in-front t i b = checked_part-some t 0 i (omega arith) (boundary-start t) b ∙ ap (λ part. Some part) (part-start t i)
 
 -- a part is no larger than its text
 pub part-fits : (t : List ℕ) (start end : ℕ) → size (part t start end) ≤ size t

@@ -12,7 +12,7 @@ use Rattle.std.proofs.lemmas.Map.Keys.{Less-from_sorted}
 use Rattle.std.proofs.lemmas.Map.Lookups.{exact_bytes}
 use Rattle.std.proofs.lemmas.Map.Views.{tells_apart}
 use Rattle.arraystring_base.specs.Text.{IsBefore}
-use Rattle.arraystring_core.specs.Stored.{StringView, view_with_text}
+use Rattle.arraystring_core.specs.Stored.{StringView, view_with_empty_spare}
 use Rattle.arraystring_base.proofs.OrderLaws.{order-says}
 
 -- whether a key has the text t
@@ -21,7 +21,7 @@ has_text t = is_at (λ (key : StringView). slice_cmp nat_cmp t key.text)
 
 -- each text is that of a key: what is so of the text of each key is so of each text
 pub each-text : (P : List ℕ → Type 0) → ((key : StringView) → P key.text) → (t : List ℕ) → P t
-each-text P is t = is (view_with_text t)
+each-text P is t = is (view_with_empty_spare t)
 
 -- the entries before and after a call that changes what is under one key
 module _ {X : Type 0} (old new : List (StringView × X)) (text : List ℕ) where

@@ -9,7 +9,7 @@ use Rattle.arraystring_base.specs.Text.{size, front, back, boundary}
 use Rattle.arraystring_base.proofs.BoundaryLaws.{boundary-within}
 use Rattle.arraystring_base.specs.declared.error.Error.{Error}
 use Rattle.arraystring_base.specs.declared.error.Error.TheVariants.{Utf8, OutOfBounds}
-use Rattle.arraystring_core.specs.Edits.{Past, Room, Inside, Makes, reversed_range, part, draining, replacement}
+use Rattle.arraystring_core.specs.Edits.{Past, Room, Inside, Makes, reversed_range_test, part, draining, replacement}
 use Rattle.arraystring.proofs.TestLaws.{inside-failed, ends-held}
 use Rattle.arraystring.proofs.EditLaws.{edit-made, edit-makes, edit-refuses, edit-none_held, edit-first_held}
 
@@ -38,7 +38,7 @@ module _ {t : List ℕ} (start end : ℕ) {new : List ℕ} {result : Result (Lis
 
   -- a range that ends before it starts is refused first
   pub draining-crossed : end < start → Makes (draining t start end) t result new → (result ≡ Err OutOfBounds) × (new ≡ t)
-  draining-crossed reversed_range m = edit-refuses {cause = Past} (grind (arith, nat_tests)) m
+  draining-crossed reversed_range_test m = edit-refuses {cause = Past} (grind (arith, nat_tests)) m
 
   -- then one that ends past the text
   pub draining-past : start ≤ end → size t < end → Makes (draining t start end) t result new → (result ≡ Err OutOfBounds) × (new ≡ t)
@@ -78,7 +78,7 @@ module _ {t : List ℕ} (start end : ℕ) (given : List ℕ) (n : ℕ) {new : Li
 
   -- a range that ends before it starts is refused first
   pub replacement-crossed : end < start → Makes (replacement t start end given n) t result new → (result ≡ Err OutOfBounds) × (new ≡ t)
-  replacement-crossed reversed_range m = edit-refuses {cause = Past} (grind (arith, nat_tests)) m
+  replacement-crossed reversed_range_test m = edit-refuses {cause = Past} (grind (arith, nat_tests)) m
 
   -- then one that ends past the text
   pub replacement-past : start ≤ end → size t < end → Makes (replacement t start end given n) t result new

@@ -13,18 +13,18 @@ use Rattle.arraystring_base.proofs.TextLaws.{width-bounds, empty-size}
 use Rattle.arraystring_base.proofs.BoundaryLaws.{back-size, back-start, front-start, boundary-is, boundary-within}
 use Rattle.arraystring_base.specs.declared.error.Error.{Error}
 use Rattle.arraystring_base.specs.declared.error.Error.TheVariants.{Utf8, OutOfBounds}
-use Rattle.arraystring_core.specs.Edits.{Past, Inside, Makes, popping, truncation, removal, split, last_of, all_but_last}
+use Rattle.arraystring_core.specs.Edits.{Past, Inside, Makes, popping, truncation, removal, split, last_character, all_but_last}
 use Rattle.arraystring_core.proofs.EditLaws.{inside-not, inside-so}
 use Rattle.arraystring.proofs.TestLaws.{inside-failed, inside-fails, index-held}
 use Rattle.arraystring.proofs.EditLaws.{edit-made, edit-makes, edit-refuses, edit-none_held, edit-first_held}
 
 -- the last character of a text
-last-of : (t : List ℕ) (c : ℕ) → Some c ≡ last_of t → t ≡ all_but_last t ++ c ∷ []
+last-of : (t : List ℕ) (c : ℕ) → Some c ≡ last_character t → t ≡ all_but_last t ++ c ∷ []
 last-of [] c e = absurd (cc)
 last-of (a ∷ []) c e = cc
 last-of (a ∷ b ∷ t) c e = cc (last-of (b ∷ t) c e)
 
-none-of : (t : List ℕ) → None ≡ last_of t → t ≡ []
+none-of : (t : List ℕ) → None ≡ last_character t → t ≡ []
 none-of [] e = refl
 none-of (a ∷ []) e = absurd (cc)
 none-of (a ∷ b ∷ t) e = absurd (cc (none-of (b ∷ t) e))

@@ -1,2 +1,2 @@
--- These are the names of `arraystring.specs.InnerResult`. An old name stands after `as`, and stays until the next release.
+-- This module exports the definitions of `arraystring.specs.InnerResult`. Old names stand after `as`, until the next release.
 pub use Rattle.arraystring.specs.InnerResult.{inner_result, inner_result as held}

@@ -1,2 +1,2 @@
--- These are the names of `arraystring_core.specs.FromUtf16`. An old name stands after `as`, and stays until the next release.
-pub use Rattle.arraystring_core.specs.FromUtf16.{GivesWhole, GivesPrefix, stop_by_next, stop_by_next as stop_at}
+-- This module exports the definitions of `arraystring_core.specs.FromUtf16`. Old names stand after `as`, until the next release.
+pub use Rattle.arraystring_core.specs.FromUtf16.{GivesWholeOrError, GivesWholeOrError as GivesWhole, GivesPrefixOrFault, GivesPrefixOrFault as GivesPrefix, stop_before_item, stop_before_item as stop_by_next, stop_before_item as stop_at}

@@ -1,4 +1,4 @@
--- Contracts use this definition for the result of a constructor of `CacheString`.
+-- Contracts use this definition for the result of a call that makes a `CacheString`: a constructor, or `split_off`.
 use Rattle.std.specs.Prelude.{Result, Ok, Err}
 use Rattle.arraystring_core.specs.Stored.{StringView}
 use Rattle.arraystring.specs.declared.cache_string.CacheString.{CacheString}

@@ -1,4 +1,4 @@
--- The list that a loop makes, or keeps, if each step depends on the items before it.
+-- These definitions say what a loop makes of a list, or keeps of it, if each step depends on the items before it.
 use Rattle.std.specs.Prelude.{List, [], ◌∷◌, ◌++◌, ℕ, Bool, if◌then◌else◌}
 
 module _ {S X : Type 0} (next : S → X → S) where

@@ -1,2 +1,2 @@
--- The names of `arraystring_core.specs.Stored`. What stands after `as` is an old name, which stays until the next release.
-pub use Rattle.arraystring_core.specs.Stored.{StringView, StringView as Stored, view_with_text, view_with_text as string_of}
+-- This module exports the definitions of `arraystring_core.specs.Stored`. Old names stand after `as`, until the next release.
+pub use Rattle.arraystring_core.specs.Stored.{StringView, StringView as Stored, view_with_empty_spare, view_with_empty_spare as view_with_text, view_with_empty_spare as string_of}

@@ -7,8 +7,8 @@ ghost use Rattle.arraystring_base.specs.declared.error.Error.TheVariants as erro
 ghost use Rattle.arraystring_base.specs.declared.utf16.Unit16.{Unit16};
 ghost use Rattle.arraystring_base.specs.Text.{size, bytes, cut, IsText, IsWellFormed};
 ghost use Rattle.arraystring_base.specs.Utf16.{IsReading, first_stop, lossy_text, text_units};
-ghost use Rattle.arraystring_core.specs.Edits.{Makes, from_out_of_bounds, with_text, split};
-ghost use Rattle.arraystring_core.specs.FromUtf16.{GivesWhole, GivesPrefix};
+ghost use Rattle.arraystring_core.specs.Edits.{Makes, map_err_from_out_of_bounds, string_result_as_text, split};
+ghost use Rattle.arraystring_core.specs.FromUtf16.{GivesWholeOrError, GivesPrefixOrFault};
 ghost use Rattle.arraystring_core.specs.Construct.{IsWholeOrRefused};
 ghost use Rattle.arraystring_core.specs.Taken.{Takes, TakesAll, Fits, Gives, joined_texts, joined_pieces, piece_text};
 ghost use Rattle.arraystring.specs.Cached.{inner_result};
@@ -18,8 +18,9 @@ use arraystring_core::ArrayString;
 
 mod traits;
 
-/// A string of at most 63 bytes of UTF-8, under a name of its own. Its field `0` is an
-/// `ArrayString<63>`. Calls that a `CacheString` lacks are called on this field.
+/// A string of at most 63 bytes of UTF-8, under the name that 0.3.0 has for it. (There it was aligned to 64
+/// bytes, as a line of a processor's cache is. Here it is not.) Its field `0` is an `ArrayString<63>`. Calls
+/// that a `CacheString` lacks are called on this field.
 #[derive(Clone, Copy, Debug)]
 pub struct CacheString(pub ArrayString<63>);
 
@@ -44,7 +45,8 @@ impl CacheString {
     ///
     /// Returns `Err(OutOfBounds)` if `string` is larger than the capacity.
     pub fn try_from_str(string: &str) -> Result<Self, OutOfBounds>
-        ensures { IsWholeOrRefused (chars string.now) 63 (from_out_of_bounds (inner_result result)) }
+        ensures { IsWholeOrRefused (chars string.now) 63
+            (map_err_from_out_of_bounds (inner_result result)) }
     {
         Ok(CacheString(ArrayString::try_from_str(string)?))
     }
@@ -85,10 +87,12 @@ impl CacheString {
             I.IntoIter.remaining pieces }
         ensures taken { (taken : List (Bor (List ℕ)))
             × Takes I.into_iter_gives I.IntoIter.next_gives joined_pieces pieces 63 taken
-            × IsWholeOrRefused (joined_pieces taken) 63 (from_out_of_bounds (inner_result result)) }
+            × IsWholeOrRefused (joined_pieces taken) 63
+            (map_err_from_out_of_bounds (inner_result result)) }
         ensures whole { (all : List (List ℕ))
             → Gives I.into_iter_gives I.IntoIter.next_gives piece_text pieces all
-            → IsWholeOrRefused (joined_texts all) 63 (from_out_of_bounds (inner_result result)) }
+            → IsWholeOrRefused (joined_texts all) 63
+            (map_err_from_out_of_bounds (inner_result result)) }
     {
         Ok(CacheString(ArrayString::try_from_iterator(pieces)?))
     }
@@ -148,10 +152,10 @@ impl CacheString {
             I.IntoIter.remaining characters }
         ensures taken { (taken : List ℕ)
             × Takes I.into_iter_gives I.IntoIter.next_gives (λ cs. cs) characters 63 taken
-            × IsWholeOrRefused taken 63 (from_out_of_bounds (inner_result result)) }
+            × IsWholeOrRefused taken 63 (map_err_from_out_of_bounds (inner_result result)) }
         ensures whole { (all : List ℕ)
             → Gives I.into_iter_gives I.IntoIter.next_gives (λ c. c) characters all
-            → IsWholeOrRefused all 63 (from_out_of_bounds (inner_result result)) }
+            → IsWholeOrRefused all 63 (map_err_from_out_of_bounds (inner_result result)) }
     {
         Ok(CacheString(ArrayString::try_from_chars(characters)?))
     }
@@ -258,23 +262,24 @@ impl CacheString {
     /// - `Err(Error::OutOfBounds)` if it is a character that does not fit.
     pub fn try_from_utf16(units: &[u16]) -> Result<Self, Error>
         ensures whole { (items : List Unit16)
-            → IsReading units.now items → GivesWhole (first_stop items 63) (inner_result result) }
+            → IsReading units.now items
+            → GivesWholeOrError (first_stop items 63) (inner_result result) }
         ensures units { IfOk result (λ made. text_units made.0.text ≡ units.now) }
     {
         Ok(CacheString(ArrayString::try_from_utf16(units)?))
     }
 
-    /// Creates a string from the longest prefix of characters of `units` that fits. What comes
-    /// after a character that does not fit has no effect: the text is **cut** there.
-    /// `try_from_utf16` refuses what does not fit.
+    /// Creates a string from `units`, which are read in order, as characters and lone surrogates, up to the
+    /// first that cannot be appended. If it is a character that does not fit, the text is **cut** before it,
+    /// and nothing after it has an effect. `try_from_utf16` refuses what does not fit.
     ///
     /// # Errors
     ///
-    /// Returns `Err(Utf16)` if a lone surrogate comes right after that prefix, even if the string
-    /// is full.
+    /// Returns `Err(Utf16)` if it is a lone surrogate, even if the string is full.
     pub fn from_utf16(units: &[u16]) -> Result<Self, Utf16>
         ensures { (items : List Unit16)
-            → IsReading units.now items → GivesPrefix (first_stop items 63) (inner_result result) }
+            → IsReading units.now items
+            → GivesPrefixOrFault (first_stop items 63) (inner_result result) }
     {
         Ok(CacheString(ArrayString::from_utf16(units)?))
     }
@@ -299,7 +304,7 @@ impl CacheString {
     /// - `Err(Error::Utf8)` if `at` is inside a character.
     pub fn split_off(&mut self, at: u8) -> Result<Self, Error>
         ensures { Makes (split self.old.0.text at) self.old.0.text
-            (with_text (inner_result result)) self.new.0.text }
+            (string_result_as_text (inner_result result)) self.new.0.text }
     {
         Ok(CacheString(self.0.split_off(at)?))
     }

@@ -1,7 +1,7 @@
 //! Strings as JSON values of `serde_json`.
 ghost use Rattle.std.specs.Prelude.{◌≡◌, Some, None, IfOk, IfErr, MatchResult};
 ghost use Rattle.serde_json.specs.View.{view};
-ghost use Rattle.arraystring_core.specs.Json.{json_string, text_cut_to, whole_text, IsWhyRefused};
+ghost use Rattle.arraystring_core.specs.Json.{json_string, cut_text_of_value, text_of_value, IsWhyRefused};
 
 use crate::CacheString;
 use arraystring_core::ArrayString;
@@ -18,9 +18,9 @@ impl CacheString {
     pub fn to_value(&self, alloc: Global) -> Result<Value, AllocError>
         ensures text { IfOk result (λ value. view value ≡ json_string self.now.0.text) }
         ensures reads_back { IfOk result
-            (λ value. text_cut_to (view value) 63 ≡ Some self.now.0.text) }
+            (λ value. cut_text_of_value (view value) 63 ≡ Some self.now.0.text) }
         ensures reads_whole { IfOk result
-            (λ value. whole_text (view value) ≡ Some self.now.0.text) }
+            (λ value. text_of_value (view value) ≡ Some self.now.0.text) }
     {
         self.0.to_value(alloc)
     }
@@ -34,8 +34,8 @@ impl CacheString {
     /// an object.
     pub fn from_value(value: &Value) -> Result<Self, NotText>
         ensures { MatchResult result
-            (λ string. text_cut_to (view value.now) 63 ≡ Some string.0.text)
-            (λ _. text_cut_to (view value.now) 63 ≡ None) }
+            (λ string. cut_text_of_value (view value.now) 63 ≡ Some string.0.text)
+            (λ _. cut_text_of_value (view value.now) 63 ≡ None) }
     {
         Ok(CacheString(ArrayString::from_value(value)?))
     }
@@ -50,9 +50,9 @@ impl CacheString {
     ///   array or an object;
     /// - `Err(ValueError::OutOfBounds)` if the JSON string is larger than 63 bytes.
     pub fn try_from_value(value: &Value) -> Result<Self, ValueError>
-        ensures text { IfOk result (λ string. whole_text (view value.now) ≡ Some string.0.text) }
+        ensures text { IfOk result (λ string. text_of_value (view value.now) ≡ Some string.0.text) }
         ensures refusal { IfErr result
-            (λ error. IsWhyRefused (whole_text (view value.now)) 63 error) }
+            (λ error. IsWhyRefused (text_of_value (view value.now)) 63 error) }
     {
         Ok(CacheString(ArrayString::try_from_value(value)?))
     }

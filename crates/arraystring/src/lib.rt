@@ -3,8 +3,8 @@
 //!
 //! Callers name this crate alone: it has each public path of `arraystring_base` and
 //! `arraystring_core`, where the code is, but for what only these two crates call. That is the
-//! module `leaf` of `arraystring_base`, and of its `utils` `first_char`, `last_char`,
-//! `shift_by_call`, `write_over` and `write_by_call`. The tests are in `crates/arraystring_tests`.
+//! module `leaf` of `arraystring_base`, and of its `utils` `first_char_and_width`, `last_char_with_start`,
+//! `shift_on_cold_path`, `write_over` and `write_by_call`. The tests are in `crates/arraystring_tests`.
 #![tactic(auto)]
 
 mod cache_string;

@@ -2,6 +2,6 @@
 use Rattle.std.specs.Prelude.{ℕ}
 
 -- the number of calls of `look`, and the number of bytes that `shift` moved to another offset
-pub record Counts : Type 0 where
+pub record StepsView : Type 0 where
   pub looked : ℕ
   pub moved : ℕ

@@ -1,4 +1,4 @@
--- The ghost member `respects_eq` of `Error` cites this proof, so that equal errors have equal hashes.
+-- `Error` has to prove, in its ghost member `respects_eq`, that equal errors have equal hashes. It cites this proof for that.
 use Rattle.std.specs.Prelude.{◌≡◌, true}
 use Rattle.std.proofs.Common.{true≢false, refl, sym}
 use Rattle.arraystring_base.specs.declared.error.Error.{Error}

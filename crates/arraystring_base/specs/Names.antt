@@ -1,4 +1,4 @@
--- The names under which the errors are printed.
+-- An error is printed under this name.
 use Rattle.std.specs.Prelude.{List, ℕ, codes}
 use Rattle.arraystring_base.specs.declared.error.Error.{Error}
 use Rattle.arraystring_base.specs.declared.error.Error.TheVariants.{Utf8, Utf16, OutOfBounds}

@@ -1,4 +1,5 @@
--- A contract sees `Units` as the reading of the units that are left. It is computed from the last unit back to the first.
+-- A contract sees `Units`, an iterator over UTF-16, as the list of the characters and lone surrogates that are left. This list is the
+-- reading of the units that are left, and is computed from the last unit back to the first.
 use Rattle.std.specs.Prelude.{ℕ, Bool, ◌+◌, ◌-◌, ◌*◌, List, [], ◌∷◌, nat_lt, nat_le, ◌&&◌, if◌then◌else◌}
 use Rattle.arraystring_base.specs.declared.utf16.Unit16.{Unit16}
 use Rattle.arraystring_base.specs.declared.utf16.Unit16.TheVariants.{Char, Lone}
@@ -19,8 +20,8 @@ pair_character high low = 0x1_0000 + ((high - 0xD800) * 0x400 + (low - 0xDC00))
 unfoldable pub item_of_unpaired_unit : ℕ → Unit16
 item_of_unpaired_unit unit = if nat_le 0xD800 unit && nat_lt unit 0xE000 then Lone unit else Char unit
 
--- the reading of a unit and of what comes behind it, which is read as `items` already. If the unit is a high surrogate and the first of
--- the items a lone low one, both become one character. Else the item of the unit is put before the items
+-- the reading of a unit and of the units behind it, whose own reading is `items`. If the unit is a high surrogate, and the first item is a
+-- lone low surrogate, both become one character. Else the unit becomes an item of its own, before `items`
 unfoldable pub prepend_unit : ℕ → List Unit16 → List Unit16
 prepend_unit unit [] = item_of_unpaired_unit unit ∷ []
 prepend_unit unit (Char c ∷ items) = item_of_unpaired_unit unit ∷ Char c ∷ items

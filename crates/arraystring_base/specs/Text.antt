@@ -1,5 +1,5 @@
--- Texts, which are lists of characters, and their UTF-8 (Unicode Standard, section 3.9). Numbers are natural numbers here, so that no
--- sum overflows. A name in parentheses is a law, which proves what the comment says.
+-- A text is a list of characters, and this file defines its UTF-8 (Unicode Standard, section 3.9). Numbers are natural numbers here, so
+-- that no sum overflows. A name in parentheses is that of a law, which proves what the comment says.
 use Rattle.std.specs.Prelude.{◌≡◌, ℕ, ◌+◌, ◌-◌, ◌/◌, ◌%◌, ◌<◌, ◌≤◌, ◌⊎◌, ◌==◌, ⊤, Bool, min, List, [], ◌∷◌, ◌++◌, if◌then◌else◌, nat_lt, nat_le}
 
 -- a Unicode scalar value: any code point but a surrogate (3.9)
@@ -19,7 +19,7 @@ width c = if nat_lt c 0x80 then 1 else if nat_lt c 0x800 then 2 else if nat_lt c
 abbrev pub continuation : ℕ → ℕ
 continuation bits = 0x80 + bits % 64
 
--- the UTF-8 of a character, by the four ranges of its width (3.9, table 3-6)
+-- the UTF-8 of a character: one to four bytes, by the range that the character is in (3.9, table 3-6)
 unfoldable pub utf8 : ℕ → List ℕ
 utf8 c =
     if nat_lt c 0x80 then c ∷ [] else
@@ -73,8 +73,8 @@ pub record IsLongestFitting (p t : List ℕ) (n : ℕ) : Type 0 where
   pub fits : size p ≤ n
   pub longest : (q : List ℕ) → IsPrefix q t → size q ≤ n → IsPrefix q p
 
--- a comes before b in the order of `str` (`order_of_bytes`, `order_of_texts`): a is a prefix of b and shorter, or b has the greater
--- character where they first differ
+-- a comes before b in the order of `str` (`order_of_bytes`, `texts_are_totally_ordered`): a is a prefix of b and shorter, or b has the
+-- greater character where they first differ
 abbrev pub IsBefore : List ℕ → List ℕ → Type 0
 IsBefore a b =
     ((c : ℕ) × (rest : List ℕ) × (b ≡ a ++ c ∷ rest))

@@ -1,5 +1,5 @@
--- The reading of UTF-16 (Unicode Standard, sections 3.8 and 3.9), the place where it stops, and the units of a text. Numbers are natural
--- numbers here, so that no sum overflows.
+-- These definitions say how UTF-16 is read (Unicode Standard, sections 3.8 and 3.9), where a call stops in what it reads, and which units a
+-- text has. Numbers are natural numbers here, so that no sum overflows.
 use Rattle.std.specs.Prelude.{◌≡◌, ℕ, ◌+◌, ◌-◌, ◌/◌, ◌%◌, ◌<◌, ◌≤◌, List, [], ◌∷◌, ◌++◌, map, nat_lt, nat_le, if◌then◌else◌}
 use Rattle.std.specs.List.{All}
 use Rattle.arraystring_base.specs.Text.{IsScalarValue, width, size}
@@ -29,7 +29,7 @@ abbrev pub IsValidItem : Unit16 → Type 0
 IsValidItem (Char c) = IsScalarValue c
 IsValidItem (Lone unit) = (0xD800 ≤ unit) × (unit < 0xE000)
 
--- the units of an item
+-- the UTF-16 units that are read as this item
 abbrev pub item_units : Unit16 → List ℕ
 item_units (Char c) = utf16 c
 item_units (Lone unit) = unit ∷ []
@@ -44,39 +44,39 @@ abbrev pub NoPairApart : List Unit16 → Type 0
 NoPairApart items =
     (before after : List Unit16) (high low : ℕ) → items ≡ before ++ Lone high ∷ Lone low ∷ after → IsHigh high → IsLow low → ⊥
 
--- the items are a reading of the units: the units of all items, joined, are these units, and no pair is read as two lone surrogates
--- (3.9). Units below 0x10000 have exactly one reading (`only_reading`). For the units of a text it is the characters of the text
--- (`text_units_read_as_text`)
+-- the items are a reading of the units (3.9): each unit is below 0x10000, each item is valid, the units of all items, joined, are these
+-- units, and no pair is read as two lone surrogates. Such units have exactly one reading (`only_reading`), and that of the units of a text
+-- has exactly the characters of the text (`text_units_read_as_text`)
 pub record IsReading (units : List ℕ) (items : List Unit16) : Type 0 where
   pub each_unit : All (λ unit. unit < 0x1_0000) units
   pub each_item : All IsValidItem items
   pub joined : units ≡ joined_units items
   pub apart : NoPairApart items
 
--- the stop of a call that takes characters from items as long as they fit. A stop has the characters that were taken, and its case says
--- what comes right behind them: nothing (`End`), a lone surrogate (`Fault`), or a character that no longer fits (`Full`)
-pub data Stop : Type 0 where
-  End : List ℕ → Stop
-  Fault : List ℕ → Stop
-  Full : List ℕ → Stop
+-- how far a call got that takes characters, as long as they fit, from the items as which UTF-16 is read. Each case has the characters that
+-- it took, and says what comes right behind them: nothing (`End`), a lone surrogate (`Fault`), or a character that does not fit (`Full`)
+pub data DecodingStop : Type 0 where
+  End : List ℕ → DecodingStop
+  Fault : List ℕ → DecodingStop
+  Full : List ℕ → DecodingStop
 
--- a call that takes characters from these items, with room for n bytes, ends at this stop: the items begin with its characters, which fit,
--- and its case says what comes right behind them
-abbrev pub StopsAt : List Unit16 → ℕ → Stop → Type 0
-StopsAt items n (End prefix) = (items ≡ map Char prefix) × (size prefix ≤ n)
-StopsAt items n (Fault prefix) =
+-- a call that takes characters from these items, with room for n bytes, ends at this stop: the items begin with the characters of the stop,
+-- which fit, and the case of the stop says what comes right behind them
+abbrev pub IsStopOf : List Unit16 → ℕ → DecodingStop → Type 0
+IsStopOf items n (End prefix) = (items ≡ map Char prefix) × (size prefix ≤ n)
+IsStopOf items n (Fault prefix) =
     (unit : ℕ) × (rest : List Unit16) × (items ≡ map Char prefix ++ Lone unit ∷ rest) × (size prefix ≤ n)
-StopsAt items n (Full prefix) =
+IsStopOf items n (Full prefix) =
     (c : ℕ) × (rest : List Unit16) × (items ≡ map Char prefix ++ Char c ∷ rest) × (size prefix ≤ n) × (n < size prefix + width c)
 
--- a stop of the same case, with the character c put before those that were taken
-abbrev pub prepend_to_stop : ℕ → Stop → Stop
+-- a given stop, with the character c put before those that were taken; its case stays
+abbrev pub prepend_to_stop : ℕ → DecodingStop → DecodingStop
 prepend_to_stop c (End prefix) = End (c ∷ prefix)
 prepend_to_stop c (Fault prefix) = Fault (c ∷ prefix)
 prepend_to_stop c (Full prefix) = Full (c ∷ prefix)
 
--- the stop of the items after the longest prefix of characters that fits into n bytes (`only_first_stop`, `units_read_back`)
-abbrev pub first_stop : List Unit16 → ℕ → Stop
+-- the stop of a call that takes characters from the items as long as they fit into n bytes (`only_first_stop`)
+abbrev pub first_stop : List Unit16 → ℕ → DecodingStop
 first_stop [] n = End []
 first_stop (Lone unit ∷ items) n = Fault []
 first_stop (Char c ∷ items) n = if nat_le (width c) n then prepend_to_stop c (first_stop items (n - width c)) else Full []

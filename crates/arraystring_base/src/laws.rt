@@ -8,12 +8,12 @@ ghost use Rattle.std.specs.Ordering.{nat_cmp};
 ghost use Rattle.std.specs.Cmp.Lexicographic.{slice_cmp};
 ghost use Rattle.std.specs.declared.cmp.Ordering.TheVariants.{Less, Equal, Greater};
 ghost use Rattle.arraystring_base.specs.Text.{bytes, cut, size, front, back, boundary, IsText, IsWellFormed, IsPrefix, IsLongestFitting, IsBefore};
-ghost use Rattle.arraystring_base.specs.Utf16.{IsReading, Stop, StopsAt, first_stop, text_units};
+ghost use Rattle.arraystring_base.specs.Utf16.{IsReading, DecodingStop, IsStopOf, first_stop, text_units};
 ghost use Rattle.arraystring_base.specs.declared.utf16.Unit16.{Unit16};
 ghost use Rattle.arraystring_base.specs.declared.utf16.Unit16.TheVariants.{Char};
 
-/// The cut of a text to `n` bytes is the longest of its prefixes that take at most `n` bytes. No other
-/// text is this prefix. If the whole text takes at most `n` bytes, it is its own cut.
+/// The cut of a text to `n` bytes is the longest of its prefixes that take at most `n` bytes. There is
+/// exactly one longest. If the whole text takes at most `n` bytes, it is its own cut.
 pub fn longest_cut()
     ensures longest { (t p : List ℕ) (n : ℕ) → (p ≡ cut t n) ↔ IsLongestFitting p t n }
     ensures whole { (t : List ℕ) (n : ℕ) → size t ≤ n → cut t n ≡ t }
@@ -37,7 +37,7 @@ pub fn boundaries_are_sizes()
 /// the index is a boundary, the part before it has that many bytes. If a text is two texts joined, and the
 /// index is the size of the first, the parts are these two.
 #[tactic(auto, using(crate::proofs::BoundaryLaws::parts))]
-pub fn parts_join()
+pub fn split_and_join_invert()
     ensures joined { (t : List ℕ) (i : ℕ) → front t i ++ back t i ≡ t }
     ensures size { (t : List ℕ) (i : ℕ) → IsTrue (boundary t i) → size (front t i) ≡ i }
     ensures before { (p q : List ℕ) → front (p ++ q) (size p) ≡ p }
@@ -78,7 +78,7 @@ pub fn order_of_bytes()
 
 /// If two texts differ, one comes before the other. If `a` comes before `b` and `b` before `c`, `a`
 /// comes before `c`. No text comes before itself.
-pub fn order_of_texts()
+pub fn texts_are_totally_ordered()
     ensures total { (a b : List ℕ) → IsBefore a b ⊎ (a ≡ b) ⊎ IsBefore b a }
     ensures transitive { (a b c : List ℕ) → IsBefore a b → IsBefore b c → IsBefore a c }
     ensures itself { (a : List ℕ) → ¬ (IsBefore a a) }
@@ -96,12 +96,13 @@ pub fn text_units_read_as_text()
         → IsText t → (IsReading (text_units t) items) ↔ (items ≡ map Char t) }
 {}
 
-/// Take the longest prefix of characters of the items that takes at most `n` bytes, and what comes right
-/// after it: that is the first stop of the items at `n` bytes, and no other is.
+/// The first stop of items at `n` bytes is the longest prefix of characters that takes at most `n` bytes,
+/// together with what comes right after it: nothing, a lone surrogate, or a character that does not fit. There
+/// is exactly one.
 #[tactic(auto, using(crate::proofs::Utf16Laws::first_stop_is))]
 pub fn only_first_stop()
-    ensures { (items : List Unit16) (n : ℕ) (stop : Stop)
-        → (StopsAt items n stop) ↔ (first_stop items n ≡ stop) }
+    ensures { (items : List Unit16) (n : ℕ) (stop : DecodingStop)
+        → (IsStopOf items n stop) ↔ (first_stop items n ≡ stop) }
 {}
 
 /// `str::find` returns the boundary at which a character first stands. If it returns `None`, the character
@@ -111,7 +112,7 @@ pub fn only_first_stop()
 ///
 /// `place` must be what `text.find(c)` returned.
 #[tactic(auto, using(crate::proofs::FindLaws::find_first))]
-pub fn find_finds_first(text: &str, c: char, place: Option<usize>)
+pub fn str_find_gives_first(text: &str, c: char, place: Option<usize>)
     requires { MatchOption place (FindsChar c text.now None)
         (MatchBeginsAt (FindsChar c) text.now) }
     ensures { MatchOption place

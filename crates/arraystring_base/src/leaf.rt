@@ -3,7 +3,7 @@
 //! has as its precondition what Rust would test. So the proof of a call says that the test can be left out.
 //!
 //! What is public here reads, lends or turns case. What writes or moves is for `moves` and `utf8`: a string writes by
-//! `encode`, `write_over` and `write_by_call`, and moves by `shift` and `shift_by_call`, which count. Callers of
+//! `encode`, `write_over` and `write_by_call`, and moves by `shift` and `shift_on_cold_path`, which count. Callers of
 //! `arraystring` need none of this.
 ghost use Rattle.std.specs.Prelude.{◌≡◌, ◌+◌, ◌-◌, ◌<◌, ◌≤◌, ◌++◌, IsCharBoundary, length, map, take, drop, slice_index};
 ghost use Rattle.std.specs.Char.{to_ascii_uppercase, to_ascii_lowercase};
@@ -40,7 +40,7 @@ pub(crate) fn put_array<const K: usize>(all: &mut [u8], at: usize, bytes: [u8; K
 ///
 /// The slice must have that many bytes from there.
 #[inline(always)]
-pub fn part(bytes: &[u8], start: usize, len: usize) -> &[u8]
+pub fn part_of_length(bytes: &[u8], start: usize, len: usize) -> &[u8]
     requires { start + len ≤ length bytes.now }
     ensures { result.now ≡ take len (drop start bytes.now) }
 {
@@ -53,7 +53,7 @@ pub fn part(bytes: &[u8], start: usize, len: usize) -> &[u8]
 ///
 /// `start` must be at most `end`, and `end` at most the length.
 #[inline(always)]
-pub fn make_upper(all: &mut [u8], start: usize, end: usize)
+pub fn uppercase_between(all: &mut [u8], start: usize, end: usize)
     requires order { start ≤ end }
     requires within { end ≤ length all.old }
     ensures { all.new ≡ take start all.old
@@ -68,7 +68,7 @@ pub fn make_upper(all: &mut [u8], start: usize, end: usize)
 ///
 /// `start` must be at most `end`, and `end` at most the length.
 #[inline(always)]
-pub fn make_lower(all: &mut [u8], start: usize, end: usize)
+pub fn lowercase_between(all: &mut [u8], start: usize, end: usize)
     requires order { start ≤ end }
     requires within { end ≤ length all.old }
     ensures { all.new ≡ take start all.old
@@ -103,10 +103,16 @@ pub fn text_from_boundary(text: &str, start: usize) -> &str
     &text[start..]
 }
 
-/// Moves `len` bytes by `shift`, for code that runs seldom. (In Rust this is one `memmove` at any length, because its
-/// call is less code than the tests of the length in `shift`. Here `shift` is inlined, because a call would cost more.)
+/// Moves `len` bytes by `shift`. It is for code that seldom runs. (In the Cargo crate it is one `memmove`,
+/// which is less code than the tests of the length in `shift`. Here `shift` is inlined, because a call would
+/// cost more.)
 #[inline(always)]
-pub(crate) fn move_bytes<const N: usize>(array: &mut [u8; N], from: usize, to: usize, len: usize)
+pub(crate) fn move_on_cold_path<const N: usize>(
+    array: &mut [u8; N],
+    from: usize,
+    to: usize,
+    len: usize,
+)
     requires source { from + len ≤ N }
     requires target { to + len ≤ N }
     ensures { array.new
@@ -115,10 +121,11 @@ pub(crate) fn move_bytes<const N: usize>(array: &mut [u8; N], from: usize, to: u
     shift(array, from, to, len, &mut Steps::new());
 }
 
-/// Moves `len` bytes: 16 or more, and at most `N`. The compiler leaves out the branches for sizes above `N`. (In Rust
-/// this is one `memmove`. The kit has no fast one, so here the bytes go through vectors.)
+/// Moves `len` bytes: 16 or more, and at most `N`. The compiler leaves out the branches for sizes above `N`.
+/// (In the Cargo crate this is one `memmove`. The kit has no fast one, so here up to 256 bytes go through SIMD
+/// vectors. More would go through `copy_within`, but no string has more.)
 #[inline(always)]
-pub(crate) fn move_long_run<const N: usize>(all: &mut [u8], from: usize, to: usize, len: usize)
+pub(crate) fn move_16_or_more<const N: usize>(all: &mut [u8], from: usize, to: usize, len: usize)
     requires source { from + len ≤ length all.old }
     requires target { to + len ≤ length all.old }
     requires most { len ≤ N }
@@ -139,8 +146,8 @@ pub(crate) fn move_long_run<const N: usize>(all: &mut [u8], from: usize, to: usi
     }
 }
 
-/// Moves `len` bytes, which are from `2 * K` to `4 * K`: the first `2 * K` and the last `2 * K`, each as two vectors. Both may
-/// overlap, so all four vectors are read before the first is written.
+/// Moves `len` bytes, at least `2 * K` and at most `4 * K`: the first `2 * K` and the last `2 * K`, each as two
+/// vectors. Both may overlap, so all four vectors are read before the first is written.
 #[inline(always)]
 fn move_by_four_vectors<const K: usize>(all: &mut [u8], from: usize, to: usize, len: usize)
     requires source { from + len ≤ length all.old }
@@ -155,12 +162,13 @@ fn move_by_four_vectors<const K: usize>(all: &mut [u8], from: usize, to: usize, 
     let after_front = vector_at::<K>(all, from + K);
     let before_end = vector_at::<K>(all, from + rest);
     let end = vector_at::<K>(all, from + rest + K);
-    put_two_vectors(all, to, front, after_front);
-    put_two_vectors(all, to + rest, before_end, end);
+    put_adjacent_vectors(all, to, front, after_front);
+    put_adjacent_vectors(all, to + rest, before_end, end);
 }
 
-/// Writes any number of bytes. The proved build never inlines it, so its code stands there once. The parameters stand
-/// in the same order as in a call that appends, so that no register has to be moved for it.
+/// Writes `given` into `all` from index `at` on. In the build from Rattle it is never inlined, so a program has
+/// its code once. The target and then the text come first, as in a call that appends, so that no register has
+/// to be moved for this call.
 #[inline(never)]
 pub(crate) fn write_bytes(all: &mut [u8], given: &[u8], at: usize)
     requires { at + length given.now ≤ length all.old }
@@ -190,7 +198,7 @@ pub(crate) fn put_vector<const K: usize>(all: &mut [u8], at: usize, bytes: Simd<
 /// Writes the `2 * K` bytes of two vectors into `all`, from index `at` on.
 #[tactic(auto, using(crate::proofs::MoveLemmas::written_as_one))]
 #[inline(always)]
-fn put_two_vectors<const K: usize>(
+fn put_adjacent_vectors<const K: usize>(
     all: &mut [u8],
     at: usize,
     first: Simd<u8, K>,

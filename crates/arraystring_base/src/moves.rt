@@ -1,16 +1,16 @@
-//! The two moves of bytes: `shift` moves bytes inside an array, and `write_over` writes given bytes into one. Each has a
-//! second form, `shift_by_call` and `write_by_call`, for code that seldom runs. What makes them fast is in this file and
-//! in `leaf`.
+//! The two moves of bytes: `shift` moves bytes inside an array, and `write_over` writes given bytes into one.
+//! Each has a second form, `shift_on_cold_path` and `write_by_call`, for code that seldom runs. What makes them
+//! fast is in this file and in `leaf`.
 //!
-//! A run, which is so many bytes side by side, moves as its first `K` bytes and its last `K`. The two may overlap, so
-//! both are read before the first is written. `memmove` moves short runs in this way too. A byte that both have is
-//! written twice, to one offset, and counts as one move. They are read as vectors, since those stay in registers; arrays
-//! of bytes would be put on the stack. `N` is a constant, so the compiler leaves out the sizes that an array of `N` bytes
-//! can't have. `write_over` writes 16 bytes or more by a call, of `write_bytes`, which takes a slice and so stands once in
-//! a program.
+//! A run, which is so many bytes side by side, moves as its first `K` bytes and its last `K`. The two may
+//! overlap, so both are read before the first is written. `memmove` moves short runs in this way too. A byte
+//! that both have is written twice, to one offset, and counts as one move. They are read as vectors, since
+//! those stay in registers; arrays of bytes would be put on the stack. `N` is a constant, so the compiler
+//! leaves out the sizes that an array of `N` bytes can't have. `write_over` writes 16 bytes or more by a call,
+//! of `write_bytes`, which takes a slice and so stands once in a program.
 ghost use Rattle.std.specs.Prelude.{◌≡◌, ◌+◌, ◌-◌, ◌^◌, ◌==◌, if◌then◌else◌, ◌≤◌, ◌<◌, ◌++◌, length, take, drop};
 
-use crate::leaf::{move_bytes, move_long_run, put_vector, vector_at, write_bytes};
+use crate::leaf::{move_16_or_more, move_on_cold_path, put_vector, vector_at, write_bytes};
 use crate::steps::Steps;
 
 /// Moves `len` bytes of the array from the offset `from` to the offset `to`; the two runs may
@@ -41,20 +41,20 @@ pub fn shift<const N: usize>(
         if N < 16 || len < 16 {
             move_short_run::<N>(all, from, to, len);
         } else {
-            move_long_run::<N>(all, from, to, len);
+            move_16_or_more::<N>(all, from, to, len);
         }
         steps.count_moves(len);
     }
 }
 
-/// Moves and counts as `shift` does. It is for what runs seldom, where in Rust the tests of the length would only be more
-/// code.
+/// Moves and counts as `shift` does. It is for code that seldom runs. (In the Cargo crate it is one `memmove`,
+/// which is less code than the tests of the length in `shift`.)
 ///
 /// # Precondition
 ///
 /// Both runs must lie in the array, and the count of moves plus `len` must be below 2^64.
 #[inline(always)]
-pub fn shift_by_call<const N: usize>(
+pub fn shift_on_cold_path<const N: usize>(
     array: &mut [u8; N],
     from: usize,
     to: usize,
@@ -69,11 +69,12 @@ pub fn shift_by_call<const N: usize>(
     ensures moved { steps.new.moved ≡ steps.old.moved + (if from == to then 0 else len) }
     ensures looked { steps.new.looked ≡ steps.old.looked }
 {
-    move_bytes(array, from, to, len);
-    steps.count_moves_of_run(from, to, len);
+    move_on_cold_path(array, from, to, len);
+    steps.count_shift(from, to, len);
 }
 
-/// Moves `len` bytes: fewer than 16, and at most `N`. `N` is a constant, so the compiler leaves out the branches for more bytes.
+/// Moves `len` bytes: fewer than 16, and at most `N`. `N` is a constant, so the compiler leaves out the
+/// branches for more bytes.
 #[inline(always)]
 fn move_short_run<const N: usize>(all: &mut [u8], from: usize, to: usize, len: usize)
     requires source { from + len ≤ length all.old }
@@ -96,7 +97,7 @@ fn move_short_run<const N: usize>(all: &mut [u8], from: usize, to: usize, len: u
     }
 }
 
-/// Moves `len` bytes, from `K` to `2 * K` of them: the first `K` and the last `K`, which may overlap.
+/// Moves `len` bytes, at least `K` and at most `2 * K`: the first `K` and the last `K`, which may overlap.
 #[inline(always)]
 pub(crate) fn move_by_two_vectors<const K: usize>(
     all: &mut [u8],
@@ -137,8 +138,8 @@ pub fn write_over<const N: usize>(array: &mut [u8; N], at: usize, given: &[u8])
     }
 }
 
-/// Writes as `write_over` does, by one call at any length. It is for new strings and for what runs seldom, where the
-/// tests of the length would only be more code.
+/// Writes as `write_over` does, by one call at any length. It is for new strings and for code that seldom runs,
+/// where the tests of the length in `write_over` would only be more code.
 ///
 /// # Precondition
 ///
@@ -174,7 +175,7 @@ fn write_short_run<const N: usize>(all: &mut [u8], at: usize, given: &[u8])
     }
 }
 
-/// Writes `given`, from `K` to `2 * K` bytes: the first `K` and the last `K`, which may overlap.
+/// Writes `given`, at least `K` and at most `2 * K` bytes: the first `K` and the last `K`, which may overlap.
 #[inline(always)]
 fn write_by_two_vectors<const K: usize>(all: &mut [u8], at: usize, given: &[u8])
     requires room { at + length given.now ≤ length all.old }

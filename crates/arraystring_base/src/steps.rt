@@ -3,9 +3,9 @@ ghost use Rattle.std.specs.Prelude.{◌≡◌, ◌+◌, ◌-◌, ◌^◌, ◌<�
 
 use std::marker::Model;
 
-/// Most programs need no counter. A `Steps` counts the looks and the moves of calls whose names end in `_counted`.
-/// A look is one call of `look`. A move is one byte that `shift` takes to another offset.
-/// Bytes that a call reads without `look` are not counted.
+/// Most programs need no counter. A `Steps` counts the looks and the moves of the calls that are given it, such
+/// as `look`, `shift` and those whose names end in `_counted`. A look is one call of `look`. A move is one byte
+/// that `shift` takes to another offset. Bytes that a call reads without `look` are not counted.
 ///
 /// # Examples
 ///
@@ -23,9 +23,9 @@ pub struct Steps {
 
 impl Model for Steps {
     ghost use Rattle.std.specs.Prelude.{ℕ};
-    ghost use Rattle.arraystring_base.specs.Counts.{Counts};
+    ghost use Rattle.arraystring_base.specs.Counts.{StepsView};
 
-    ghost Value = { Counts };
+    ghost Value = { StepsView };
 
     ghost view = { λ s. record { looked = s.looked; moved = s.moved } };
 
@@ -101,7 +101,7 @@ impl Steps {
     }
 
     /// Counts the moves of `len` bytes from one offset to another: none if they stay.
-    pub(crate) fn count_moves_of_run(&mut self, from: usize, to: usize, len: usize)
+    pub(crate) fn count_shift(&mut self, from: usize, to: usize, len: usize)
         requires { self.old.moved + len < 2 ^ 64 }
         ensures moved { self.new.moved ≡ self.old.moved + (if from == to then 0 else len) }
         ensures looked { self.new.looked ≡ self.old.looked }

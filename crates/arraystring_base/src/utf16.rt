@@ -63,7 +63,7 @@ impl<'a> Iterator for Units<'a> {
             self.rest = rest;
             return Some(Unit16::Char(ch));
         }
-        if let Some((ch, rest)) = pair(unit, rest) {
+        if let Some((ch, rest)) = pair_char_and_rest(unit, rest) {
             self.rest = rest;
             return Some(Unit16::Char(ch));
         }
@@ -75,9 +75,9 @@ impl<'a> Iterator for Units<'a> {
 /// Once no item is left, `next` always returns `None`.
 impl<'a> FusedIterator for Units<'a> {}
 
-/// The character of the pair that `high` begins, and the units after the pair.
+/// The character of the pair that `high` begins, and the units after the pair, or `None` if there is no pair.
 #[inline]
-fn pair(high: u16, rest: &[u16]) -> Option<(char, &[u16])>
+fn pair_char_and_rest(high: u16, rest: &[u16]) -> Option<(char, &[u16])>
     ensures some { IfSome result (λ p. (low : ℕ)
         × IsHigh high × IsLow low × (p.0 ≡ pair_character high low) × (rest.now ≡ low ∷ p.1.now)) }
     ensures none { IfNone result ((low : ℕ) (more : List ℕ)

@@ -25,8 +25,8 @@ pub fn truncate_str(text: &str, size: u8) -> &str
     truncate_str_counted(text, size, &mut Steps::new())
 }
 
-/// Most programs need `truncate_str`, and none of the counted calls. Cuts as `truncate_str` does, and counts
-/// its looks in `steps`. It makes at most four looks, and at least one if `size` is above 0 and below the
+/// Cuts as `truncate_str` does, and counts its looks in `steps`. Most programs count nothing, and call
+/// `truncate_str`. This call makes at most four looks, and at least one if `size` is above 0 and below the
 /// length. It moves no byte.
 ///
 /// # Precondition
@@ -57,7 +57,7 @@ pub fn truncate_str_counted<'a>(text: &'a str, size: u8, steps: &mut Steps) -> &
     text_before_boundary(text, end)
 }
 
-/// The last boundary that is not past `limit`. It looks once at each byte from `limit` back to it.
+/// The last boundary that is not past `limit`. Looks once at each byte from `limit` back to that boundary.
 #[inline]
 fn last_boundary(text: &str, limit: usize, steps: &mut Steps) -> usize
     requires within { limit < length text.now }
@@ -71,8 +71,8 @@ fn last_boundary(text: &str, limit: usize, steps: &mut Steps) -> usize
 {
     let all = text.as_bytes();
     let mut end = limit;
-    // The first byte of a text continues no character, and at most three bytes in a row do. The bound is for
-    // the compiler, which unrolls the loop.
+    // The first byte of a text continues no character, and at most three bytes in a row do. So `limit - end < 3`
+    // changes no result. It is for the compiler, which unrolls the loop.
     while is_continuation(look(all, end, steps)) && limit - end < 3 {
         end -= 1;
     }
@@ -120,7 +120,7 @@ fn is_continuation(byte: u8) -> bool
 /// The text must not be empty.
 #[tactic(auto, using(crate::proofs::FirstLemmas::first_bytes), unfolding(crate::specs::Text::width))]
 #[inline]
-pub fn first_char(text: &str) -> (char, usize)
+pub fn first_char_and_width(text: &str) -> (char, usize)
     requires { 0 < length text.now }
     ensures first { (rest : List ℕ) × (text.now ≡ utf8 result.0 ++ rest) }
     ensures width { result.1 ≡ width result.0 }
@@ -163,7 +163,7 @@ pub fn first_char(text: &str) -> (char, usize)
 /// The count of looks plus four must be below 2^64.
 #[tactic(auto, using(crate::proofs::LastLemmas::chars_empty))]
 #[inline]
-pub fn last_char(text: &str, steps: &mut Steps) -> Option<(usize, char)>
+pub fn last_char_with_start(text: &str, steps: &mut Steps) -> Option<(usize, char)>
     requires { steps.old.looked + 4 < 2 ^ 64 }
     ensures some { IfSome result (λ last. (front : List ℕ)
         × (chars text.now ≡ front ++ last.1 ∷ []) × (size front ≡ last.0)) }
@@ -176,14 +176,14 @@ pub fn last_char(text: &str, steps: &mut Steps) -> Option<(usize, char)>
     if text.is_empty() {
         return None;
     }
-    let (start, ch) = char_before_end(text, steps);
+    let (start, ch) = last_char_of_nonempty(text, steps);
     Some((start, ch))
 }
 
 /// The last character of a text that has one, and where it begins. The bytes are read from the end
 /// back to the one that does not continue a character.
 #[inline]
-fn char_before_end(text: &str, steps: &mut Steps) -> (usize, char)
+fn last_char_of_nonempty(text: &str, steps: &mut Steps) -> (usize, char)
     requires some { 0 < length text.now }
     requires countable { steps.old.looked + 4 < 2 ^ 64 }
     ensures last { (front : List ℕ)
@@ -241,13 +241,13 @@ pub fn encode<const N: usize>(ch: char, array: &mut [u8; N], at: usize) -> usize
         put_array(all, at, [code as u8]);
         return 1;
     }
-    encode_non_ascii(ch, all, at)
+    write_non_ascii_at(ch, all, at)
 }
 
-/// Writes the UTF-8 of a character that is not ASCII. The compiler inlines it where that pays, and a cold function only
-/// calls it.
+/// Writes the UTF-8 of a character that is not ASCII into `all` from index `at` on, and returns its width. The
+/// compiler may inline it, and does where that pays. In a function that is marked `cold` it stays a call.
 #[tactic(auto, unfolding(crate::specs::Text::width, crate::specs::Text::utf8))]
-fn encode_non_ascii(ch: char, all: &mut [u8], at: usize) -> usize
+fn write_non_ascii_at(ch: char, all: &mut [u8], at: usize) -> usize
     requires room { at + width ch ≤ length all.old }
     requires wide { 0x80 ≤ ch }
     ensures width { result ≡ width ch }

@@ -3,13 +3,14 @@
 ghost use Rattle.std.specs.Prelude.{◌≤◌, ◌↔◌, IsOk};
 
 use crate::error::OutOfBounds;
-pub use crate::moves::{shift, shift_by_call, write_by_call, write_over};
+pub use crate::moves::{shift, shift_on_cold_path, write_by_call, write_over};
 pub use crate::steps::Steps;
 pub use crate::utf8::{
-    encode, first_char, is_boundary, last_char, look, truncate_str, truncate_str_counted,
+    encode, first_char_and_width, is_boundary, last_char_with_start, look, truncate_str,
+    truncate_str_counted,
 };
 
-/// Tests that `size` is at most `limit`.
+/// Tests that `size` is at most `limit`. The name is that of 0.3.0, and no boundary of characters is meant.
 ///
 /// # Errors
 ///

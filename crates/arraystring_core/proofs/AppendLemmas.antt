@@ -6,7 +6,7 @@ use Rattle.std.proofs.lemmas.List.{append-nil}
 use Rattle.arraystring_base.specs.Text.{utf8, width, size, cap, front, back, boundary}
 use Rattle.arraystring_base.proofs.TextLaws.{chars-bytes, utf8-is, length-utf8, size-borrowed}
 use Rattle.arraystring_core.specs.Stored.{StringView}
-use Rattle.arraystring_core.specs.Layout.{string_in, IsStringLayout}
+use Rattle.arraystring_core.specs.Layout.{string_in, MeetsStringInvariant}
 use Rattle.arraystring_core.proofs.SpanLemmas.{StoredAt, appended, appended_at_front, filled}
 
 module _ (ch : ℕ) (scalar : IsScalar ch) where
@@ -25,7 +25,7 @@ module _ (ch : ℕ) (scalar : IsScalar ch) where
     char-spelled same = ap chars (same ∙ char-in_front) ∙ char-chars
 
 -- len is the length of its UTF-8
-module _ {array_size : ℕ} {array : List ℕ} {p n : ℕ} (is : IsStringLayout array_size array p n) {v : StringView} (e : string_in array p n ≡ v)
+module _ {array_size : ℕ} {array : List ℕ} {p n : ℕ} (is : MeetsStringInvariant array_size array p n) {v : StringView} (e : string_in array p n ≡ v)
     (ch : ℕ) (scalar : IsScalar ch) {len : ℕ} (wide : len ≡ width ch) where
   pub char-appended : {after : List ℕ} → p + n + width ch ≤ cap array_size
       → after ≡ take (p + n) array ++ (utf8 ch ++ drop (p + n + width ch) array)

@@ -7,7 +7,7 @@ use Rattle.arraystring_base.specs.Text.{IsScalarValue, IsText, size, utf8, bytes
 use Rattle.arraystring_base.proofs.TextLaws.{bytes-utf8, chars-bytes, text-chars}
 use Rattle.arraystring_base.proofs.BoundaryLaws.{boundary-is, boundary-end, front-start, front-end, back-start, back-end}
 use Rattle.arraystring_core.specs.Stored.{StringView}
-use Rattle.arraystring_core.specs.Layout.{string_in, IsStringLayout}
+use Rattle.arraystring_core.specs.Layout.{string_in, MeetsStringInvariant}
 use Rattle.arraystring_core.specs.GhostProofs.{stored-utf8, stored-bytes}
 use Rattle.arraystring_core.proofs.StoredLaws.{opened-within}
 use Rattle.arraystring_core.specs.Edits.{part}
@@ -52,7 +52,7 @@ module _ (f : ℕ → ℕ) (is : IsAsciiChange f) where
   changed-chars t s = chars-bytes (changed-utf8 t s) (sym (bytes-change t))
 
 -- the bytes from start to end of the text that stands from p on are changed
-module _ {f : ℕ → ℕ} (is : IsAsciiChange f) {array_size : ℕ} {array : List ℕ} {p n : ℕ} (in_array : IsStringLayout array_size array p n) {v : StringView}
+module _ {f : ℕ → ℕ} (is : IsAsciiChange f) {array_size : ℕ} {array : List ℕ} {p n : ℕ} (in_array : MeetsStringInvariant array_size array p n) {v : StringView}
     (e : string_in array p n ≡ v) {start end : ℕ} (order : start ≤ end) (b : boundary v.text start ≡ true) (d : boundary v.text end ≡ true)
     {after : List ℕ}
     (written : after ≡ take (p + start) array ++ (map f (take (p + end - (p + start)) (drop (p + start) array)) ++ drop (p + end) array)) where

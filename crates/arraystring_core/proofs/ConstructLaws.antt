@@ -7,11 +7,11 @@ use Rattle.arraystring_base.proofs.CutLaws.{cut-all, cut-past}
 use Rattle.arraystring_base.specs.declared.error.Error.{Error}
 use Rattle.arraystring_base.specs.declared.error.OutOfBounds.{OutOfBounds}
 use Rattle.arraystring_core.specs.Stored.{StringView}
-use Rattle.arraystring_core.specs.Edits.{from_out_of_bounds}
+use Rattle.arraystring_core.specs.Edits.{map_err_from_out_of_bounds}
 use Rattle.arraystring_core.specs.Construct.{IsWholeOrRefused}
 
 -- what does not fit is refused
-pub refused-made : (result : Result StringView OutOfBounds) (t : List ℕ) (n : ℕ) → IsErr result → n < size t → IsWholeOrRefused t n (from_out_of_bounds result)
+pub refused-made : (result : Result StringView OutOfBounds) (t : List ℕ) (n : ℕ) → IsErr result → n < size t → IsWholeOrRefused t n (map_err_from_out_of_bounds result)
 refused-made (Ok s) t n err past = absurd (cc)
 refused-made (Err e) t n err past = (past, refl)
 

@@ -6,23 +6,23 @@ use Rattle.std.proofs.lemmas.List.{get_or-take, get_or-drop, drop_more}
 use Rattle.arraystring_base.specs.Text.{width, size, cap, bytes, front, back, boundary}
 use Rattle.arraystring_base.proofs.TextLaws.{size-append, size-borrowed, chars-bytes, empty-size}
 use Rattle.arraystring_base.proofs.BoundaryLaws.{front-back, front-is, back-is, front-size, back-size, boundary-is, bytes-back, next-char}
-use Rattle.arraystring_core.specs.Layout.{string_in, IsDrainLayout}
+use Rattle.arraystring_core.specs.Layout.{string_in, MeetsDrainInvariant}
 use Rattle.arraystring_core.specs.GhostProofs.{stored-utf8, stored-size, stored-bytes}
-use Rattle.arraystring_core.specs.Drained.{DrainView, drain_after_front}
+use Rattle.arraystring_core.specs.Drained.{DrainView, drain_advanced_to}
 use Rattle.arraystring_core.proofs.StoredLaws.{opened-within}
 use Rattle.arraystring_core.proofs.SpanLemmas.{StoredAt, dropped, kept}
 use Rattle.arraystring_core.proofs.EndLemmas.{low-width, first-low}
 
 -- c came off the front, or off the back, of the text t, and the part from i on of the n bytes from the offset p on is left
 pub record GivesFirst (array_size : ℕ) (array : List ℕ) (p n i : ℕ) (t : List ℕ) (c : ℕ) : Type 0 where
-  pub in_array : IsDrainLayout array_size array p n i
+  pub in_array : MeetsDrainInvariant array_size array p n i
   pub rest : t ≡ c ∷ back (string_in array p n).text i
 
 pub record GivesLast (array_size : ℕ) (array : List ℕ) (p n i : ℕ) (t : List ℕ) (c : ℕ) : Type 0 where
-  pub in_array : IsDrainLayout array_size array p n i
+  pub in_array : MeetsDrainInvariant array_size array p n i
   pub rest : t ≡ back (string_in array p n).text i ++ c ∷ []
 
-module _ {array_size : ℕ} {array : List ℕ} {p n i : ℕ} (is : IsDrainLayout array_size array p n i) where
+module _ {array_size : ℕ} {array : List ℕ} {p n i : ℕ} (is : MeetsDrainInvariant array_size array p n i) where
   abbrev removed : List ℕ
   removed = (string_in array p n).text
 
@@ -36,11 +36,11 @@ module _ {array_size : ℕ} {array : List ℕ} {p n i : ℕ} (is : IsDrainLayout
   pub borrowed-utf8 : IsUtf8 (take (n - i) (drop (p + i) array))
   borrowed-utf8 = stored-utf8 left_stored.in_array
 
-  pub borrowed-bytes : {v : DrainView} → drain_after_front (string_in array p n) i ≡ v → take (n - i) (drop (p + i) array) ≡ bytes v.left
+  pub borrowed-bytes : {v : DrainView} → drain_advanced_to (string_in array p n) i ≡ v → take (n - i) (drop (p + i) array) ≡ bytes v.left
   borrowed-bytes e = sym (stored-bytes left_stored.in_array) ∙ ap bytes (left_stored.shown ∙ ap (λ d. d.left) e)
 
   -- the value that a contract sees
-  module _ {v : DrainView} (e : drain_after_front (string_in array p n) i ≡ v) where
+  module _ {v : DrainView} (e : drain_advanced_to (string_in array p n) i ≡ v) where
     left-is : back removed i ≡ v.left
     left-is = ap (λ d. d.left) e
 

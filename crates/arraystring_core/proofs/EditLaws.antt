@@ -8,13 +8,13 @@ use Rattle.std.specs.Prelude.{◌&&◌, ◌||◌, ◌==◌, nat_le, nat_lt}
 use Rattle.arraystring_base.specs.Text.{size, boundary}
 use Rattle.arraystring_base.proofs.BoundaryLaws.{boundary-end}
 use Rattle.arraystring_core.specs.Held.{NoTestHolds}
-use Rattle.arraystring_core.specs.Edits.{Cause, Room, RefusalTest, Edit, Makes, first_cause, error_of, inside_character, addition, last_of, all_but_last, is_white_space}
+use Rattle.arraystring_core.specs.Edits.{RefusalCause, Room, RefusalTest, Edit, Makes, first_cause, error_of, inside_character_test, addition, last_character, all_but_last, is_white_space}
 use Rattle.arraystring_base.specs.declared.error.Error.{Error}
 use Rattle.arraystring_base.specs.declared.error.Error.TheVariants.{OutOfBounds}
 
 -- an edit with a cause, and one without
 module _ {A : Type 0} (edit : Edit A) (t : List ℕ) where
-  pub refuses : (cause : Cause) → first_cause edit.tests ≡ Some cause → Makes edit t (Err (error_of cause)) t
+  pub refuses : (cause : RefusalCause) → first_cause edit.tests ≡ Some cause → Makes edit t (Err (error_of cause)) t
   refuses cause e = record { returns = rw e refl; ok = tt; err = refl }
 
   pub makes : (value : A) (new : List ℕ) → first_cause edit.tests ≡ None → value ≡ edit.result → new ≡ edit.after
@@ -27,10 +27,10 @@ none-holds [] e = tt
 none-holds (test ∷ rest) e = grind (arith, none-holds rest)
 
 -- the last character of a text, and those before it
-pub last_of-push : (t : List ℕ) (c : ℕ) → last_of (t ++ c ∷ []) ≡ Some c
-last_of-push [] c = refl
-last_of-push (a ∷ []) c = refl
-last_of-push (a ∷ b ∷ t) c = last_of-push (b ∷ t) c
+pub last_character-push : (t : List ℕ) (c : ℕ) → last_character (t ++ c ∷ []) ≡ Some c
+last_character-push [] c = refl
+last_character-push (a ∷ []) c = refl
+last_character-push (a ∷ b ∷ t) c = last_character-push (b ∷ t) c
 
 pub all_but_last-push : (t : List ℕ) (c : ℕ) → all_but_last (t ++ c ∷ []) ≡ t
 all_but_last-push [] c = refl
@@ -38,18 +38,18 @@ all_but_last-push (a ∷ []) c = refl
 all_but_last-push (a ∷ b ∷ t) c = ap (λ l. a ∷ l) (all_but_last-push (b ∷ t) c)
 
 -- a boundary is not inside, and an index in the text that is no boundary is: it is not the end, which is a boundary
-pub inside-not : (t : List ℕ) (i : ℕ) → boundary t i ≡ true → (inside_character t i).holds ≡ false
+pub inside-not : (t : List ℕ) (i : ℕ) → boundary t i ≡ true → (inside_character_test t i).holds ≡ false
 inside-not t i b = rw b (and_right _ false refl)
 
-pub inside-so : (t : List ℕ) (i : ℕ) → i ≤ size t → boundary t i ≡ false → (inside_character t i).holds ≡ true
+pub inside-so : (t : List ℕ) (i : ℕ) → i ≤ size t → boundary t i ≡ false → (inside_character_test t i).holds ≡ true
 inside-so t i le b = grind (arith, nat_tests, boundary-end t)
 
 -- nor is an index past the text
-pub inside-past : (t : List ℕ) (i : ℕ) → size t ≤ i → (inside_character t i).holds ≡ false
+pub inside-past : (t : List ℕ) (i : ℕ) → size t ≤ i → (inside_character_test t i).holds ≡ false
 inside-past t i ge = rw (le-ltb i (size t) ge)
 
 -- an index in the text that is not inside a character is a boundary: if it were none, it would be inside
-pub inside-failed : (t : List ℕ) (i : ℕ) → i ≤ size t → (inside_character t i).holds ≡ false → boundary t i ≡ true
+pub inside-failed : (t : List ℕ) (i : ℕ) → i ≤ size t → (inside_character_test t i).holds ≡ false → boundary t i ≡ true
 inside-failed t i within out = grind (arith, inside-so t i within)
 
 -- an addition has a cause exactly if it does not fit
@@ -102,4 +102,4 @@ is_white_space_std c =
       or-false,
     ) refl
 
-pub ruleset popped = (last_of-push, all_but_last-push)
+pub ruleset popped = (last_character-push, all_but_last-push)

@@ -4,7 +4,7 @@ use Rattle.std.proofs.lemmas.Bool.{le-leb}
 use Rattle.arraystring_base.specs.Text.{size, front, back, boundary}
 use Rattle.arraystring_base.proofs.CutLaws.{cut-cut}
 use Rattle.arraystring_base.proofs.BoundaryLaws.{front-back, front-size, back-size, boundary-in_front}
-use Rattle.arraystring_core.specs.Edits.{part, part_in}
+use Rattle.arraystring_core.specs.Edits.{part, checked_part}
 
 module _ (t : List ℕ) (start end : ℕ) (order : start ≤ end) where
   -- what is before a part, the part and what is after it are the text
@@ -21,5 +21,5 @@ module _ (t : List ℕ) (start end : ℕ) (order : start ≤ end) where
       back-size (front t end) start (boundary-in_front t start end order starts) ∙ ap (λ k. k - start) (front-size t end ends)
 
   -- a range between two boundaries has its part
-  pub part_in-some : boundary t start ≡ true → boundary t end ≡ true → part_in t start end ≡ Some (part t start end)
-  part_in-some starts ends = rw (le-leb start end order, starts, ends) refl
+  pub checked_part-some : boundary t start ≡ true → boundary t end ≡ true → checked_part t start end ≡ Some (part t start end)
+  checked_part-some starts ends = rw (le-leb start end order, starts, ends) refl

@@ -4,15 +4,15 @@ use Rattle.std.proofs.lemmas.Bool.{ltb-false}
 use Rattle.arraystring_base.specs.Text.{size, front, back, boundary}
 use Rattle.arraystring_base.proofs.BoundaryLaws.{boundary-in_front}
 use Rattle.arraystring_core.specs.Stored.{StringView}
-use Rattle.arraystring_core.specs.Layout.{string_in, IsStringLayout}
-use Rattle.arraystring_core.specs.Edits.{part, draining, first_cause, ok_unless, Makes}
+use Rattle.arraystring_core.specs.Layout.{string_in, MeetsStringInvariant}
+use Rattle.arraystring_core.specs.Edits.{part, draining, first_cause, ok_unless_cause, Makes}
 use Rattle.arraystring_core.proofs.StoredLaws.{opened-size}
 use Rattle.arraystring_core.proofs.EditLaws.{makes, none-holds, inside-failed}
 use Rattle.arraystring_core.proofs.CauseLemmas.{no_cause}
 use Rattle.arraystring_core.proofs.SpanLemmas.{StoredAt, dropped, kept}
 
 -- the part between two boundaries of a stored text, where it is in the array
-module _ {array_size : ℕ} {array : List ℕ} {p n : ℕ} (is : IsStringLayout array_size array p n) {v : StringView} (e : string_in array p n ≡ v)
+module _ {array_size : ℕ} {array : List ℕ} {p n : ℕ} (is : MeetsStringInvariant array_size array p n) {v : StringView} (e : string_in array p n ≡ v)
     {start end : ℕ} (order : start ≤ end) (b : boundary v.text start ≡ true) (d : boundary v.text end ≡ true) where
   pub part_stored : StoredAt array_size array (p + start) (end - start) (part v.text start end)
   part_stored =
@@ -28,12 +28,12 @@ pub record IsTakable (array_size : ℕ) (array : List ℕ) (p n : ℕ) (v : Stri
   pub within : end ≤ n
   pub starts : boundary v.text start ≡ true
   pub ends : boundary v.text end ≡ true
-  pub in_array : IsStringLayout array_size array (p + start) (end - start)
+  pub in_array : MeetsStringInvariant array_size array (p + start) (end - start)
   pub made : (left new : List ℕ) → left ≡ (string_in array (p + start) (end - start)).text → new ≡ front v.text start ++ back v.text end
       → Makes (draining v.text start end) v.text (Ok left) new
 
-pub takable : {array_size : ℕ} {array : List ℕ} {p n : ℕ} → IsStringLayout array_size array p n → {v : StringView} → string_in array p n ≡ v → (start end : ℕ)
-    → Ok (tt {0}) ≡ ok_unless (first_cause (draining v.text start end).tests) (tt {0}) → IsTakable array_size array p n v start end
+pub takable : {array_size : ℕ} {array : List ℕ} {p n : ℕ} → MeetsStringInvariant array_size array p n → {v : StringView} → string_in array p n ≡ v → (start end : ℕ)
+    → Ok (tt {0}) ≡ ok_unless_cause (first_cause (draining v.text start end).tests) (tt {0}) → IsTakable array_size array p n v start end
 takable is {v = v} e start end checked =
     let edit = draining v.text start end in
     let none = no_cause edit.tests checked in

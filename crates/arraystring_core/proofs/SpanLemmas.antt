@@ -8,14 +8,14 @@ use Rattle.arraystring_base.specs.Text.{size, cap, front, back, boundary}
 use Rattle.arraystring_base.proofs.TextLaws.{bytes-utf8, size-borrowed}
 use Rattle.arraystring_base.proofs.BoundaryLaws.{bytes-front, bytes-back, front-text, back-text}
 use Rattle.arraystring_core.specs.Stored.{StringView}
-use Rattle.arraystring_core.specs.Layout.{string_in, IsStringLayout}
+use Rattle.arraystring_core.specs.Layout.{string_in, MeetsStringInvariant}
 use Rattle.arraystring_core.specs.GhostProofs.{stored-utf8}
 use Rattle.arraystring_core.proofs.StoredLaws.{opened-bytes, opened-size, opened-within, opened-text, text_spelled}
 use Rattle.arraystring_core.proofs.GapLemmas.{written, written-from-zero, shifted}
 
 -- the n bytes of the array from the offset p on are the text t, and end within the capacity
 pub record StoredAt (array_size : ℕ) (array : List ℕ) (p n : ℕ) (t : List ℕ) : Type 0 where
-  pub in_array : IsStringLayout array_size array p n
+  pub in_array : MeetsStringInvariant array_size array p n
   pub shown : chars (take n (drop p array)) ≡ t
 
 -- these bytes are the UTF-8 of t
@@ -48,7 +48,7 @@ joined {array = array} {p} {n} {m} one two =
     stored-from-utf8 array p (n + m) (IsUtf8-append _ _ u w) (rw (chars-append _ _ u, one.shown, two.shown)) one.in_array.length
     (omega (arith, two.in_array)) both
 
-module _ {array_size : ℕ} {array : List ℕ} {p n : ℕ} (is : IsStringLayout array_size array p n) {v : StringView} (e : string_in array p n ≡ v) where
+module _ {array_size : ℕ} {array : List ℕ} {p n : ℕ} (is : MeetsStringInvariant array_size array p n) {v : StringView} (e : string_in array p n ≡ v) where
   -- the part before the boundary m, and that from it on
   module _ (m : ℕ) (b : boundary v.text m ≡ true) where
     pub kept : StoredAt array_size array p m (front v.text m)
@@ -119,7 +119,7 @@ module _ {array_size : ℕ} {array : List ℕ} {p n : ℕ} (is : IsStringLayout 
           (written-from-zero _ _ _ start over)
 
 -- the text was moved to offset 0, and then `given` was written behind it
-pub appended_at_front : {array_size : ℕ} {array : List ℕ} {p n : ℕ} (is : IsStringLayout array_size array p n) {v : StringView} → string_in array p n ≡ v
+pub appended_at_front : {array_size : ℕ} {array : List ℕ} {p n : ℕ} (is : MeetsStringInvariant array_size array p n) {v : StringView} → string_in array p n ≡ v
     → {given moved after : List ℕ} → IsUtf8 given → n + length given ≤ cap array_size
     → moved ≡ take 0 array ++ (take n (drop p array) ++ drop (0 + n) array)
     → after ≡ take n moved ++ (given ++ drop (n + length given) moved)

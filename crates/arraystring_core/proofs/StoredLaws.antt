@@ -5,11 +5,11 @@ use Rattle.arraystring_base.specs.Text.{size, bytes, boundary, IsText}
 use Rattle.arraystring_base.proofs.TextLaws.{text-chars, chars-bytes, bytes-utf8}
 use Rattle.arraystring_base.proofs.BoundaryLaws.{boundary-within}
 use Rattle.arraystring_core.specs.Stored.{StringView}
-use Rattle.arraystring_core.specs.Layout.{string_in, IsStringLayout, start_of}
+use Rattle.arraystring_core.specs.Layout.{string_in, MeetsStringInvariant, start_of}
 use Rattle.arraystring_core.specs.GhostProofs as ghost_proof
 
 -- the value that a contract sees
-module _ {array_size : ℕ} {array : List ℕ} {start n : ℕ} (is : IsStringLayout array_size array start n) {v : StringView} (e : string_in array start n ≡ v) where
+module _ {array_size : ℕ} {array : List ℕ} {start n : ℕ} (is : MeetsStringInvariant array_size array start n) {v : StringView} (e : string_in array start n ≡ v) where
   pub opened-bytes : bytes v.text ≡ take n (drop start array)
   opened-bytes = ap (λ s. bytes s.text) (sym e) ∙ ghost_proof.stored-bytes is
 

@@ -4,8 +4,8 @@ use Rattle.std.proofs.lemmas.Bool.{cases_Bool}
 use Rattle.std.proofs.lemmas.List.{reverse-append, reverse-reverse}
 use Rattle.std.proofs.lemmas.List.Elements.{All-nil, All-cons, All-head, All-tail, All-append}
 use Rattle.std.specs.Prelude.{All, IfSome, reverse}
-use Rattle.arraystring_core.specs.Edits.{first_of, last_of, without_leading, without_trailing}
-use Rattle.arraystring_core.proofs.EditLaws.{last_of-push}
+use Rattle.arraystring_core.specs.Edits.{first_character, last_character, without_leading, without_trailing}
+use Rattle.arraystring_core.proofs.EditLaws.{last_character-push}
 use Rattle.arraystring_core.proofs.EndLemmas.{last-split}
 
 -- a first character that passes is dropped, and one that does not stays
@@ -31,7 +31,7 @@ pub record IsDropped (p : ℕ → Bool) (t left : List ℕ) : Type 0 where
   pub dropped : List ℕ
   pub parts : t ≡ dropped ++ left
   pub pass : All (λ c. p c ≡ true) dropped
-  pub bare : IfSome (first_of left) (λ c. p c ≡ false)
+  pub bare : IfSome (first_character left) (λ c. p c ≡ false)
 
 pub leading : (p : ℕ → Bool) (t : List ℕ) → IsDropped p t (without_leading p t)
 leading p [] = record { dropped = []; parts = refl; pass = All-nil _; bare = tt }
@@ -56,14 +56,14 @@ All-reverse P (c ∷ cs) h =
     rw (reverse-append (c ∷ []) cs)
     (All-append P (reverse cs) (c ∷ []) (All-reverse P cs (All-tail P c cs h)) (All-cons P c [] (All-head P c cs h) (All-nil P)))
 
-last-bare : (P : ℕ → Type 0) (xs ys : List ℕ) → IfSome (first_of (reverse (xs ++ ys))) P → IfSome (last_of ys) P
+last-bare : (P : ℕ → Type 0) (xs ys : List ℕ) → IfSome (first_character (reverse (xs ++ ys))) P → IfSome (last_character ys) P
 last-bare P xs [] = λ h. tt
 last-bare P xs (c ∷ cs) =
     let last = last-split c cs in
-    subst (λ l. IfSome (first_of (reverse (xs ++ l))) P → IfSome (last_of l) P) (sym last.2)
-    (λ h. rw (last_of-push last.0 last.1) (rw (reverse-append xs (last.0 ++ last.1 ∷ []), reverse-append last.0 (last.1 ∷ [])) at h))
+    subst (λ l. IfSome (first_character (reverse (xs ++ l))) P → IfSome (last_character l) P) (sym last.2)
+    (λ h. rw (last_character-push last.0 last.1) (rw (reverse-append xs (last.0 ++ last.1 ∷ []), reverse-append last.0 (last.1 ∷ [])) at h))
 
-pub trailing-bare : (p : ℕ → Bool) (t : List ℕ) → IfSome (last_of (without_leading p (without_trailing p t))) (λ c. p c ≡ false)
+pub trailing-bare : (p : ℕ → Bool) (t : List ℕ) → IfSome (last_character (without_leading p (without_trailing p t))) (λ c. p c ≡ false)
 trailing-bare p t =
     let is = leading p (without_trailing p t) in
     last-bare (λ c. p c ≡ false) is.dropped (without_leading p (without_trailing p t))

@@ -1,4 +1,4 @@
--- The result of a constructor that takes the whole text, or refuses it.
+-- Some constructors take the whole text or refuse it, and this definition says what they return.
 use Rattle.std.specs.Prelude.{◌≡◌, ℕ, ◌<◌, ◌≤◌, List, Result, MatchResult}
 use Rattle.arraystring_base.specs.Text.{size}
 use Rattle.arraystring_base.specs.declared.error.Error.{Error}

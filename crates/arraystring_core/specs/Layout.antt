@@ -1,10 +1,10 @@
--- The place of a text in the array of an `ArrayString` or a `Drain`.
+-- These definitions say where the text of an `ArrayString` or a `Drain` lies in its array.
 use Rattle.std.specs.Prelude.{◌≡◌, ℕ, ◌+◌, ◌≤◌, List, ◌∷◌, ◌++◌, length, take, drop, chars, slice_index, IsUtf8, IsTrue}
 use Rattle.arraystring_base.specs.Text.{bytes, cap, boundary}
 use Rattle.arraystring_core.specs.Stored.{StringView}
 
--- the string whose text is the n bytes of the array from `start` on; its spare numbers are `start`, and then the bytes before the text
--- and behind it
+-- the view of the string whose text is the n bytes of the array from `start` on. Its `spare` holds the rest of the string as one list:
+-- first the number `start`, then the bytes before the text, and then those behind it (`array_of` puts the array together again)
 abbrev pub string_in : List ℕ → ℕ → ℕ → StringView
 string_in array start n = record {
   text = chars (take n (drop start array));
@@ -13,18 +13,18 @@ string_in array start n = record {
 
 -- the invariant of a string: its array has `array_size` bytes, and the n bytes from `start` on, its text, are UTF-8 and end within the
 -- capacity
-pub record IsStringLayout (array_size : ℕ) (array : List ℕ) (start n : ℕ) : Type 0 where
+pub record MeetsStringInvariant (array_size : ℕ) (array : List ℕ) (start n : ℕ) : Type 0 where
   pub within : start + n ≤ cap array_size
   pub length : length array ≡ array_size
   pub utf8 : ∥ IsUtf8 (take n (drop start array)) ∥₁
 
--- the invariant of a `Drain`: the n bytes of its array from `start` on are the removed text, without what was given from the back, and i,
--- before which lies what was given from the front, is a boundary of that text
-pub record IsDrainLayout (array_size : ℕ) (array : List ℕ) (start n i : ℕ) : Type 0 where
-  pub in_array : IsStringLayout array_size array start n
+-- the invariant of a `Drain`: the n bytes of its array from `start` on are the removed text without what was given from the back. The first
+-- i of these bytes are what was given from the front, and i is a boundary
+pub record MeetsDrainInvariant (array_size : ℕ) (array : List ℕ) (start n i : ℕ) : Type 0 where
+  pub in_array : MeetsStringInvariant array_size array start n
   pub at : IsTrue (boundary (string_in array start n).text i)
 
--- the offset in its array at which the text of a string starts, computed from what a contract sees of the string
+-- the offset at which the text of a string starts in its array, computed from what a contract sees of the string
 abbrev pub start_of : StringView → ℕ
 start_of v = slice_index v.spare 0
 

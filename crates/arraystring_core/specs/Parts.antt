@@ -1,18 +1,18 @@
--- The characters and parts of a text: its first and last character, what stands between two boundaries, and what is left if the
--- characters at an end for which a test is true are dropped.
+-- These definitions are parts of a text: its first and last character, what stands between two boundaries, and what is left if some
+-- characters at its start or end are dropped.
 use Rattle.std.specs.Prelude.{ℕ, List, [], ◌∷◌, Bool, ◌&&◌, Option, Some, None, if◌then◌else◌, nat_le, reverse}
 use Rattle.arraystring_base.specs.Text.{front, back, boundary}
 
 -- the first character of a text, if any
-abbrev pub first_of : List ℕ → Option ℕ
-first_of [] = None
-first_of (c ∷ cs) = Some c
+abbrev pub first_character : List ℕ → Option ℕ
+first_character [] = None
+first_character (c ∷ cs) = Some c
 
 -- the last character of a text, if any
-abbrev pub last_of : List ℕ → Option ℕ
-last_of [] = None
-last_of (c ∷ []) = Some c
-last_of (c ∷ d ∷ ds) = last_of (d ∷ ds)
+abbrev pub last_character : List ℕ → Option ℕ
+last_character [] = None
+last_character (c ∷ []) = Some c
+last_character (c ∷ d ∷ ds) = last_character (d ∷ ds)
 
 -- the text without its last character
 abbrev pub all_but_last : List ℕ → List ℕ
@@ -34,5 +34,5 @@ abbrev pub part : List ℕ → ℕ → ℕ → List ℕ
 part t start end = back (front t end) start
 
 -- the part in a range, or `None` if the range ends before it starts, or if an end of the range is no boundary
-abbrev pub part_in : List ℕ → ℕ → ℕ → Option (List ℕ)
-part_in t start end = if nat_le start end && (boundary t start && boundary t end) then Some (part t start end) else None
+abbrev pub checked_part : List ℕ → ℕ → ℕ → Option (List ℕ)
+checked_part t start end = if nat_le start end && (boundary t start && boundary t end) then Some (part t start end) else None

@@ -1,4 +1,4 @@
--- The items that a call takes from an iterator that is passed in, and the text of the pieces that the iterator gives.
+-- These definitions say which items a call takes from an iterator that is passed in, and which text is made of the pieces that it gives.
 use Rattle.std.specs.Prelude.{◌≡◌, ℕ, ◌<◌, ◌≤◌, List, [], ◌∷◌, ◌++◌, ◌⊎◌, Option, map, chars}
 use Rattle.std.specs.Iterator.{Drains, Yields, AlwaysYields}
 use Rattle.std.specs.Borrow.{Bor}
@@ -13,11 +13,11 @@ joined_texts (t ∷ ts) = t ++ joined_texts ts
 abbrev pub piece_text : Bor (List ℕ) → List ℕ
 piece_text piece = chars piece.now
 
--- the texts of borrowed pieces, one after the other (`pieces_make_one_text`)
+-- the texts of borrowed pieces, one after the other
 abbrev pub joined_pieces : List (Bor (List ℕ)) → List ℕ
 joined_pieces pieces = joined_texts (map piece_text pieces)
 
--- the last of the items does not fit into the room behind those before it, which fit; `spelled` makes the text of items
+-- all items but the last fit into the room, and with the last they do not. `spelled` makes the text of a list of items
 abbrev pub OnlyLastDoesNotFit : {A : Type 0} → (List A → List ℕ) → ℕ → List A → Type 0
 OnlyLastDoesNotFit {A} spelled room items = (before : List A) × (last : A) × (items ≡ before ++ last ∷ [])
     × (size (spelled before) ≤ room) × (room < size (spelled items))
@@ -29,7 +29,7 @@ module _ {U T A : Type 0} (becomes : U → T → Type 0) (steps : T → Option A
   TakesAll iter items = (it : T) × becomes iter it × Drains steps it items
 
   -- the items that a call takes: all that come, if they fit into the room, and else those up to the first that no longer fits, which is
-  -- among them (`what_comes_past_the_room`)
+  -- among them (`cut_ignores_excess`)
   abbrev pub Takes : (List A → List ℕ) → U → ℕ → List A → Type 0
   Takes spelled iter room items = (it : T) × becomes iter it
       × ((Drains steps it items × (size (spelled items) ≤ room))

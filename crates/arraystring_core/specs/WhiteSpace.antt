@@ -1,9 +1,9 @@
--- White space: the characters that a trim drops.
+-- These definitions say which characters are white space, which a trim drops.
 use Rattle.std.specs.Prelude.{ℕ, List, [], ◌∷◌, Bool, false, ◌&&◌, ◌||◌, ◌==◌, nat_le}
 
 -- whether c is the space, U+0020
-abbrev pub is_space : ℕ → Bool
-is_space c = c == 0x20
+abbrev pub equals_space : ℕ → Bool
+equals_space c = c == 0x20
 
 -- whether c is in one of these ranges, each given by its first and its last character
 abbrev pub in_ranges : List (ℕ × ℕ) → ℕ → Bool

@@ -43,7 +43,7 @@ ghost use Rattle.std.specs.Prelude.{◌≡◌, ◌+◌, ◌≤◌, ◌↔◌, []
 ghost use Rattle.arraystring_base.specs.Text.{size, bytes, cap, IsText};
 ghost use Rattle.arraystring_core.specs.Layout.{start_of};
 
-use arraystring_base::leaf::part;
+use arraystring_base::leaf::part_of_length;
 use std::marker::Model;
 use std::str;
 
@@ -101,14 +101,14 @@ pub struct ArrayString<const N: usize> {
 impl<const N: usize> Model for ArrayString<N> {
     ghost use Rattle.arraystring_base.specs.Text.{size as text_size};
     ghost use Rattle.arraystring_core.specs.Stored.{StringView};
-    ghost use Rattle.arraystring_core.specs.Layout.{string_in, IsStringLayout, start_of, array_of};
+    ghost use Rattle.arraystring_core.specs.Layout.{string_in, MeetsStringInvariant, start_of, array_of};
     ghost use Rattle.arraystring_core.specs.GhostProofs.{stored-size, stored-all};
 
     ghost Value = { StringView };
 
     ghost view = { λ s. string_in s.array s.start s.size };
 
-    ghost invariant = { λ s. IsStringLayout N s.array s.start s.size };
+    ghost invariant = { λ s. MeetsStringInvariant N s.array s.start s.size };
 
     ghost inverse = { λ v.
         record { array = array_of v; start = start_of v; size = text_size v.text } };
@@ -187,7 +187,7 @@ impl<const N: usize> ArrayString<N> {
     {
         let (size, start) = (self.size as usize, self.start as usize);
         // SAFETY: the `size` bytes from `start` on are UTF-8, as the fields of the type say.
-        unsafe { str::from_utf8_unchecked(part(&self.array, start, size)) }
+        unsafe { str::from_utf8_unchecked(part_of_length(&self.array, start, size)) }
     }
 
     /// Returns the bytes of the text, borrowed without a copy. There are as many as `len` returns.
@@ -199,7 +199,7 @@ impl<const N: usize> ArrayString<N> {
         ensures text { IsText self.now.text }
         ensures fits { size self.now.text ≤ cap N }
     {
-        part(&self.array, self.start as usize, self.size as usize)
+        part_of_length(&self.array, self.start as usize, self.size as usize)
     }
 
     /// The offset at which the text ends.

@@ -2,9 +2,9 @@
 //! impls of traits.
 ghost use Rattle.std.specs.Prelude.{◌≡◌, ◌≤◌, chars};
 ghost use Rattle.arraystring_base.specs.Text.{bytes, cap, size, IsText};
-ghost use Rattle.arraystring_core.specs.Layout.{string_in, IsStringLayout};
+ghost use Rattle.arraystring_core.specs.Layout.{string_in, MeetsStringInvariant};
 
-use arraystring_base::leaf::part;
+use arraystring_base::leaf::part_of_length;
 use std::marker::Model;
 use std::str;
 
@@ -13,12 +13,12 @@ mod traits;
 /// An iterator over the characters that `drain` removed from a string. It returns each of them
 /// once, from the front or from the back, and borrows nothing.
 ///
-/// Contracts name the list of the characters that are left. A drain has a copy of the string's
-/// array, and allocates nothing.
+/// In contracts `left` is the list of the characters that are left. A drain has a copy of the string's array,
+/// and allocates nothing.
 #[derive(Clone, Copy)]
 pub struct Drain<const N: usize> {
-    // These numbers lie in front of the array, where no offset into it reaches. So the compiler knows that a read of the
-    // array reads none of them.
+    // These numbers stand before the array in memory, and no offset into the array is negative. So the compiler knows
+    // that a read of the array reads none of them.
     /// What is left begins at this index of the removed text. It is a boundary of the first `size` bytes of
     /// that text, so it is at most `size`.
     front: u8,
@@ -26,24 +26,24 @@ pub struct Drain<const N: usize> {
     start: u8,
     /// The size of the removed text, without what was returned from the back.
     size: u8,
-    /// The array of the string, as it was before the removal. The `size` bytes from `start` on are
-    /// UTF-8.
+    /// The array of the string, as it was before the removal. The `size` bytes from `start` on are UTF-8: what
+    /// was returned from the front, and then what is left.
     array: [u8; N],
 }
 
 impl<const N: usize> Model for Drain<N> {
     ghost use Rattle.arraystring_base.specs.Text.{size as text_size};
-    ghost use Rattle.arraystring_core.specs.Layout.{string_in, IsDrainLayout, start_of, array_of};
-    ghost use Rattle.arraystring_core.specs.Drained.{DrainView, drain_after_front, removed_of};
+    ghost use Rattle.arraystring_core.specs.Layout.{string_in, MeetsDrainInvariant, start_of, array_of};
+    ghost use Rattle.arraystring_core.specs.Drained.{DrainView, drain_advanced_to, removed_string_without_backs};
     ghost use Rattle.arraystring_core.specs.GhostProofs.{drained-front, drained-array, drained-size};
 
     ghost Value = { DrainView };
 
-    ghost view = { λ d. drain_after_front (string_in d.array d.start d.size) d.front };
+    ghost view = { λ d. drain_advanced_to (string_in d.array d.start d.size) d.front };
 
-    ghost invariant = { λ d. IsDrainLayout N d.array d.start d.size d.front };
+    ghost invariant = { λ d. MeetsDrainInvariant N d.array d.start d.size d.front };
 
-    ghost inverse = { λ v. let removed = removed_of v in
+    ghost inverse = { λ v. let removed = removed_string_without_backs v in
         record {
           front = text_size v.yielded;
           start = start_of removed;
@@ -63,7 +63,7 @@ impl<const N: usize> Drain<N> {
     /// Returns a drain of which the `size` bytes of the array from `start` on are left.
     #[inline(always)]
     pub(crate) fn new(array: [u8; N], start: u8, size: u8) -> Self
-        requires { IsStringLayout N array start size }
+        requires { MeetsStringInvariant N array start size }
         ensures { result.left ≡ (string_in array.entry start size).text }
     {
         Drain {
@@ -92,6 +92,6 @@ impl<const N: usize> Drain<N> {
         let front = self.front as usize;
         let (start, len) = (self.start as usize + front, self.size as usize - front);
         // SAFETY: the removed text is UTF-8, and `front` is a boundary of it, as the fields of the type say.
-        unsafe { str::from_utf8_unchecked(part(&self.array, start, len)) }
+        unsafe { str::from_utf8_unchecked(part_of_length(&self.array, start, len)) }
     }
 }

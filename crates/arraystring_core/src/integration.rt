@@ -2,7 +2,7 @@
 ghost use Rattle.std.specs.Prelude.{◌≡◌, Some, None, IfOk, IfErr, MatchResult, codes};
 ghost use Rattle.serde_json.specs.View.{view};
 ghost use Rattle.arraystring_base.specs.Text.{cap};
-ghost use Rattle.arraystring_core.specs.Json.{json_string, text_cut_to, whole_text, IsWhyRefused, value_error_name};
+ghost use Rattle.arraystring_core.specs.Json.{json_string, cut_text_of_value, text_of_value, IsWhyRefused, value_error_name};
 ghost use Rattle.arraystring_core.specs.declared.integration.ValueError.TheVariants as cases;
 
 use crate::ArrayString;
@@ -100,8 +100,9 @@ impl<const N: usize> ArrayString<N> {
     pub fn to_value(&self, alloc: Global) -> Result<Value, AllocError>
         ensures text { IfOk result (λ value. view value ≡ json_string self.now.text) }
         ensures reads_back { IfOk result
-            (λ value. text_cut_to (view value) (cap N) ≡ Some self.now.text) }
-        ensures reads_whole { IfOk result (λ value. whole_text (view value) ≡ Some self.now.text) }
+            (λ value. cut_text_of_value (view value) (cap N) ≡ Some self.now.text) }
+        ensures reads_whole { IfOk result
+            (λ value. text_of_value (view value) ≡ Some self.now.text) }
     {
         Ok(Value::String(String::from_str(alloc, self.as_str())?))
     }
@@ -115,8 +116,8 @@ impl<const N: usize> ArrayString<N> {
     /// an object.
     pub fn from_value(value: &Value) -> Result<Self, NotText>
         ensures { MatchResult result
-            (λ string. text_cut_to (view value.now) (cap N) ≡ Some string.text)
-            (λ _. text_cut_to (view value.now) (cap N) ≡ None) }
+            (λ string. cut_text_of_value (view value.now) (cap N) ≡ Some string.text)
+            (λ _. cut_text_of_value (view value.now) (cap N) ≡ None) }
     {
         let text = value.as_str().ok_or(NotText)?;
         Ok(Self::from_str_truncate(text))
@@ -132,9 +133,9 @@ impl<const N: usize> ArrayString<N> {
     ///   array or an object;
     /// - `Err(ValueError::OutOfBounds)` if the JSON string is larger than the capacity.
     pub fn try_from_value(value: &Value) -> Result<Self, ValueError>
-        ensures text { IfOk result (λ string. whole_text (view value.now) ≡ Some string.text) }
+        ensures text { IfOk result (λ string. text_of_value (view value.now) ≡ Some string.text) }
         ensures refusal { IfErr result
-            (λ error. IsWhyRefused (whole_text (view value.now)) (cap N) error) }
+            (λ error. IsWhyRefused (text_of_value (view value.now)) (cap N) error) }
     {
         let text = value.as_str().ok_or(NotText)?;
         Ok(Self::try_from_str(text)?)

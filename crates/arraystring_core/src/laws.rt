@@ -1,5 +1,5 @@
 //! Laws of strings, which callers may rely on. Each carries its fact in its contract and changes
-//! nothing. `text_fits`, `text_reads_back` and `drain_left_fits` call `len` or `as_str`, the others do nothing
+//! nothing. `text_fits`, `utf8_decodes_to_text` and `drain_text_fits` call `len` or `as_str`, the others do nothing
 //! when called.
 ghost use Rattle.std.specs.Prelude.{◌≡◌, ◌+◌, ◌-◌, ◌<◌, ◌≤◌, ◌++◌, ◌∷◌, ◌↔◌, ℕ, Bool, false, List, [], All, IfSome, IsTrue, None, Some, Result, IsOkAnd, length, map, nat_eq, option_map, reverse, chars};
 ghost use Rattle.std.specs.Char.{is_whitespace};
@@ -12,10 +12,10 @@ ghost use Rattle.arraystring_base.specs.declared.error.Error.{Error};
 ghost use Rattle.arraystring_base.specs.declared.error.Utf16.{Utf16};
 ghost use Rattle.arraystring_base.specs.declared.utf16.Unit16.{Unit16};
 ghost use Rattle.arraystring_base.specs.Utf16.{IsReading, first_stop, lossy_text, text_units};
-ghost use Rattle.arraystring_core.specs.Drained.{DrainView, End, walk_of};
-ghost use Rattle.arraystring_core.specs.Edits.{first_cause, first_of, last_of, part, popping, replacement, split, trimming, is_white_space};
-ghost use Rattle.arraystring_core.specs.FromUtf16.{GivesWhole, GivesPrefix};
-ghost use Rattle.arraystring_core.specs.Json.{json_string, text_cut_to, whole_text};
+ghost use Rattle.arraystring_core.specs.Drained.{DrainView, DrainEnd, walk_from_ends};
+ghost use Rattle.arraystring_core.specs.Edits.{first_cause, first_character, last_character, part, popping, replacement, split, trimming_matches, is_white_space};
+ghost use Rattle.arraystring_core.specs.FromUtf16.{GivesWholeOrError, GivesPrefixOrFault};
+ghost use Rattle.arraystring_core.specs.Json.{json_string, cut_text_of_value, text_of_value};
 ghost use Rattle.arraystring_core.specs.Stored.{StringView};
 ghost use Rattle.arraystring_core.specs.Taken.{joined_texts};
 
@@ -26,17 +26,18 @@ use crate::{ArrayString, Drain};
 pub fn text_fits<const N: usize>(string: &ArrayString<N>)
     ensures { size string.now.text ≤ cap N }
 {
-    // Outside the module of a type, the prover knows its invariant only after a call on the value.
+    // Outside the module of its type, the prover knows the invariant of a value only after a call on it, such as this
+    // one.
     let _ = string.len();
 }
 
 /// The UTF-8 of the text of a string, read as characters, is the text again.
 #[inline]
 #[tactic(auto, using(crate::proofs::StoredLaws::text_spelled))]
-pub fn text_reads_back<const N: usize>(string: &ArrayString<N>)
+pub fn utf8_decodes_to_text<const N: usize>(string: &ArrayString<N>)
     ensures { chars (bytes string.now.text) ≡ string.now.text }
 {
-    // This call makes the invariant known, as in `text_fits`.
+    // The prover knows the invariant of the string only after a call on it, such as this one.
     let _ = string.as_str();
 }
 
@@ -50,16 +51,17 @@ pub fn drain_gives_left<const N: usize>(drained: &Drain<N>)
 
 /// What is left of a drain fits the capacity of the string from which it was taken.
 #[inline]
-pub fn drain_left_fits<const N: usize>(drained: &Drain<N>)
+pub fn drain_text_fits<const N: usize>(drained: &Drain<N>)
     ensures { size drained.now.left ≤ cap N }
 {
-    // This call makes the invariant known, as in `text_fits`.
+    // The prover knows the invariant of the drain only after a call on it, such as this one.
     let _ = drained.as_str();
 }
 
-/// If some characters or pieces no longer fit, what comes after them changes no cut.
+/// If some characters, or some pieces joined, take more than `n` bytes, nothing behind them changes the cut to
+/// `n` bytes.
 #[tactic(auto, using(crate::proofs::TakenLaws::past_the_room))]
-pub fn what_comes_past_the_room()
+pub fn cut_ignores_excess()
     ensures characters { (taken more : List ℕ) (n : ℕ) → n < size taken
         → cut (taken ++ more) n ≡ cut taken n }
     ensures pieces { (taken more : List (List ℕ)) (n : ℕ)
@@ -70,7 +72,7 @@ pub fn what_comes_past_the_room()
 /// pieces joined, and has the same cuts. So `from_iterator` of pieces does what `from_str_truncate`
 /// of the joined pieces does.
 #[tactic(auto, using(crate::proofs::TakenLaws::bytes_joined))]
-pub fn pieces_make_one_text(whole: &str)
+pub fn chars_of_joined_pieces(whole: &str)
     ensures text { (pieces : List (List ℕ)) → whole.now ≡ joined_texts (map bytes pieces)
         → chars whole.now ≡ joined_texts pieces }
     ensures cut { (pieces : List (List ℕ)) (n : ℕ)
@@ -79,15 +81,17 @@ pub fn pieces_make_one_text(whole: &str)
 
 /// The UTF-16 of a text that fits is read back as that text by `try_from_utf16`, `from_utf16` and
 /// `from_utf16_lossy`: no other result meets their contracts.
-pub fn units_read_back()
+pub fn from_utf16_reads_back()
     ensures reading { (t : List ℕ) → IsText t
         → (items : List Unit16) × IsReading (text_units t) items }
     ensures whole { (t : List ℕ) (n : ℕ) (items : List Unit16) (result : Result StringView Error)
         → IsText t → size t ≤ n → IsReading (text_units t) items
-        → GivesWhole (first_stop items n) result → IsOkAnd result (λ string. string.text ≡ t) }
+        → GivesWholeOrError (first_stop items n) result
+        → IsOkAnd result (λ string. string.text ≡ t) }
     ensures prefix { (t : List ℕ) (n : ℕ) (items : List Unit16) (result : Result StringView Utf16)
         → IsText t → size t ≤ n → IsReading (text_units t) items
-        → GivesPrefix (first_stop items n) result → IsOkAnd result (λ string. string.text ≡ t) }
+        → GivesPrefixOrFault (first_stop items n) result
+        → IsOkAnd result (λ string. string.text ≡ t) }
     ensures lossy { (t : List ℕ) (n : ℕ) (items : List Unit16)
         → IsText t → size t ≤ n → IsReading (text_units t) items → cut (lossy_text items) n ≡ t }
 {}
@@ -109,13 +113,13 @@ pub fn trim_drops_both_ends()
     ensures dropped { (passes : ℕ → Bool) (t : List ℕ)
         → (before behind : List ℕ)
         × All (λ c. IsTrue (passes c)) before × All (λ c. IsTrue (passes c)) behind
-        × (t ≡ before ++ ((trimming passes t).after ++ behind)) }
+        × (t ≡ before ++ ((trimming_matches passes t).after ++ behind)) }
     ensures bare { (passes : ℕ → Bool) (t : List ℕ)
-        → IfSome (first_of (trimming passes t).after) (λ c. passes c ≡ false)
-        × IfSome (last_of (trimming passes t).after) (λ c. passes c ≡ false) }
+        → IfSome (first_character (trimming_matches passes t).after) (λ c. passes c ≡ false)
+        × IfSome (last_character (trimming_matches passes t).after) (λ c. passes c ≡ false) }
 {}
 
-/// The ranges of white space are those of `char::is_whitespace`.
+/// `is_white_space` holds of the same characters as `char::is_whitespace`.
 #[tactic(auto, using(crate::proofs::EditLaws::is_white_space_std))]
 pub fn white_space_is_that_of_std()
     ensures { (c : ℕ) → is_white_space c ≡ is_whitespace c }
@@ -124,14 +128,14 @@ pub fn white_space_is_that_of_std()
 /// If a split is not refused, the text before it is the text that it keeps, followed by the part
 /// that it returns.
 #[tactic(auto, using(arraystring_base::proofs::BoundaryLaws::parts))]
-pub fn split_parts_join()
+pub fn split_off_parts_join()
     ensures { (t : List ℕ) (i : ℕ) → first_cause (split t i).tests ≡ None
         → (split t i).after ++ (split t i).result ≡ t }
 {}
 
-/// What is replaced can be put back. Suppose that a replacement in a text that fits `n` bytes is
-/// not refused. Then replace what was given by what was taken out: that is not refused either, and
-/// leaves the text before.
+/// What is replaced can be put back. Suppose that a replacement in a text that fits `n` bytes is not refused.
+/// Then replace what was given by what was taken out: that is not refused either, and the text is again what it
+/// was at first.
 pub fn replacement_turns_back()
     ensures allowed { (t given : List ℕ) (start end n : ℕ) → size t ≤ n →
         first_cause (replacement t start end given n).tests ≡ None →
@@ -147,14 +151,15 @@ pub fn replacement_turns_back()
 /// what came from the front, then what is left, then what came from the back in reversed order.
 /// While a character is left, each call takes one. So after as many calls as there are characters
 /// nothing is left, and a call then gives nothing.
-pub fn walk_gives_each_once()
-    ensures whole { (ends : List End) (t : List ℕ)
-        → (walk_of ends t).fronts ++ ((walk_of ends t).left ++ reverse (walk_of ends t).backs) ≡ t }
-    ensures each { (ends : List End) (t : List ℕ)
-        → length (walk_of ends t).left ≡ length t - length ends }
-    ensures all { (ends : List End) (t : List ℕ) → length t ≤ length ends
-        → (walk_of ends t).left ≡ [] }
-    ensures ended { (ends : List End) → walk_of ends [] ≡ walk_of [] [] }
+pub fn ends_give_each_once()
+    ensures whole { (ends : List DrainEnd) (t : List ℕ)
+        → (walk_from_ends ends t).fronts
+        ++ ((walk_from_ends ends t).left ++ reverse (walk_from_ends ends t).backs) ≡ t }
+    ensures each { (ends : List DrainEnd) (t : List ℕ)
+        → length (walk_from_ends ends t).left ≡ length t - length ends }
+    ensures all { (ends : List DrainEnd) (t : List ℕ) → length t ≤ length ends
+        → (walk_from_ends ends t).left ≡ [] }
+    ensures ended { (ends : List DrainEnd) → walk_from_ends ends [] ≡ walk_from_ends [] [] }
 {}
 
 /// Two strings are equal by `==` if and only if their texts are the same. So `==` is reflexive,
@@ -175,16 +180,17 @@ pub fn equal_texts()
 /// that text.
 #[tactic(auto, using(crate::proofs::JsonLaws::reads_back))]
 pub fn json_reads_back()
-    ensures { (t : List ℕ) (n : ℕ) → IsText t → size t ≤ n → text_cut_to (json_string t) n ≡ Some t }
+    ensures { (t : List ℕ) (n : ℕ) → IsText t → size t ≤ n
+        → cut_text_of_value (json_string t) n ≡ Some t }
 {}
 
-/// If a JSON value was made of a text, its whole text is that text. Reading any JSON value within `n`
-/// bytes (`text_cut_to`) cuts its whole text to `n` bytes. A whole text of at most `n` bytes is not cut.
+/// If a JSON value was made of a text, `text_of_value` gives this text. For any JSON value `cut_text_of_value`
+/// gives its text cut to `n` bytes, or none if the value is no string. A text of at most `n` bytes is not cut.
 #[tactic(auto, using(crate::proofs::JsonLaws::whole))]
-pub fn json_reads_whole()
-    ensures back { (t : List ℕ) → IsText t → whole_text (json_string t) ≡ Some t }
+pub fn json_whole_and_cut()
+    ensures back { (t : List ℕ) → IsText t → text_of_value (json_string t) ≡ Some t }
     ensures cut { (value : Data) (n : ℕ)
-        → text_cut_to value n ≡ option_map (λ t. cut t n) (whole_text value) }
-    ensures same { (value : Data) (t : List ℕ) (n : ℕ) → whole_text value ≡ Some t → size t ≤ n
-        → text_cut_to value n ≡ Some t }
+        → cut_text_of_value value n ≡ option_map (λ t. cut t n) (text_of_value value) }
+    ensures same { (value : Data) (t : List ℕ) (n : ℕ) → text_of_value value ≡ Some t → size t ≤ n
+        → cut_text_of_value value n ≡ Some t }
 {}

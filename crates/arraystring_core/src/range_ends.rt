@@ -2,7 +2,7 @@
 //! `has_bounds` holds of the range, they are its own; else no contract says which they are.
 ghost use Rattle.std.specs.Prelude.{◌≡◌};
 ghost use Rattle.std.specs.Range.Bound.{start_index, end_index};
-ghost use Rattle.arraystring_core.specs.RangeEnds.{OfReturnedBounds, saturated_start, saturated_end};
+ghost use Rattle.arraystring_core.specs.RangeEnds.{HoldsOfReturnedBounds, saturated_start, saturated_end};
 
 use std::ops::{Bound, RangeBounds};
 
@@ -10,7 +10,7 @@ use std::ops::{Bound, RangeBounds};
 /// as 255 at most, so that both ends are a `u8` again.
 #[inline]
 pub(crate) fn saturating_ends<R: RangeBounds<u8> + Drop>(range: R, len: u8) -> (u8, u8)
-    ensures { OfReturnedBounds R.has_bounds R.start_bound R.end_bound range (λ start end.
+    ensures { HoldsOfReturnedBounds R.has_bounds R.start_bound R.end_bound range (λ start end.
         (result.0 ≡ saturated_start start) × (result.1 ≡ saturated_end end len)) }
 {
     let start = match range.start_bound() {
@@ -29,8 +29,8 @@ pub(crate) fn saturating_ends<R: RangeBounds<u8> + Drop>(range: R, len: u8) -> (
 /// The ends of a range in a text of `len` bytes. An excluded start and an included end count as the next index,
 /// which may be 256, and is then past every text.
 #[inline]
-pub(crate) fn plain_ends<R: RangeBounds<u8> + Drop>(range: R, len: u8) -> (usize, usize)
-    ensures { OfReturnedBounds R.has_bounds R.start_bound R.end_bound range (λ start end.
+pub(crate) fn unsaturated_ends<R: RangeBounds<u8> + Drop>(range: R, len: u8) -> (usize, usize)
+    ensures { HoldsOfReturnedBounds R.has_bounds R.start_bound R.end_bound range (λ start end.
         (result.0 ≡ start_index start) × (result.1 ≡ end_index end len)) }
 {
     let start = match range.start_bound() {

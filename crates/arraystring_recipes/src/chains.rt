@@ -3,7 +3,7 @@ ghost use Rattle.std.specs.Prelude.{◌≡◌, chars, map};
 ghost use Rattle.std.specs.Char.{is_ascii_digit};
 ghost use Rattle.std.specs.List.{filter};
 ghost use Rattle.arraystring.specs.Construct.{IsWholeOrRefused};
-ghost use Rattle.arraystring.specs.Edits.{from_out_of_bounds};
+ghost use Rattle.arraystring.specs.Edits.{map_err_from_out_of_bounds};
 ghost use Rattle.arraystring.specs.Text.{cap, cut};
 ghost use Rattle.arraystring_recipes.specs.Chains.{compact, underscored};
 
@@ -34,7 +34,7 @@ pub fn snake<const N: usize>(text: &str) -> ArrayString<N>
 #[tactic(auto, using(arraystring::proofs::Rules::given))]
 pub fn digits_in<const N: usize>(text: &str) -> Result<ArrayString<N>, OutOfBounds>
     ensures { IsWholeOrRefused (filter is_ascii_digit (chars text.now)) (cap N)
-        (from_out_of_bounds result) }
+        (map_err_from_out_of_bounds result) }
 {
     ArrayString::try_from_chars(text.chars().filter(|ch| ch.is_ascii_digit()))
 }

@@ -1,6 +1,6 @@
 //! Parts of a string, by ranges of byte indices, and what is left of a part that is taken out.
 ghost use Rattle.std.specs.Prelude.{◌≡◌, ◌≢◌, ◌≤◌, [], MatchOption, None, Some, chars, true, false};
-ghost use Rattle.arraystring.specs.Edits.{draining, first_cause, ok_unless, part_in, text_of};
+ghost use Rattle.arraystring.specs.Edits.{draining, first_cause, ok_unless_cause, checked_part, text_after_edit};
 ghost use Rattle.arraystring.specs.Text.{boundary, cut, front};
 
 use arraystring::laws::drain_gives_left;
@@ -8,8 +8,8 @@ use arraystring::{ArrayString, Drain, Error};
 
 /// Returns the bytes from `start` to `end`, borrowed, or `None` if there is no such part.
 pub fn part<const N: usize>(text: &ArrayString<N>, start: u8, end: u8) -> Option<&str>
-    ensures { MatchOption result (part_in text.now.text start end ≡ None)
-        (λ found. part_in text.now.text start end ≡ Some (chars found.now)) }
+    ensures { MatchOption result (checked_part text.now.text start end ≡ None)
+        (λ found. checked_part text.now.text start end ≡ Some (chars found.now)) }
 {
     text.get(start..end)
 }
@@ -36,8 +36,10 @@ pub fn prefix<const N: usize>(text: &ArrayString<N>, end: u8) -> Option<&str>
 #[tactic(auto, using(arraystring::proofs::Rules::texts))]
 pub fn drop_part<const N: usize>(text: &mut ArrayString<N>, start: u8, end: u8) -> Result<(), Error>
     requires { N ≤ 300 }
-    ensures outcome { result ≡ ok_unless (first_cause (draining text.old.text start end).tests) tt }
-    ensures text { text.new.text ≡ text_of (draining text.old.text start end) text.old.text }
+    ensures outcome { result
+        ≡ ok_unless_cause (first_cause (draining text.old.text start end).tests) tt }
+    ensures text { text.new.text
+        ≡ text_after_edit (draining text.old.text start end) text.old.text }
 {
     text.drain(start..end)?;
     Ok(())
@@ -46,7 +48,8 @@ pub fn drop_part<const N: usize>(text: &mut ArrayString<N>, start: u8, end: u8) 
 /// Takes the bytes from `start` to `end` out, and returns what was taken: nothing, if `drain` refuses that.
 #[tactic(auto, using(arraystring::proofs::Rules::texts))]
 pub fn taken_out(text: &mut ArrayString<16>, start: u8, end: u8) -> Drain<16>
-    ensures text { text.new.text ≡ text_of (draining text.old.text start end) text.old.text }
+    ensures text { text.new.text
+        ≡ text_after_edit (draining text.old.text start end) text.old.text }
     ensures refused { first_cause (draining text.old.text start end).tests ≢ None
         → result.left ≡ [] }
 {

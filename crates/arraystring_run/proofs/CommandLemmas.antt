@@ -7,8 +7,8 @@ use Rattle.std.specs.Cmp.Lexicographic.{pointwise}
 use Rattle.std.specs.Str.{IsUtf8}
 use Rattle.arraystring_run.specs.declared.commands.Command.{Command}
 use Rattle.arraystring_run.specs.declared.commands.Command.TheVariants as command
-use Rattle.arraystring_run.specs.Runs.{effect}
-use Rattle.arraystring_run.specs.Line.{Argument, Number, Character, Text, word, arguments, space}
+use Rattle.arraystring_run.specs.Effects.{effect}
+use Rattle.arraystring_run.specs.CommandLines.{Argument, Number, Character, Text, word, arguments, space}
 
 -- bytes above the space
 unfoldable pub are_above_space : List ℕ → Bool

@@ -3,7 +3,7 @@ use Rattle.std.proofs.Common.{◌≡◌, ℕ, ◌==◌, ◌∙◌, ap, subst, tr
 use Rattle.std.proofs.lemmas.List.{append-nil}
 use Rattle.std.proofs.KnownBytes.{Appends-trans, Appends-kept}
 use Rattle.std.specs.Io.KnownBytes.{Appends, Keeps}
-use Rattle.arraystring_run.specs.Writing.{AppendsPrefix, IsPassed}
+use Rattle.arraystring_run.specs.Writing.{AppendsPrefix, PassesThroughBuffer}
 use Rattle.arraystring_run.proofs.RunLemmas.{is_empty-none}
 
 pub front-all : (a b : Option (List ℕ)) (bs : List ℕ) → Appends a b bs → AppendsPrefix a b bs
@@ -42,11 +42,11 @@ module _ (a b : Option (List ℕ)) (waited bs : List ℕ) where
   pub waits-more : (cs : List ℕ) → AppendsPrefix a b (waited ++ bs) → AppendsPrefix a b (waited ++ (bs ++ cs))
   waits-more cs p = subst (AppendsPrefix a b) (append_assoc waited bs cs) (front-more a b (waited ++ bs) cs p)
 
-  module _ (c : Option (List ℕ)) (waits cs : List ℕ) (p : IsPassed a b waited waits bs) where
+  module _ (c : Option (List ℕ)) (waits cs : List ℕ) (p : PassesThroughBuffer a b waited waits bs) where
     joined : waited ++ (bs ++ cs) ≡ p.done ++ (waits ++ cs)
     joined = sym (append_assoc waited bs cs) ∙ ap (λ l. l ++ cs) p.whole ∙ append_assoc p.done waits cs
 
-    pub passed-then : (last : List ℕ) → IsPassed b c waits last cs → IsPassed a c waited last (bs ++ cs)
+    pub passed-then : (last : List ℕ) → PassesThroughBuffer b c waits last cs → PassesThroughBuffer a c waited last (bs ++ cs)
     passed-then last q = record {
       done = p.done ++ q.done;
       whole = joined ∙ ap (λ l. p.done ++ l) q.whole ∙ sym (append_assoc p.done q.done last);
@@ -57,7 +57,7 @@ module _ (a b : Option (List ℕ)) (waited bs : List ℕ) where
     passed-front q = subst (AppendsPrefix a c) (sym joined) (front-then a b c p.done (waits ++ cs) p.appended q)
 
   -- then what waits is written
-  module _ (c : Option (List ℕ)) (waits : List ℕ) (p : IsPassed a b waited waits bs) where
+  module _ (c : Option (List ℕ)) (waits : List ℕ) (p : PassesThroughBuffer a b waited waits bs) where
     pub sent-all : Appends b c waits → Appends a c (waited ++ bs)
     sent-all q = subst (Appends a c) (sym p.whole) (Appends-trans a b c p.done waits p.appended q)
 
@@ -71,7 +71,7 @@ filled n waited bs first rest full f r e = cc (f, r, e, append_assoc waited firs
 
 -- all was appended, and nothing waits
 pub passed-all : (a b : Option (List ℕ)) (waited waits bs all : List ℕ) → all ≡ waited ++ bs → waits ≡ [] → Appends a b all
-    → IsPassed a b waited waits bs
+    → PassesThroughBuffer a b waited waits bs
 passed-all a b waited waits bs all e none p = record {
   done = all;
   whole = sym e ∙ sym (append-nil all) ∙ ap (λ l. all ++ l) (sym none);

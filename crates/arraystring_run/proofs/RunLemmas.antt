@@ -4,7 +4,7 @@ use Rattle.std.proofs.lemmas.List.{nil_from_length}
 use Rattle.std.proofs.lemmas.Bool.{cases_lt, eqb-true, lt-ltb, le-ltb}
 use Rattle.arraystring.specs.Text.{size, cut}
 use Rattle.arraystring.proofs.CutLaws.{cut-fits, cut-all}
-use Rattle.arraystring_run.specs.Runs.{after, first_tight_from}
+use Rattle.arraystring_run.specs.Effects.{run_result, first_tight_from}
 use Rattle.arraystring_run.specs.declared.commands.Command.{Command}
 
 -- a cut is not the whole text exactly if the text is larger
@@ -22,6 +22,6 @@ is_empty-none xs shown = nil_from_length xs (eqb-true (length xs) 0 (sym shown))
 
 -- no commands give no reply, and leave the text
 pub of-none : (cs : List Command) (t : List ℕ) (n : ℕ) → true ≡ (length cs == 0)
-    → ((after cs t n).replies ≡ []) × ((after cs t n).text ≡ t) × (first_tight_from 0 cs t n ≡ None)
+    → ((run_result cs t n).replies ≡ []) × ((run_result cs t n).text ≡ t) × (first_tight_from 0 cs t n ≡ None)
 of-none cs t n shown =
     let none : cs ≡ [] = is_empty-none cs shown in rw none (refl, refl, refl)

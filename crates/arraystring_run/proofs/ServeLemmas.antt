@@ -2,8 +2,8 @@
 use Rattle.std.proofs.Common.{◌≡◌, ◌≢◌, ℕ, ◌≤◌, ◌⊎◌, List, refl, sym, ◌∙◌, arith, Option, Some, None, Result, Ok, Err, IfErr, OnOk, inl, inr}
 use Rattle.std.specs.Borrow.{Bor}
 use Rattle.arraystring_run.specs.Writing.{AppendsPrefix}
-use Rattle.arraystring_run.specs.Player.{IfBadLine}
-use Rattle.arraystring_run.specs.Program.{IsServed, IsOutcomeAt, capacity_named, status_of, status_at, report_of, report_at, fault_line}
+use Rattle.arraystring_run.specs.Playing.{IfBadLine}
+use Rattle.arraystring_run.specs.ProgramRuns.{IsServed, IsOutcomeIfNamed, capacity_named, status_of, exit_status, report_of, stderr_text, fault_line}
 use Rattle.arraystring_run.specs.declared.player.PlayFault.{PlayFault}
 use Rattle.arraystring_run.specs.declared.player.PlayFault.TheVariants.{BadLine, Memory, Read, Write}
 
@@ -45,8 +45,8 @@ unwritten (Err e) same _ _ = same (λ f. cc)
 pub served : {word : Option (Bor (List ℕ))} {given old new errors_old errors_new : Option (List ℕ)}
     {SameInput SameOutput SameErrors : Type 0} {status : ℕ}
     (named : Option ℕ) (played : Option (Result (Unit {0}) PlayFault)) → capacity_named word ≡ named
-    → IsOutcomeAt named given old new SameInput SameOutput played
-    → status ≡ status_at played → AppendsPrefix errors_old errors_new (report_at played) → (status ≡ 0 → SameErrors)
+    → IsOutcomeIfNamed named given old new SameInput SameOutput played
+    → status ≡ exit_status played → AppendsPrefix errors_old errors_new (stderr_text played) → (status ≡ 0 → SameErrors)
     → IsServed (record {
       word = word;
       input = given;

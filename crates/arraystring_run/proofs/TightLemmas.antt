@@ -1,7 +1,7 @@
 -- The first tight command of a run.
 use Rattle.std.proofs.Common.{◌≡◌, ℕ, ◌+◌, List, [], ◌∷◌, ◌++◌, length, refl, arith, Option, Some, None, Bool, true, false, if◌then◌else◌}
 use Rattle.std.specs.Prelude.{MatchOption}
-use Rattle.arraystring_run.specs.Runs.{effect, is_tight, after, first_tight_from, NoneTight, IsFirstTight}
+use Rattle.arraystring_run.specs.Effects.{effect, is_tight, run_result, first_tight_from, NoneTight, IsFirstTight}
 use Rattle.arraystring_run.specs.declared.commands.Command.{Command}
 
 none-empty : (t : List ℕ) (n : ℕ) → NoneTight [] t n
@@ -19,7 +19,7 @@ none-later d ds t n none before c later e = none (d ∷ before) c later (cc)
 -- the first tight position, if the first command is at k
 abbrev IsFirstFrom : ℕ → List Command → List ℕ → ℕ → Option ℕ → Type 0
 IsFirstFrom k cs t n o = MatchOption o (NoneTight cs t n) (λ j. (before : List Command) × (c : Command) × (later : List Command)
-    × (cs ≡ before ++ c ∷ later) × (j ≡ k + length before) × (is_tight c (after before t n).text n ≡ true) × NoneTight before t n)
+    × (cs ≡ before ++ c ∷ later) × (j ≡ k + length before) × (is_tight c (run_result before t n).text n ≡ true) × NoneTight before t n)
 
 first-from : (k : ℕ) (cs : List Command) (t : List ℕ) (n : ℕ) → IsFirstFrom k cs t n (first_tight_from k cs t n)
 first-from k [] t n = none-empty t n

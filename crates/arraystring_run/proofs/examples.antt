@@ -1,9 +1,9 @@
-mod Runs
-mod Agreement
-mod Line
-mod ScriptLines
+mod Effects
+mod ReplyAgreement
+mod CommandLines
+mod LinesOfScripts
 mod ReplyLines
 mod Writing
-mod Player
-mod Program
+mod Playing
+mod ProgramRuns
 mod Arguments

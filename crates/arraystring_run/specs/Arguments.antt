@@ -1,4 +1,4 @@
--- The word that a program is given.
+-- The word that a program is given is its only argument.
 use Rattle.std.specs.Prelude.{◌≡◌, ◌≤◌, ℕ, List, length, take, Option, Result, Ok, Err, IfSome, IsSome}
 use Rattle.std.specs.declared.env.FillError.{FillError}
 use Rattle.std.specs.declared.env.FillError.TheVariants.{NotPresent}

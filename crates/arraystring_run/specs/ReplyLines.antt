@@ -1,9 +1,9 @@
--- The lines that a run of commands prints.
+-- These definitions say which lines a run of commands prints.
 use Rattle.std.specs.Prelude.{ℕ, List, [], ◌∷◌, ◌++◌, codes, decimal}
 use Rattle.arraystring.specs.Names.{error_name}
 use Rattle.arraystring.specs.Text.{utf8, bytes}
-use Rattle.arraystring_run.specs.Runs.{after, ReplyView, Done, Char, NoChar, Text, NoText, Number, Refused}
-use Rattle.arraystring_run.specs.ScriptLines.{with_newline}
+use Rattle.arraystring_run.specs.Effects.{run_result, ReplyView, Done, Char, NoChar, Text, NoText, Number, Refused}
+use Rattle.arraystring_run.specs.LinesOfScripts.{with_newline}
 use Rattle.arraystring_run.specs.declared.commands.Command.{Command}
 
 -- the line of a reply, without its line feed
@@ -22,9 +22,9 @@ replies_printed [] = []
 replies_printed (r ∷ rs) = with_newline (reply_line r) ++ replies_printed rs
 
 -- the lines of replies, and then the line of the text at the end of the run, each with its line feed
-abbrev pub all_printed : List ReplyView → List ℕ → List ℕ
-all_printed rs t = replies_printed rs ++ with_newline (codes "final " ++ bytes t)
+abbrev pub replies_and_final_line : List ReplyView → List ℕ → List ℕ
+replies_and_final_line rs t = replies_printed rs ++ with_newline (codes "final " ++ bytes t)
 
 -- the printed lines of a run of these commands, which begins with the empty text, at the capacity n
 abbrev pub run_printed : List Command → ℕ → List ℕ
-run_printed cs n = let ran = after cs [] n in all_printed ran.replies ran.text
+run_printed cs n = let ran = run_result cs [] n in replies_and_final_line ran.replies ran.text

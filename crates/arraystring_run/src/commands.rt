@@ -4,11 +4,12 @@ use arraystring::error::Error;
 
 /// One edit of a text, or one question about it. Sizes and indices count bytes of UTF-8.
 ///
-/// A command is refused with `OutOfBounds` if an index is past the text, if a range is reversed, or if the
-/// result does not fit. It is refused with `Utf8` if an index is inside a character. Each command below has
-/// its reasons in order. The first that holds decides, and the text is then unchanged.
+/// The error of a refusal is `OutOfBounds` for an index past the text (in `Remove` also at its end), for a
+/// reversed range, or for a result that does not fit, and `Utf8` for an index inside a character. Each command
+/// below lists those of these reasons that it has, in order. The first that holds decides, and the text is then
+/// unchanged.
 ///
-/// The replies are:
+/// The reply to a refused command is `Refused`. The other replies are:
 ///
 /// - `Char` or `NoChar` to `Pop`, and `Char` to `Remove`;
 /// - `Text` to `SplitOff`, `AsStr` and the three drains, and `Text` or `NoText` to `Get`;
@@ -64,7 +65,8 @@ pub enum Command<'a> {
     Upper,
     /// Changes A..Z to a..z.
     Lower,
-    /// Replies with the text from `start` to `end`.
+    /// Replies with the text from `start` to `end`, or with `NoText` if the range is reversed or an end is not
+    /// a boundary.
     Get { start: u8, end: u8 },
     /// Replies with the size of the text.
     Len,
@@ -77,7 +79,7 @@ pub enum Command<'a> {
 /// The reply to a command.
 #[derive(Clone, Copy, PartialEq, Eq, Debug)]
 pub enum Reply<const N: usize> {
-    /// The text was edited.
+    /// The edit was made.
     Done,
     /// The character that was removed.
     Char(char),

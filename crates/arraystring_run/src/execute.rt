@@ -1,18 +1,18 @@
 //! One command, executed on a string.
 ghost use Rattle.std.specs.Prelude.{◌≡◌, reverse};
 ghost use Rattle.arraystring.specs.Text.{cap};
-ghost use Rattle.arraystring.specs.Edits.{from_out_of_bounds, from_utf8_error, with_text, part_in};
-ghost use Rattle.arraystring.specs.Drained.{result_with_left};
-ghost use Rattle.arraystring_run.specs.Runs.{view_of, reply_of, char_or_none, text_or_none, Done, Char, Text, effect, without};
+ghost use Rattle.arraystring.specs.Edits.{map_err_from_out_of_bounds, map_err_from_utf8, string_result_as_text, checked_part};
+ghost use Rattle.arraystring.specs.Drained.{drain_result_as_text};
+ghost use Rattle.arraystring_run.specs.Effects.{view_of_reply, reply_of_result, char_reply, text_reply, Done, Char, Text, effect, without};
 
 use crate::{Command, Reply};
 use arraystring::error::{Error, OutOfBounds, Utf8};
-use arraystring::laws::{drain_left_fits, text_fits};
+use arraystring::laws::{drain_text_fits, text_fits};
 use arraystring::{ArrayString, Drain};
 
 /// Executes one command, and returns the reply.
 pub(crate) fn execute<const N: usize>(text: &mut ArrayString<N>, command: Command<'_>) -> Reply<N>
-    ensures reply { view_of result ≡ (effect command.entry text.old.text (cap N)).reply }
+    ensures reply { view_of_reply result ≡ (effect command.entry text.old.text (cap N)).reply }
     ensures text { text.new.text ≡ (effect command.entry text.old.text (cap N)).text }
 {
     match command {
@@ -69,7 +69,8 @@ pub(crate) fn execute<const N: usize>(text: &mut ArrayString<N>, command: Comman
 
 /// The reply to an addition at the end.
 fn reply_of_addition_result<const N: usize>(outcome: Result<(), OutOfBounds>) -> Reply<N>
-    ensures { view_of result ≡ reply_of (λ _. Done) (from_out_of_bounds outcome) }
+    ensures { view_of_reply result
+        ≡ reply_of_result (λ _. Done) (map_err_from_out_of_bounds outcome) }
 {
     match outcome {
         Ok(()) => Reply::Done,
@@ -79,7 +80,7 @@ fn reply_of_addition_result<const N: usize>(outcome: Result<(), OutOfBounds>) ->
 
 /// The reply to an insertion or a replacement.
 fn reply_of_insertion_result<const N: usize>(outcome: Result<(), Error>) -> Reply<N>
-    ensures { view_of result ≡ reply_of (λ _. Done) outcome }
+    ensures { view_of_reply result ≡ reply_of_result (λ _. Done) outcome }
 {
     match outcome {
         Ok(()) => Reply::Done,
@@ -89,7 +90,7 @@ fn reply_of_insertion_result<const N: usize>(outcome: Result<(), Error>) -> Repl
 
 /// The reply to `pop`.
 fn reply_of_pop_result<const N: usize>(outcome: Option<char>) -> Reply<N>
-    ensures { view_of result ≡ char_or_none outcome }
+    ensures { view_of_reply result ≡ char_reply outcome }
 {
     match outcome {
         Some(ch) => Reply::Char(ch),
@@ -99,7 +100,7 @@ fn reply_of_pop_result<const N: usize>(outcome: Option<char>) -> Reply<N>
 
 /// The reply to `truncate`.
 fn reply_of_truncate_result<const N: usize>(outcome: Result<(), Utf8>) -> Reply<N>
-    ensures { view_of result ≡ reply_of (λ _. Done) (from_utf8_error outcome) }
+    ensures { view_of_reply result ≡ reply_of_result (λ _. Done) (map_err_from_utf8 outcome) }
 {
     match outcome {
         Ok(()) => Reply::Done,
@@ -109,7 +110,7 @@ fn reply_of_truncate_result<const N: usize>(outcome: Result<(), Utf8>) -> Reply<
 
 /// The reply to `remove`.
 fn reply_of_remove_result<const N: usize>(outcome: Result<char, Error>) -> Reply<N>
-    ensures { view_of result ≡ reply_of Char outcome }
+    ensures { view_of_reply result ≡ reply_of_result Char outcome }
 {
     match outcome {
         Ok(ch) => Reply::Char(ch),
@@ -126,7 +127,7 @@ fn retain_not<const N: usize>(text: &mut ArrayString<N>, unwanted: char)
 
 /// The reply to `split_off`.
 fn reply_of_split_off_result<const N: usize>(outcome: Result<ArrayString<N>, Error>) -> Reply<N>
-    ensures { view_of result ≡ reply_of Text (with_text outcome.entry) }
+    ensures { view_of_reply result ≡ reply_of_result Text (string_result_as_text outcome.entry) }
 {
     match outcome {
         Ok(text) => Reply::Text(text),
@@ -134,9 +135,9 @@ fn reply_of_split_off_result<const N: usize>(outcome: Result<ArrayString<N>, Err
     }
 }
 
-/// The reply to `drain`, with the characters in order.
+/// The reply to `Drain` and `DrainThrough`: the text that the call `drain` removed, or its refusal.
 fn reply_of_drain_result<const N: usize>(outcome: Result<Drain<N>, Error>) -> Reply<N>
-    ensures { view_of result ≡ reply_of Text (result_with_left outcome.entry) }
+    ensures { view_of_reply result ≡ reply_of_result Text (drain_result_as_text outcome.entry) }
 {
     match outcome {
         Ok(removed) => {
@@ -147,10 +148,11 @@ fn reply_of_drain_result<const N: usize>(outcome: Result<Drain<N>, Error>) -> Re
     }
 }
 
-/// The reply to `drain`, with the characters from the last to the first.
+/// The reply to `DrainBack`: the text that the call `drain` removed, from the last character to the first, or its
+/// refusal.
 fn reply_of_drain_back_result<const N: usize>(outcome: Result<Drain<N>, Error>) -> Reply<N>
-    ensures { view_of result
-        ≡ reply_of (λ left. Text (reverse left)) (result_with_left outcome.entry) }
+    ensures { view_of_reply result
+        ≡ reply_of_result (λ left. Text (reverse left)) (drain_result_as_text outcome.entry) }
 {
     match outcome {
         Ok(removed) => Reply::Text(reversed_text(removed)),
@@ -162,7 +164,7 @@ fn reply_of_drain_back_result<const N: usize>(outcome: Result<Drain<N>, Error>) 
 fn reversed_text<const N: usize>(mut removed: Drain<N>) -> ArrayString<N>
     ensures { result.text ≡ reverse removed.entry.left }
 {
-    drain_left_fits(&removed);
+    drain_text_fits(&removed);
     let mut text = ArrayString::new();
     while let Some(ch) = removed.next_back() {
         text.push_unchecked(ch);
@@ -170,9 +172,10 @@ fn reversed_text<const N: usize>(mut removed: Drain<N>) -> ArrayString<N>
     text
 }
 
-/// The part from `start` to `end`.
+/// Replies with the text from `start` to `end`, or with `NoText` if the range is reversed or an end is not a
+/// boundary.
 fn get_and_reply<const N: usize>(text: &ArrayString<N>, start: u8, end: u8) -> Reply<N>
-    ensures { view_of result ≡ text_or_none (part_in text.now.text start end) }
+    ensures { view_of_reply result ≡ text_reply (checked_part text.now.text start end) }
 {
     text_fits(text);
     match text.get(start..end) {

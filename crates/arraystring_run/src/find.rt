@@ -8,14 +8,14 @@ const BLOCK_SIZE: usize = 16;
 
 /// The index of the first byte that is `wanted`; the length if none is. Blocks that lack it are
 /// passed over whole.
-pub(crate) fn find_byte(wanted: u8, bytes: &[u8]) -> usize
+pub(crate) fn byte_position_or_len(wanted: u8, bytes: &[u8]) -> usize
     ensures at_most { result ≤ length bytes.now }
     ensures found { result < length bytes.now → slice_index bytes.now result ≡ wanted }
     ensures before { (i : ℕ) → i < result → slice_index bytes.now i ≢ wanted }
 {
     let mut at = 0;
     while bytes.len() - at >= BLOCK_SIZE {
-        let before = position_in_block(wanted, bytes, at);
+        let before = position_or_block_size(wanted, bytes, at);
         at += before;
         if before < BLOCK_SIZE {
             return at;
@@ -27,9 +27,9 @@ pub(crate) fn find_byte(wanted: u8, bytes: &[u8]) -> usize
     at
 }
 
-/// How many of the 16 bytes from `at` on come before the first that is `wanted`.
+/// How many of the 16 bytes from `at` on come before the first that is `wanted`, which are 16 if none is.
 #[inline(always)]
-fn position_in_block(wanted: u8, bytes: &[u8], at: usize) -> usize
+fn position_or_block_size(wanted: u8, bytes: &[u8], at: usize) -> usize
     requires { at + 16 ≤ length bytes.now }
     ensures at_most { result ≤ 16 }
     ensures found { result < 16 → slice_index bytes.now (at + result) ≡ wanted }

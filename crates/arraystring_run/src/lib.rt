@@ -9,13 +9,13 @@ mod execute;
 mod find;
 pub mod laws;
 mod line;
-mod output_buffer;
 mod player;
 mod printing;
 pub mod program;
 mod runs;
 mod script;
 mod tight;
+mod write_buffer;
 mod writing;
 
 pub use commands::{Command, Reply};

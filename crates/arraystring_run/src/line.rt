@@ -1,16 +1,16 @@
 //! The command of a line.
 ghost use Rattle.std.specs.Prelude.{◌≡◌, ◌≤◌, [], ◌∷◌, ◌++◌, ℕ, List, length, IfSome, IfNone};
 ghost use Rattle.arraystring.specs.Text.{utf8, IsScalarValue};
-ghost use Rattle.arraystring_run.specs.Line.{word as word_of, arguments, Number, IsLineOf, IsNumber, IsNumberBefore, IsOneWord, space};
+ghost use Rattle.arraystring_run.specs.CommandLines.{word as word_of, arguments, Number, IsLineOf, IsNumber, IsNumberBeforeSpace, HasNoSpace, space};
 ghost use Rattle.arraystring_run.specs.declared.commands.Command.{Command};
 
 use crate::Command;
-use crate::find::find_byte;
+use crate::find::byte_position_or_len;
 use std::str;
 
-/// Returns the command of a line of a script. `line` has no line feed, and the command borrows its text
-/// from it. Returns `None` if the line is no command: it is not UTF-8, its word is not one of those of
-/// CALLING.md, an argument has the wrong form, or there is more or less than the word takes.
+/// Returns the command of a line of a script. `line` is given without the line feed that ends it, and the
+/// command borrows its text from it. Returns `None` if the line is no command: it is not UTF-8, its word is not
+/// one of those of CALLING.md, an argument has the wrong form, or there is more or less than the word takes.
 pub fn command(line: &[u8]) -> Option<Command<'_>>
     ensures some { IfSome result (λ c. IsLineOf line.now c) }
     ensures none { IfNone result ((c : Command) → IsLineOf line.now c → ⊥) }
@@ -32,10 +32,10 @@ pub(crate) fn command_of_str(text: &str) -> Option<Command<'_>>
 /// What is before the first space, and what is after it.
 fn split_at_space(text: &str) -> Option<(&str, &str)>
     ensures some { IfSome result
-        (λ parts. (text.now ≡ parts.0.now ++ space ∷ parts.1.now) × IsOneWord parts.0.now) }
-    ensures none { IfNone result (IsOneWord text.now) }
+        (λ parts. (text.now ≡ parts.0.now ++ space ∷ parts.1.now) × HasNoSpace parts.0.now) }
+    ensures none { IfNone result (HasNoSpace text.now) }
 {
-    let end = find_byte(b' ', text.as_bytes());
+    let end = byte_position_or_len(b' ', text.as_bytes());
     if end == text.len() {
         return None;
     }
@@ -44,7 +44,7 @@ fn split_at_space(text: &str) -> Option<(&str, &str)>
 
 /// The command of a line that is one word.
 fn command_without_arguments(word: &str) -> Option<Command<'static>>
-    requires { IsOneWord word.now }
+    requires { HasNoSpace word.now }
     ensures some { IfSome result (λ c. IsLineOf word.now c) }
     ensures none { IfNone result ((c : Command) → IsLineOf word.now c → ⊥) }
 {
@@ -61,11 +61,11 @@ fn command_without_arguments(word: &str) -> Option<Command<'static>>
     }
 }
 
-/// The command of a word that is followed by one space and `rest`. A word that takes a number and more behind it is in no
-/// arm of this `match`, but in one of `command_of_number_and_more`, and a word that takes two numbers alone in one of
-/// `command_of_range`. One `match` of all words is too much for the check (docs/DECISIONS.md).
+/// The command of a line that is `word`, one space and `rest`. This `match` has the words that take one
+/// argument. `command_of_number_and_more` has those that take a number and more, and `command_of_range` those
+/// that take two numbers alone. One `match` of all words is too much for the check (docs/DECISIONS.md).
 fn command_with_arguments<'a>(word: &str, rest: &'a str) -> Option<Command<'a>>
-    requires { IsOneWord word.now }
+    requires { HasNoSpace word.now }
     ensures some { IfSome result (λ c. IsLineOf (word.now ++ space ∷ rest.now) c) }
     ensures none { IfNone result ((c : Command) → IsLineOf (word.now ++ space ∷ rest.now) c → ⊥) }
 {
@@ -73,10 +73,10 @@ fn command_with_arguments<'a>(word: &str, rest: &'a str) -> Option<Command<'a>>
         "try_push" => Some(Command::TryPush(only_char(rest)?)),
         "try_push_str" => Some(Command::TryPushStr(rest)),
         "push_str" => Some(Command::PushStr(rest)),
-        "truncate" => Some(Command::Truncate(number(rest)?)),
-        "remove" => Some(Command::Remove(number(rest)?)),
+        "truncate" => Some(Command::Truncate(parse_number(rest)?)),
+        "remove" => Some(Command::Remove(parse_number(rest)?)),
         "retain_not" => Some(Command::RetainNot(only_char(rest)?)),
-        "split_off" => Some(Command::SplitOff(number(rest)?)),
+        "split_off" => Some(Command::SplitOff(parse_number(rest)?)),
         _ => command_of_number_and_more(word, rest),
     }
 }
@@ -84,7 +84,7 @@ fn command_with_arguments<'a>(word: &str, rest: &'a str) -> Option<Command<'a>>
 /// The command of a word that takes two arguments or more, of which the first is a number. The word is
 /// followed by one space and `rest`.
 fn command_of_number_and_more<'a>(word: &str, rest: &'a str) -> Option<Command<'a>>
-    requires { IsOneWord word.now }
+    requires { HasNoSpace word.now }
     ensures some { IfSome result (λ c. IsLineOf (word.now ++ space ∷ rest.now) c) }
     ensures none { IfNone result ((c : Command)
         → 2 ≤ length (arguments c) → IsLineOf (word.now ++ space ∷ rest.now) c → ⊥) }
@@ -98,7 +98,7 @@ fn command_of_number_and_more<'a>(word: &str, rest: &'a str) -> Option<Command<'
             let (end, given) = number_before_space(rest)?;
             Some(Command::ReplaceRange { start, end, given })
         }
-        _ => command_of_range(word, start, number(rest)?),
+        _ => command_of_range(word, start, parse_number(rest)?),
     }
 }
 
@@ -119,7 +119,7 @@ fn command_of_range(word: &str, start: u8, end: u8) -> Option<Command<'static>>
 }
 
 /// The number of a text that is one to three ASCII digits, of value at most 255.
-fn number(text: &str) -> Option<u8>
+fn parse_number(text: &str) -> Option<u8>
     ensures some { IfSome result (λ n. IsNumber text.now n) }
     ensures none { IfNone result ((n : ℕ) → IsNumber text.now n → ⊥) }
 {
@@ -132,11 +132,12 @@ fn number(text: &str) -> Option<u8>
 
 /// The number before the first space, and what is after that space.
 fn number_before_space(text: &str) -> Option<(u8, &str)>
-    ensures some { IfSome result (λ parts. IsNumberBefore text.now parts.0 parts.1.now) }
-    ensures none { IfNone result ((n : ℕ) (rest : List ℕ) → IsNumberBefore text.now n rest → ⊥) }
+    ensures some { IfSome result (λ parts. IsNumberBeforeSpace text.now parts.0 parts.1.now) }
+    ensures none { IfNone result
+        ((n : ℕ) (rest : List ℕ) → IsNumberBeforeSpace text.now n rest → ⊥) }
 {
     let (digits, rest) = split_at_space(text)?;
-    Some((number(digits)?, rest))
+    Some((parse_number(digits)?, rest))
 }
 
 /// The character of a text that has exactly one.

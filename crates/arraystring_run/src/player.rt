@@ -2,12 +2,12 @@
 ghost use Rattle.std.specs.Prelude.{◌≡◌, ◌≢◌, IfOk, IfErr, IfSome, OnOk};
 ghost use Rattle.std.specs.Io.KnownBytes.{Appends, IsAtEnd};
 ghost use Rattle.arraystring.specs.Text.{cap};
-ghost use Rattle.arraystring_run.specs.ScriptLines.{lines, IsBadAt};
+ghost use Rattle.arraystring_run.specs.LinesOfScripts.{lines, IsBadAt};
 ghost use Rattle.arraystring_run.specs.Printing.{run_printed};
 ghost use Rattle.arraystring_run.specs.Writing.{AppendsPrefix};
-ghost use Rattle.arraystring_run.specs.Player.{IfBadLine, IsPlayed, IsPartPlayed};
+ghost use Rattle.arraystring_run.specs.Playing.{IfBadLine, IsPlayed, IsPlayedPartlyWritten};
 
-use crate::printing::write_all_replies;
+use crate::printing::write_replies_and_text;
 use crate::script::parse_script;
 use crate::{Command, run};
 use arraystring::ArrayString;
@@ -30,9 +30,10 @@ pub enum PlayFault {
 /// How many bytes are read at a time.
 const CHUNK_SIZE: usize = 8192;
 
-/// The greatest `N` for which `play` makes a text, because no memory can hold an array of more bytes. `N` is a
-/// constant, so the compiler decides the test for each `N` that a program names.
-const LARGEST_CAPACITY: usize = usize::MAX / 4;
+/// The greatest `N` for which `play` makes a text, because no memory can hold an array of more bytes. (A
+/// capacity is at most 255, also for a greater `N`.) `N` is a constant, so the compiler decides the test for
+/// each `N` that a program names.
+const LARGEST_ADDRESSABLE_ARRAY: usize = usize::MAX / 4;
 
 /// Plays a script on the empty text. It does this in order:
 ///
@@ -44,8 +45,9 @@ const LARGEST_CAPACITY: usize = usize::MAX / 4;
 ///
 /// A read or a write that was interrupted is tried again.
 ///
-/// The clauses say which bytes are read and written where the contracts of `I` and `O` tell their bytes, as
-/// those of `&[u8]` and `Vec<u8>` do. Those of the system's streams do not, and tests show it of these.
+/// The contract says which bytes are read and written only if the contracts of `I` and `O` tell their bytes, as
+/// those of `&[u8]` and `Vec<u8>` do. Those of the system's streams do not, so for these it is tested, not
+/// proved.
 ///
 /// # Errors
 ///
@@ -69,7 +71,7 @@ pub fn play<const N: usize, I: Read, O: Write>(
         (λ k. IfSome (I.remaining input.old) (λ given. IsBadAt (lines given) k))) }
     ensures unwritten { IfErr result (λ e. e ≢ PlayFault.Write → output.new ≡ output.old) }
     ensures part_played { IfErr result (λ e. e ≡ PlayFault.Write → IfSome (I.remaining input.old)
-        (λ given. IsPartPlayed
+        (λ given. IsPlayedPartlyWritten
         given (cap N) (O.contents output.old) (O.contents output.new))) }
     ensures end { OnOk result (IsAtEnd (I.remaining input.new)) }
     ensures end_of_bad { IfErr result (λ e. IfBadLine e (λ _. IsAtEnd (I.remaining input.new))) }
@@ -95,7 +97,7 @@ fn play_commands<const N: usize, O: Write>(
     ensures unwritten { IfErr result (λ e. e ≢ PlayFault.Write → output.new ≡ output.old) }
     ensures no_line { IfErr result (λ e. IfBadLine e (λ _. ⊥)) }
 {
-    if N > LARGEST_CAPACITY {
+    if N > LARGEST_ADDRESSABLE_ARRAY {
         return Err(PlayFault::Memory);
     }
     let mut text = ArrayString::<N>::new();
@@ -103,7 +105,7 @@ fn play_commands<const N: usize, O: Write>(
         Ok(outcome) => outcome,
         Err(_) => return Err(PlayFault::Memory),
     };
-    match write_all_replies(output, &outcome.replies, &text) {
+    match write_replies_and_text(output, &outcome.replies, &text) {
         Ok(()) => Ok(()),
         Err(_) => Err(PlayFault::Write),
     }

@@ -2,11 +2,11 @@
 //! names.
 ghost use Rattle.std.specs.Prelude.{◌≡◌, option_map};
 ghost use Rattle.arraystring_run.specs.Writing.{AppendsPrefix};
-ghost use Rattle.arraystring_run.specs.Program.{IsServed, IsOutcomeAt, bytes_of, capacity_named, status_at, report_at};
+ghost use Rattle.arraystring_run.specs.ProgramRuns.{IsServed, IsOutcomeIfNamed, capacity_in_bytes, capacity_named, exit_status, stderr_text};
 
 pub use crate::arguments::given_word;
 use crate::player::{PlayFault, play};
-use crate::printing::write_word_and_value;
+use crate::printing::write_prefix_and_value;
 use crate::writing::write_text;
 use std::alloc::Global;
 use std::io::{Read, Write};
@@ -21,7 +21,7 @@ enum Capacity {
 
 /// The capacity that a word names.
 fn capacity_of(word: Option<&str>) -> Option<Capacity>
-    ensures { option_map bytes_of result ≡ capacity_named word.entry }
+    ensures { option_map capacity_in_bytes result ≡ capacity_named word.entry }
 {
     match word {
         Some("small") => Some(Capacity::Small),
@@ -42,7 +42,8 @@ fn capacity_of(word: Option<&str>) -> Option<Capacity>
 /// If the status is not 0, one line on `errors` says why. If a write to `errors` fails, only a prefix of
 /// that line is written, and the status is the same.
 ///
-/// What is read and written is proved where the contracts of the streams tell their bytes, as for `play`.
+/// As in `play`, the contract says which bytes are read and written only if those of the streams tell their
+/// bytes.
 pub fn serve<I: Read, O: Write, E: Write>(
     alloc: Global,
     word: Option<&str>,
@@ -63,18 +64,18 @@ pub fn serve<I: Read, O: Write, E: Write>(
       status = result;
     }) }
 {
-    let played = play_at(alloc, capacity_of(word), input, output);
+    let played = play_if_named(alloc, capacity_of(word), input, output);
     report(played, errors)
 }
 
 /// Plays a script at a capacity. Without a capacity it returns `None`, and nothing is read or written.
-fn play_at<I: Read, O: Write>(
+fn play_if_named<I: Read, O: Write>(
     alloc: Global,
     capacity: Option<Capacity>,
     input: &mut I,
     output: &mut O,
 ) -> Option<Result<(), PlayFault>>
-    ensures { IsOutcomeAt (option_map bytes_of capacity) (I.remaining input.old)
+    ensures { IsOutcomeIfNamed (option_map capacity_in_bytes capacity) (I.remaining input.old)
         (O.contents output.old) (O.contents output.new)
         (input.new ≡ input.old) (output.new ≡ output.old) result }
 {
@@ -85,11 +86,12 @@ fn play_at<I: Read, O: Write>(
     })
 }
 
-/// Writes the line of a fault, or how a program is called if nothing was played, and returns the status.
+/// Writes to `errors` a line that names the fault, or the usage if `played` is `None`, and nothing if the
+/// script was played. Returns the exit status, also if this write fails.
 fn report<E: Write>(played: Option<Result<(), PlayFault>>, errors: &mut E) -> u8
-    ensures status { result ≡ status_at played }
+    ensures status { result ≡ exit_status played }
     ensures line { AppendsPrefix (E.contents errors.old) (E.contents errors.new)
-        (report_at played) }
+        (stderr_text played) }
     ensures quiet { result ≡ 0 → errors.new ≡ errors.old }
 {
     match played {
@@ -99,7 +101,7 @@ fn report<E: Write>(played: Option<Result<(), PlayFault>>, errors: &mut E) -> u8
             2
         }
         Some(Err(PlayFault::BadLine(number))) => {
-            let _ = write_word_and_value(errors, "bad line ", number);
+            let _ = write_prefix_and_value(errors, "bad line ", number);
             2
         }
         Some(Err(PlayFault::Memory)) => {

@@ -2,8 +2,8 @@
 ghost use Rattle.std.specs.Prelude.{◌≡◌, ◌+◌, ◌<◌, ◌≤◌, [], ◌∷◌, ◌++◌, length, map, vec_len, vec_capacity, if◌then◌else◌, IfOk, IsOk, OnOk, OnErr, MatchOption, Some, None};
 ghost use Rattle.std.specs.Vec.{vec_ptr};
 ghost use Rattle.arraystring.specs.Text.{cap, size};
-ghost use Rattle.arraystring_run.specs.Runs.{view_of, effect, is_tight, after, first_tight_from, earlier_of, NoneTight, IsFirstTight};
-ghost use Rattle.arraystring_run.specs.Agreement.{commands_before, AllAgree, IsNoSooner};
+ghost use Rattle.arraystring_run.specs.Effects.{view_of_reply, effect, is_tight, run_result, first_tight_from, first_some, NoneTight, IsFirstTight};
+ghost use Rattle.arraystring_run.specs.ReplyAgreement.{commands_before, AllRepliesAgree, IsNoLater};
 
 use crate::execute::execute;
 use crate::tight::is_tight;
@@ -36,9 +36,11 @@ pub fn run<const N: usize>(
     commands: &[Command<'_>],
 ) -> Result<Outcome<N>, AllocError>
     ensures replies { IfOk result
-        (λ o. map view_of o.replies.items ≡ (after commands.now text.old.text (cap N)).replies) }
+        (λ o. map view_of_reply o.replies.items
+        ≡ (run_result commands.now text.old.text (cap N)).replies) }
     ensures one_each { IfOk result (λ o. vec_len o.replies ≡ length commands.now) }
-    ensures text { OnOk result (text.new.text ≡ (after commands.now text.old.text (cap N)).text) }
+    ensures text { OnOk result
+        (text.new.text ≡ (run_result commands.now text.old.text (cap N)).text) }
     ensures first_tight { IfOk result (λ o. MatchOption o.first_tight
         (NoneTight commands.now text.old.text (cap N))
         (IsFirstTight commands.now text.old.text (cap N))) }
@@ -49,10 +51,11 @@ pub fn run<const N: usize>(
     text_fits(text);
     let mut replies = Vec::with_capacity(alloc, commands.len())?;
     let mut first_tight = None;
-    // Where a `&mut Vec<Reply<N>>` is passed, the checker asks for a bound on the bytes of memory that a reply takes. That
-    // the list has room for one gives the bound, but it has room only if there is a command.
+    // If a call takes a `&mut Vec<Reply<N>>`, the checker asks for a bound on the bytes of memory that a reply takes.
+    // It finds the bound if the list has room for a reply. For no commands the list has no room, so the call is left
+    // out.
     if !commands.is_empty() {
-        first_tight = execute_all(text, commands, &mut replies);
+        first_tight = execute_all_and_find_tight(text, commands, &mut replies);
     }
     text_fits(text);
     Ok(Outcome {
@@ -63,18 +66,18 @@ pub fn run<const N: usize>(
 
 /// Executes the commands in order, and adds each reply to a list that has room for all of them and
 /// is not moved.
-fn execute_all<const N: usize>(
+fn execute_all_and_find_tight<const N: usize>(
     text: &mut ArrayString<N>,
     commands: &[Command<'_>],
     replies: &mut Vec<Reply<N>>,
 ) -> Option<usize>
     requires empty { vec_len replies.old ≡ 0 }
     requires room { length commands.now ≤ vec_capacity replies.old }
-    ensures replies { map view_of replies.new.items
-        ≡ (after commands.now text.old.text (cap N)).replies }
+    ensures replies { map view_of_reply replies.new.items
+        ≡ (run_result commands.now text.old.text (cap N)).replies }
     ensures one_each { vec_len replies.new ≡ length commands.now }
     ensures in_place { vec_ptr replies.new ≡ vec_ptr replies.old }
-    ensures text { text.new.text ≡ (after commands.now text.old.text (cap N)).text }
+    ensures text { text.new.text ≡ (run_result commands.now text.old.text (cap N)).text }
     ensures first_tight { result ≡ first_tight_from 0 commands.now text.old.text (cap N) }
 {
     let mut first_tight = None;
@@ -93,8 +96,9 @@ fn execute_and_add_reply<const N: usize>(
     replies: &mut Vec<Reply<N>>,
 ) -> bool
     requires { vec_len replies.old < vec_capacity replies.old }
-    ensures reply { map view_of replies.new.items
-        ≡ map view_of replies.old.items ++ (effect command.now text.old.text (cap N)).reply ∷ [] }
+    ensures reply { map view_of_reply replies.new.items
+        ≡ map view_of_reply replies.old.items
+        ++ (effect command.now text.old.text (cap N)).reply ∷ [] }
     ensures one_more { vec_len replies.new ≡ vec_len replies.old + 1 }
     ensures room { vec_capacity replies.new ≡ vec_capacity replies.old }
     ensures in_place { vec_ptr replies.new ≡ vec_ptr replies.old }
@@ -126,16 +130,17 @@ pub fn run_both<const N: usize, const M: usize>(
     commands: &[Command<'_>],
 ) -> Result<(Outcome<N>, Outcome<M>), AllocError>
     ensures first_replies { IfOk result
-        (λ o. map view_of o.0.replies.items ≡ (after commands.now first.old.text (cap N)).replies) }
+        (λ o. map view_of_reply o.0.replies.items
+        ≡ (run_result commands.now first.old.text (cap N)).replies) }
     ensures first_text { OnOk result
-        (first.new.text ≡ (after commands.now first.old.text (cap N)).text) }
+        (first.new.text ≡ (run_result commands.now first.old.text (cap N)).text) }
     ensures first_tight { IfOk result (λ o. MatchOption o.0.first_tight
         (NoneTight commands.now first.old.text (cap N))
         (IsFirstTight commands.now first.old.text (cap N))) }
-    ensures second_replies { IfOk result (λ o. map view_of o.1.replies.items
-        ≡ (after commands.now second.old.text (cap M)).replies) }
+    ensures second_replies { IfOk result (λ o. map view_of_reply o.1.replies.items
+        ≡ (run_result commands.now second.old.text (cap M)).replies) }
     ensures second_text { OnOk result
-        (second.new.text ≡ (after commands.now second.old.text (cap M)).text) }
+        (second.new.text ≡ (run_result commands.now second.old.text (cap M)).text) }
     ensures second_tight { IfOk result (λ o. MatchOption o.1.first_tight
         (NoneTight commands.now second.old.text (cap M))
         (IsFirstTight commands.now second.old.text (cap M))) }
@@ -143,10 +148,10 @@ pub fn run_both<const N: usize, const M: usize>(
         × (vec_len o.1.replies ≡ length commands.now)) }
     ensures fits { (size first.new.text ≤ cap N) × (size second.new.text ≤ cap M) }
     ensures agree { first.old.text ≡ second.old.text → cap N ≤ cap M
-        → IfOk result (λ o. AllAgree (commands_before commands.now o.0.first_tight)
-        (map view_of o.0.replies.items) (map view_of o.1.replies.items)) }
+        → IfOk result (λ o. AllRepliesAgree (commands_before commands.now o.0.first_tight)
+        (map view_of_reply o.0.replies.items) (map view_of_reply o.1.replies.items)) }
     ensures no_sooner { first.old.text ≡ second.old.text → cap N ≤ cap M
-        → IfOk result (λ o. IsNoSooner o.0.first_tight o.1.first_tight) }
+        → IfOk result (λ o. IsNoLater o.0.first_tight o.1.first_tight) }
     ensures same_text { first.old.text ≡ second.old.text → cap N ≤ cap M
         → IfOk result (λ o. o.0.first_tight ≡ None → first.new.text ≡ second.new.text) }
     ensures unchanged { OnErr result
@@ -158,10 +163,11 @@ pub fn run_both<const N: usize, const M: usize>(
     let mut second_replies = Vec::with_capacity(alloc, commands.len())?;
     let first_outcome = run(alloc, first, commands)?;
     let mut first_tight = None;
-    // Where a `&mut Vec<Reply<N>>` is passed, the checker asks for a bound on the bytes of memory that a reply takes. That
-    // the list has room for one gives the bound, but it has room only if there is a command.
+    // If a call takes a `&mut Vec` of replies, the checker asks for a bound on the bytes of memory that a reply
+    // takes. It finds the bound if the list has room for a reply. For no commands the list has no room, so the call
+    // is left out.
     if !commands.is_empty() {
-        first_tight = execute_all(second, commands, &mut second_replies);
+        first_tight = execute_all_and_find_tight(second, commands, &mut second_replies);
     }
     text_fits(second);
     Ok((
@@ -173,10 +179,10 @@ pub fn run_both<const N: usize, const M: usize>(
     ))
 }
 
-/// The first tight position, if `first` is that of the commands before `position`, and `is_tight` says whether the
-/// command there is tight.
+/// The first tight position up to `position`. `first` is the one before `position`, if there is one, and
+/// `is_tight` says whether the command at `position` is tight.
 fn first_tight_so_far(first: Option<usize>, is_tight: bool, position: usize) -> Option<usize>
-    ensures { result ≡ earlier_of first (if is_tight then Some position else None) }
+    ensures { result ≡ first_some first (if is_tight then Some position else None) }
 {
     match first {
         Some(_) => first,

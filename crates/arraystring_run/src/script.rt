@@ -1,21 +1,23 @@
 //! The commands of a script.
 ghost use Rattle.std.specs.Prelude.{◌≡◌, ◌≢◌, ◌≤◌, length, IfSome, IfNone, IfOk, IfErr, slice_range};
 ghost use Rattle.std.specs.Str.{IsCharBoundary};
-ghost use Rattle.arraystring_run.specs.Line.{IsLineOf};
-ghost use Rattle.arraystring_run.specs.ScriptLines.{lines, AreLinesOf, IsBadAt};
-ghost use Rattle.arraystring_run.specs.Player.{IfBadLine};
+ghost use Rattle.arraystring_run.specs.CommandLines.{IsLineOf};
+ghost use Rattle.arraystring_run.specs.LinesOfScripts.{lines, AreLinesOfCommands, IsBadAt};
+ghost use Rattle.arraystring_run.specs.Playing.{IfBadLine};
 ghost use Rattle.arraystring_run.specs.declared.commands.Command.{Command};
 
 use crate::Command;
-use crate::find::find_byte;
+use crate::find::byte_position_or_len;
 use crate::line::command_of_str;
 use crate::player::PlayFault;
 use std::alloc::Global;
 use std::str;
 
-/// The commands of a whole script, one a line, which borrow their texts from it.
+/// The commands of a whole script, one a line, which borrow their texts from it. Returns
+/// `Err(PlayFault::BadLine)` with the number, counted from 1, of the first line that is no command, or
+/// `Err(PlayFault::Memory)` if memory runs out before that line.
 pub(crate) fn parse_script(alloc: Global, script: &[u8]) -> Result<Vec<Command<'_>>, PlayFault>
-    ensures accepted { IfOk result (λ v. AreLinesOf (lines script.now) v.items) }
+    ensures accepted { IfOk result (λ v. AreLinesOfCommands (lines script.now) v.items) }
     ensures bad_line { IfErr result (λ e. IfBadLine e (IsBadAt (lines script.now))) }
     ensures faults { IfErr result (λ e. e ≢ PlayFault.Write) }
 {
@@ -25,7 +27,7 @@ pub(crate) fn parse_script(alloc: Global, script: &[u8]) -> Result<Vec<Command<'
     let mut number = 0usize;
     while start < script.len() {
         number += 1;
-        let end = start + find_byte(b'\n', &script[start..]);
+        let end = start + byte_position_or_len(b'\n', &script[start..]);
         let Some(command) = command_between(script, text, start, end) else {
             return Err(PlayFault::BadLine(number));
         };

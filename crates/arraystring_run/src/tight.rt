@@ -1,7 +1,7 @@
 //! Whether a command is tight.
 ghost use Rattle.std.specs.Prelude.{◌≡◌, ◌+◌, ◌-◌, ◌&&◌, chars, nat_le, nat_lt};
 ghost use Rattle.arraystring.specs.Text.{cap, size};
-ghost use Rattle.arraystring_run.specs.Runs.{is_tight};
+ghost use Rattle.arraystring_run.specs.Effects.{is_tight};
 
 use crate::Command;
 use arraystring::ArrayString;
@@ -15,17 +15,18 @@ pub(crate) fn is_tight<const N: usize>(text: &ArrayString<N>, command: Command<'
 {
     text_fits(text);
     match command {
-        Command::TryPush(ch) => lacks_room(text, ch.len_utf8()),
-        Command::TryPushStr(given) => lacks_room(text, size_of_text(given)),
-        Command::PushStr(given) => lacks_room(text, size_of_text(given)),
-        Command::TryInsert(index, ch) => index <= text.len() && lacks_room(text, ch.len_utf8()),
+        Command::TryPush(ch) => lacks_room_for_bytes(text, ch.len_utf8()),
+        Command::TryPushStr(given) => lacks_room_for_bytes(text, size_of_text(given)),
+        Command::PushStr(given) => lacks_room_for_bytes(text, size_of_text(given)),
+        Command::TryInsert(index, ch) => index <= text.len()
+            && lacks_room_for_bytes(text, ch.len_utf8()),
         Command::TryInsertStr(index, given) => index <= text.len()
-            && lacks_room(text, size_of_text(given)),
+            && lacks_room_for_bytes(text, size_of_text(given)),
         Command::InsertStr(index, given) => {
-            is_char_boundary(text, index).is_ok() && lacks_room(text, size_of_text(given))
+            is_char_boundary(text, index).is_ok() && lacks_room_for_bytes(text, size_of_text(given))
         }
         Command::ReplaceRange { start, end, given } => {
-            lacks_room_for_range(text, start, end, size_of_text(given))
+            replacement_lacks_room(text, start, end, size_of_text(given))
         }
         _ => false,
     }
@@ -39,7 +40,7 @@ fn size_of_text(given: &str) -> usize
 }
 
 /// Whether `added` bytes more would not fit.
-fn lacks_room<const N: usize>(text: &ArrayString<N>, added: usize) -> bool
+fn lacks_room_for_bytes<const N: usize>(text: &ArrayString<N>, added: usize) -> bool
     ensures { result ≡ nat_lt (cap N) (size text.now.text + added) }
 {
     added > (ArrayString::<N>::capacity() - text.len()) as usize
@@ -47,7 +48,7 @@ fn lacks_room<const N: usize>(text: &ArrayString<N>, added: usize) -> bool
 
 /// Whether the text would not fit with `given` bytes in place of the range from `start` to `end`. Returns false if the
 /// range is reversed or not in the text, because another cause comes first then.
-fn lacks_room_for_range<const N: usize>(
+fn replacement_lacks_room<const N: usize>(
     text: &ArrayString<N>,
     start: u8,
     end: u8,

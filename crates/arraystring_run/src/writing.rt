@@ -8,7 +8,7 @@ ghost use Rattle.arraystring_run.specs.Writing.{AppendsPrefix};
 use std::io;
 use std::io::Write;
 
-/// Writes a text; an interrupted write is tried again. If another fails, a prefix of the text was
+/// Writes a text. An interrupted write is tried again. If a write fails otherwise, a prefix of the text was
 /// written.
 #[inline(always)]
 pub(crate) fn write_text<O: Write>(output: &mut O, text: &str) -> io::Result<()>
@@ -30,14 +30,14 @@ pub(crate) fn write_bytes<O: Write>(output: &mut O, bytes: &[u8]) -> io::Result<
         if rest.is_empty() {
             return Ok(());
         }
-        rest = write_some(output, rest)?;
+        rest = write_and_return_rest(output, rest)?;
     }
     Err(io::ErrorKind::Other.into())
 }
 
 /// Writes once, if there are bytes, and returns those that are left.
 #[inline(always)]
-fn write_some<'a, O: Write>(output: &mut O, bytes: &'a [u8]) -> io::Result<&'a [u8]>
+fn write_and_return_rest<'a, O: Write>(output: &mut O, bytes: &'a [u8]) -> io::Result<&'a [u8]>
     ensures some { IfOk result (λ rest. (done : List ℕ)
         × (bytes.now ≡ done ++ rest.now)
         × Appends (O.contents output.old) (O.contents output.new) done) }
@@ -50,8 +50,8 @@ fn write_some<'a, O: Write>(output: &mut O, bytes: &'a [u8]) -> io::Result<&'a [
     Ok(&bytes[count..])
 }
 
-/// Writes bytes, of which there are some, by one call, and returns how many were taken. An
-/// interrupted write takes none. A writer that takes none has failed.
+/// Writes `bytes`, which are not empty, by one call, and returns how many were taken, or 0 if the write was
+/// interrupted. If the writer itself takes none, returns the error `WriteZero`.
 #[inline(always)]
 fn write_once<O: Write>(output: &mut O, bytes: &[u8]) -> io::Result<usize>
     ensures bound { WritesAtMost result bytes.now }

@@ -1,12 +1,22 @@
 //! The paths by which callers reach `arraystring_run`, those of its definitions among them, and the traits of the types at
 //! those paths.
 ghost use Rattle.arraystring_run.specs.Arguments.{IsOnlyWord};
-ghost use Rattle.arraystring_run.specs.Line.{IsLineOf};
-ghost use Rattle.arraystring_run.specs.ScriptLines.{line_feed, with_newline, joined_lines, IsOneLine, AreOneLine, first_byte, lines, AreLinesOf, IsBadAt};
-ghost use Rattle.arraystring_run.specs.Printing.{reply_line, replies_printed, all_printed, run_printed};
+ghost use Rattle.arraystring_run.specs.Effects.{view_of_reply, RepliesAndText, run_result};
+ghost use Rattle.arraystring_run.specs.ReplyAgreement.{RepliesAgreeExceptCapacity, AllRepliesAgree, IsNoLater};
+ghost use Rattle.arraystring_run.specs.CommandLines.{IsLineOf, EachArgumentIsValid};
+ghost use Rattle.arraystring_run.specs.LinesOfScripts.{line_feed, with_newline, joined_terminated_lines, HasNoLineFeed, HaveNoLineFeeds, prepend_to_first_line, lines, AreLinesOfCommands, IsBadAt};
+ghost use Rattle.arraystring_run.specs.ReplyLines.{reply_line, replies_printed, replies_and_final_line, run_printed};
 ghost use Rattle.arraystring_run.specs.Writing.{AppendsPrefix};
-ghost use Rattle.arraystring_run.specs.Player.{IfBadLine, IsPlayed, IsPartPlayed};
-ghost use Rattle.arraystring_run.specs.Program.{capacity_named, status_of, usage_line, fault_line, report_of, Service, IsServed};
+ghost use Rattle.arraystring_run.specs.Playing.{IfBadLine, IsPlayed, IsPlayedPartlyWritten};
+ghost use Rattle.arraystring_run.specs.ProgramRuns.{capacity_named, status_of, usage_line, fault_line, report_of, ProgramRun, IsServed};
+// The old names of definitions, in the modules where they were, stay until the next release.
+ghost use Rattle.arraystring_run.specs.Runs.{view_of, reply_of, RunResult, after};
+ghost use Rattle.arraystring_run.specs.Agreement.{Agrees, AllAgree, IsNoSooner};
+ghost use Rattle.arraystring_run.specs.Line.{AreArguments, IsLineOf as IsLineOfCommand};
+ghost use Rattle.arraystring_run.specs.ScriptLines.{joined_lines, IsOneLine, AreOneLine, first_byte, AreLinesOf, IsBadAt as IsBadLineAt};
+ghost use Rattle.arraystring_run.specs.Printing.{printed, all_printed, run_printed as printed_run};
+ghost use Rattle.arraystring_run.specs.Player.{IsPartPlayed};
+ghost use Rattle.arraystring_run.specs.Program.{Service, IsServed as IsServedRun};
 
 use super::runs::text_of;
 use super::table::agree;
@@ -108,14 +118,17 @@ fn each_path_is_there(rt: HostRuntime) {
 /// Each law is called by its path; it does nothing.
 #[test]
 fn the_laws_are_at_hand(_rt: HostRuntime) {
-    laws::first_tight_position();
+    laws::first_tight_is_found();
     laws::first_tight_is_unique();
-    laws::lines_of_input();
+    laws::lines_rejoin_to_input();
     laws::each_command_has_a_line();
-    laws::script_has_one_meaning();
+    laws::script_has_one_result();
     laws::first_bad_line_is_unique();
-    // the old names of the last two, and of `first_tight_is_unique`
+    // These are old names of them.
+    laws::first_tight_position();
+    laws::lines_of_input();
     laws::one_first_tight();
+    laws::script_has_one_meaning();
     laws::one_reading();
     laws::one_bad_line();
 }

@@ -4,8 +4,8 @@
 use super::asserts::agree;
 use arraystring::ArrayString;
 use arraystring::laws::{
-    drain_gives_left, find_finds_first, rfind_finds_last, rsplit_once_at_last, split_once_at_first,
-    text_reads_back,
+    drain_gives_left, rfind_finds_last, rsplit_once_at_last, split_once_at_first,
+    str_find_gives_first, utf8_decodes_to_text,
 };
 use arraystring::utils::is_char_boundary;
 use std::process::Abort;
@@ -23,10 +23,10 @@ fn check_found(rt: &impl Abort, c: char, before: &str, after: &str) {
     let at = text.len();
     agree(rt, before, text.try_push(c), Ok(()));
     agree(rt, before, text.try_push_str(after), Ok(()));
-    text_reads_back(&text);
+    utf8_decodes_to_text(&text);
     let whole = text.as_str();
     let place = whole.find(c);
-    find_finds_first(whole, c, place);
+    str_find_gives_first(whole, c, place);
     agree(rt, whole, place, Some(before.len()));
     agree(rt, whole, is_char_boundary(&text, at), Ok(()));
     let parts = whole.split_once(c);
@@ -72,7 +72,7 @@ fn check_parts(rt: &impl Abort, text: ArrayString<64>, at: u8, before: &str, aft
 /// Asserts that `c`, which is not in `text`, is not found.
 fn check_not_found(rt: &impl Abort, c: char, text: &str) {
     let place = text.find(c);
-    find_finds_first(text, c, place);
+    str_find_gives_first(text, c, place);
     agree(rt, text, place, None);
     let parts = text.split_once(c);
     split_once_at_first(text, c, parts);

@@ -111,20 +111,20 @@ fn the_laws_are_at_hand(rt: HostRuntime) {
     laws::cut_of_cut();
     laws::equal_texts();
     laws::json_reads_back();
-    laws::json_reads_whole();
+    laws::json_whole_and_cut();
     let mut text = ArrayString::<5>::from("é");
     laws::text_fits(&text);
-    laws::text_reads_back(&text);
+    laws::utf8_decodes_to_text(&text);
     if let Ok(drained) = text.drain(..) {
-        laws::drain_left_fits(&drained);
+        laws::drain_text_fits(&drained);
         laws::drain_gives_left(&drained);
     }
     laws::keys_ascend::<5, u8>(&BTreeMap::new(rt.alloc()));
     laws::chars_next_is_first("a", "a".chars().next());
     laws::chars_next_back_is_last("a", "a".chars().next_back());
-    laws::well_formed_or_not(&[0xFF]);
+    laws::utf8_validity_is_decidable(&[0xFF]);
     laws::str_is_text("a");
-    laws::find_finds_first("a", 'a', "a".find('a'));
+    laws::str_find_gives_first("a", 'a', "a".find('a'));
     laws::split_once_at_first("a", 'a', "a".split_once('a'));
     laws::rfind_finds_last("a", 'a', "a".rfind('a'));
     laws::rsplit_once_at_last("a", 'a', "a".rsplit_once('a'));
@@ -133,18 +133,18 @@ fn the_laws_are_at_hand(rt: HostRuntime) {
     laws::equal_bytes_are_one_text();
     laws::only_reading(&[0xD800]);
     laws::order_of_bytes();
-    laws::order_of_texts();
-    laws::parts_join();
-    laws::pieces_make_one_text("a");
+    laws::texts_are_totally_ordered();
+    laws::split_and_join_invert();
+    laws::chars_of_joined_pieces("a");
     laws::pop_takes_last();
     laws::replacement_turns_back();
     laws::size_is_length();
-    laws::split_parts_join();
+    laws::split_off_parts_join();
     laws::text_units_read_as_text();
     laws::trim_drops_both_ends();
-    laws::units_read_back();
-    laws::walk_gives_each_once();
-    laws::what_comes_past_the_room();
+    laws::from_utf16_reads_back();
+    laws::ends_give_each_once();
+    laws::cut_ignores_excess();
     laws::white_space_is_that_of_std();
 }
 
@@ -154,26 +154,38 @@ fn the_old_names_of_laws_are_at_hand() {
     laws::boundaries();
     let mut text = ArrayString::<5>::from("é");
     laws::text_spelled(&text);
+    laws::text_reads_back(&text);
     if let Ok(drained) = text.drain(..) {
         laws::left_fits(&drained);
+        laws::drain_left_fits(&drained);
         laws::left_given(&drained);
     }
     laws::first_given("a", "a".chars().next());
     laws::last_given("a", "a".chars().next_back());
     laws::borrowed_text("a");
     laws::found_first("a", 'a', "a".find('a'));
+    laws::find_finds_first("a", 'a', "a".find('a'));
     laws::split_first("a", 'a', "a".split_once('a'));
     laws::found_last("a", 'a', "a".rfind('a'));
     laws::split_last("a", 'a', "a".rsplit_once('a'));
     laws::one_stop();
     laws::one_text();
+    laws::order_of_texts();
     laws::parts();
+    laws::parts_join();
+    laws::pieces_make_one_text("a");
     laws::popped();
+    laws::json_reads_whole();
     laws::replaced_back();
     laws::split_back();
+    laws::split_parts_join();
     laws::text_reading();
     laws::trimmed();
+    laws::units_read_back();
+    laws::walk_gives_each_once();
     laws::walks();
+    laws::well_formed_or_not(&[0xFF]);
+    laws::what_comes_past_the_room();
     laws::white_space();
 }
 

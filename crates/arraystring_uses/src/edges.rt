@@ -7,10 +7,10 @@ ghost use Rattle.arraystring.specs.Taken.{Fits, joined_pieces};
 ghost use Rattle.arraystring.specs.Text.{IsWellFormed, back, boundary, bytes, cap, front, size, width};
 
 use arraystring::error::Error;
-use arraystring::laws::parts_join;
+use arraystring::laws::split_and_join_invert;
 use arraystring::utils::{Steps, encode, look, shift, truncate_str_counted};
 use arraystring::{ArrayString, CacheString, Drain};
-use arraystring_base::utils::{first_char, last_char, write_over};
+use arraystring_base::utils::{first_char_and_width, last_char_with_start, write_over};
 
 /// Makes a full string of a text.
 pub fn full_of_text<const N: usize>(given: &str) -> ArrayString<N>
@@ -70,7 +70,7 @@ pub fn nothing_at<const N: usize>(text: &ArrayString<N>, index: u8) -> &str
     requires { IsTrue (boundary text.now.text index) }
     ensures { chars result.now ≡ [] }
 {
-    parts_join();
+    split_and_join_invert();
     text.slice(index..index)
 }
 
@@ -80,7 +80,7 @@ pub fn uppercase_nothing<const N: usize>(text: &mut ArrayString<N>, index: u8)
     requires { IsTrue (boundary text.old.text index) }
     ensures { text.new.text ≡ text.old.text }
 {
-    parts_join();
+    split_and_join_invert();
     text.make_ascii_uppercase_in(index..index);
 }
 
@@ -90,7 +90,7 @@ pub fn lowercase_nothing<const N: usize>(text: &mut ArrayString<N>, index: u8)
     requires { IsTrue (boundary text.old.text index) }
     ensures { text.new.text ≡ text.old.text }
 {
-    parts_join();
+    split_and_join_invert();
     text.make_ascii_lowercase_in(index..index);
 }
 
@@ -181,14 +181,14 @@ pub fn look_at_last(given: &[u8], index: usize, steps: &mut Steps) -> u8
 pub fn only_character(text: &str) -> char
     requires { length text.now ≡ 1 }
 {
-    first_char(text).0
+    first_char_and_width(text).0
 }
 
 /// Returns the last character, at the greatest count of looks that can still grow by four.
 pub fn look_at_last_character(text: &str, steps: &mut Steps) -> Option<char>
     requires { steps.old.looked + 5 ≡ 2 ^ 64 }
 {
-    let (_, last) = last_char(text, steps)?;
+    let (_, last) = last_char_with_start(text, steps)?;
     Some(last)
 }
 

@@ -5,7 +5,7 @@ ghost use Rattle.arraystring.specs.Construct.{IsWholeOrRefused};
 ghost use Rattle.arraystring.specs.Refusals.{OutOfBounds};
 ghost use Rattle.arraystring.specs.Text.{size};
 
-use arraystring::laws::{find_finds_first, split_once_at_first, text_fits};
+use arraystring::laws::{split_once_at_first, str_find_gives_first, text_fits};
 use arraystring::{ArrayString, Error};
 
 /// Splits `line` at its first `=` into what is before it and what is after it.
@@ -92,7 +92,7 @@ pub fn split_value(line: &mut ArrayString<64>) -> Option<ArrayString<64>>
     text_fits(line);
     let text = line.as_str();
     let place = text.find('=');
-    find_finds_first(text, '=', place);
+    str_find_gives_first(text, '=', place);
     match place {
         None => None,
         Some(at) => line.split_off(at as u8).ok(),

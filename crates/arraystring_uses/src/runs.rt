@@ -2,7 +2,7 @@
 ghost use Rattle.std.specs.Prelude.{◌≡◌, ◌-◌, ◌++◌, ◌↔◌, [], IfOk, OnOk, OnErr, IsTrue, chars};
 ghost use Rattle.arraystring.specs.Edits.{all_but_last};
 ghost use Rattle.arraystring.specs.Text.{cut, size};
-ghost use Rattle.arraystring_run.specs.Runs.{NoneTight};
+ghost use Rattle.arraystring_run.specs.Effects.{NoneTight};
 
 use arraystring::ArrayString;
 use arraystring_run::{Command, run, run_both};

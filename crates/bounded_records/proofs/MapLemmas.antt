@@ -15,26 +15,26 @@ use Rattle.std.proofs.lemmas.Map.Views.{tells_apart}
 use Rattle.arraystring.specs.Stored.{StringView}
 use Rattle.arraystring.proofs.MapLaws.{has_text, updated-text}
 use Rattle.bounded_records.specs.declared.user.User.{User}
-use Rattle.bounded_records.specs.Users.{by_text, texts}
+use Rattle.bounded_records.specs.UserTexts.{entry_texts, texts}
 
 abbrev Users : Type 0
 Users = finite.FinMap (slice_cmp nat_cmp) (List ℕ × List ℕ)
 
 -- the map from the texts
 abbrev pub users_of : List (StringView × User) → Users
-users_of es = finite.from_entries (by_text es)
+users_of es = finite.from_entries (entry_texts es)
 
 texts-cond : (b : Bool) (x y : Option User) → option_map texts (cond b x y) ≡ cond b (option_map texts x) (option_map texts y)
 texts-cond true x y = refl
 texts-cond false x y = refl
 
-find-by_text : (es : List (StringView × User)) (q : List ℕ) → find (slice_cmp nat_cmp) q (by_text es) ≡ option_map texts (lookup (has_text q) es)
-find-by_text [] q = refl
-find-by_text (e ∷ es) q =
-    cc (find-by_text es q, texts-cond (has_text q e.0) (Some e.1) (lookup (has_text q) es))
+find-entry_texts : (es : List (StringView × User)) (q : List ℕ) → find (slice_cmp nat_cmp) q (entry_texts es) ≡ option_map texts (lookup (has_text q) es)
+find-entry_texts [] q = refl
+find-entry_texts (e ∷ es) q =
+    cc (find-entry_texts es q, texts-cond (has_text q e.0) (Some e.1) (lookup (has_text q) es))
 
 pub get_users : (es : List (StringView × User)) (q : List ℕ) → finite.get (users_of es) q ≡ option_map texts (lookup (has_text q) es)
-get_users es q = finite.get-from_entries nat_list_cmp_total (by_text es) q ∙ find-by_text es q
+get_users es q = finite.get-from_entries nat_list_cmp_total (entry_texts es) q ∙ find-entry_texts es q
 
 -- what is found under each text after a change to what is under one
 updated-users : (old new : List (StringView × User)) (t : List ℕ) (value : Option User)
@@ -124,7 +124,7 @@ entries-empty : finite.entries (finite.empty {X = List ℕ × List ℕ} {R = sli
 entries-empty = nil_from_length _ (sym (finite.len-entries _) ∙ finite.len-empty (slice_cmp nat_cmp) (List ℕ × List ℕ))
 
 entries-users : (es : List (StringView × User)) → IsStrictlySortedBy (λ a b. slice_cmp nat_cmp a.text b.text) (keys_of es)
-    → finite.entries (users_of es) ≡ by_text es
+    → finite.entries (users_of es) ≡ entry_texts es
 unfolding IsStrictlySortedBy
 entries-users [] is = entries-empty
 entries-users (e ∷ []) is =
@@ -133,7 +133,7 @@ entries-users (e ∷ f ∷ es) is =
     finite.entries-insert nat_list_cmp_total (users_of (f ∷ es)) e.0.text (texts e.1)
     ∙ ap (put (slice_cmp nat_cmp) e.0.text (texts e.1)) (entries-users (f ∷ es) is.1) ∙ rw is.0.0 refl
 
-first-texts : (es : List (StringView × User)) → keys_of (by_text es) ≡ key_texts (keys_of es)
+first-texts : (es : List (StringView × User)) → keys_of (entry_texts es) ≡ key_texts (keys_of es)
 first-texts [] = refl
 first-texts (e ∷ es) = cc (first-texts es)
 
@@ -150,7 +150,7 @@ pub len_keys : (m : Users) → length (finite.keys m) ≡ finite.len m
 len_keys m = length-map (finite.entries m) (λ e. e.0) ∙ sym (finite.len-entries m)
 
 -- the users, in the order of their keys
-second-texts : (es : List (StringView × User)) → map (λ e. e.1) (by_text es) ≡ map texts (values_of es)
+second-texts : (es : List (StringView × User)) → map (λ e. e.1) (entry_texts es) ≡ map texts (values_of es)
 second-texts [] = refl
 second-texts (e ∷ es) = cc (second-texts es)
 

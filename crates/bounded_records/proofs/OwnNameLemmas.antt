@@ -16,7 +16,7 @@ use Rattle.std.proofs.lemmas.Map.Views.{All-found, tells_apart}
 use Rattle.arraystring.specs.Stored.{StringView}
 use Rattle.arraystring.proofs.MapLaws.{has_text}
 use Rattle.bounded_records.specs.declared.user.User.{User}
-use Rattle.bounded_records.specs.Users.{AreUnderTheirNames, names_of, texts}
+use Rattle.bounded_records.specs.UserTexts.{AreUnderTheirNames, names_of, texts}
 use Rattle.bounded_records.proofs.MapLemmas.{users_of, key_texts, get_users}
 
 module _ (m n : finite.FinMap (slice_cmp nat_cmp) (List ℕ × List ℕ)) where

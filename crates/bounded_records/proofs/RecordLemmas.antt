@@ -8,11 +8,11 @@ use Rattle.std.proofs.lemmas.List.Elements.{All-head, All-tail, All-replicate}
 use borrow.Rule.Slice.PartMut.{put_mid}
 use Rattle.arraystring.specs.Text.{size, bytes, IsText, IsWellFormed}
 use Rattle.arraystring.proofs.TextLaws.{size-is, bytes_same}
-use Rattle.bounded_records.specs.Records.{field_of, count, counted_bytes, padding, IsRecord, username_field, role_field, HasLength, CountsFit, AreWellFormed, ArePadded, IsFirstFault}
+use Rattle.bounded_records.specs.RecordBytes.{field_of, count, counted_bytes, uncounted_bytes, IsRecord, username_field, role_field, HasRecordSize, CountsFit, AreWellFormed, ArePadded, IsFirstFault}
 use Rattle.bounded_records.specs.declared.user.User.{User}
 use Rattle.bounded_records.specs.declared.record.RecordFault.{RecordFault}
 use Rattle.bounded_records.specs.declared.record.RecordFault.TheVariants.{Length, Count, Utf8, Padding}
-use Rattle.bounded_records.specs.Users.{texts}
+use Rattle.bounded_records.specs.UserTexts.{texts}
 
 -- a text written over zero bytes
 pub written : (room n k : ℕ) (t new field : List ℕ) → field ≡ replicate (suc room) 0 → n ≡ size t → k ≡ size t → new ≡ bytes t
@@ -33,14 +33,14 @@ module _ (room : ℕ) (t : List ℕ) (fits : size t ≤ room) where
   pub counted_bytes-field : counted_bytes (field_of room t) ≡ bytes t
   counted_bytes-field = take_at (bytes t) (replicate (room - size t) 0) (size t) (sym (size-is t))
 
-  pub padding-field : All (λ b. b ≡ 0) (padding (field_of room t))
-  padding-field =
+  pub uncounted_bytes-field : All (λ b. b ≡ 0) (uncounted_bytes (field_of room t))
+  uncounted_bytes-field =
       rw (← drop-drop (size t) 1 (field_of room t), drop_at (bytes t) (replicate (room - size t) 0) (size t) (sym (size-is t)))
       (All-replicate (λ b. b ≡ 0) _ 0 refl)
 
 -- a field whose tests pass is that of its text
 pub field-is : (room : ℕ) (field t : List ℕ) → length field ≡ 1 + room → count field ≤ room → bytes t ≡ counted_bytes field
-    → All (λ b. b ≡ 0) (padding field) → field ≡ field_of room t
+    → All (λ b. b ≡ 0) (uncounted_bytes field) → field ≡ field_of room t
 field-is room [] t long fits same zero = absurd (omega arith)
 field-is room (n ∷ rest) t long fits same zero =
     let within : n ≤ length rest = omega arith in
@@ -57,8 +57,8 @@ module _ (bs username role : List ℕ) (is : IsRecord bs username role) where
   second : role_field bs ≡ field_of 5 role
   second = ap (drop 21) is.same ∙ drop_at (field_of 20 username) (field_of 5 role) 21 (length-field 20 username is.username_fits)
 
-  has_length : HasLength bs
-  has_length =
+  has_record_size : HasRecordSize bs
+  has_record_size =
       ap length is.same ∙ length-append (field_of 20 username) (field_of 5 role)
       ∙ omega (arith, length-field 20 username is.username_fits, length-field 5 role is.role_fits)
 
@@ -75,10 +75,10 @@ module _ (bs username role : List ℕ) (is : IsRecord bs username role) where
   are_well_formed = ((username, (is.username_text, sym username_bytes)), (role, (is.role_text, sym role_bytes)))
 
   are_padded : ArePadded bs
-  are_padded = rw (first, second) (padding-field 20 username is.username_fits, padding-field 5 role is.role_fits)
+  are_padded = rw (first, second) (uncounted_bytes-field 20 username is.username_fits, uncounted_bytes-field 5 role is.role_fits)
 
   no_fault : (fault : RecordFault) → IsFirstFault bs fault → ⊥
-  no_fault Length f = f has_length
+  no_fault Length f = f has_record_size
   no_fault Count f = f.1 counts_fit
   no_fault Utf8 f = f.2 are_well_formed
   no_fault Padding f = f.3 are_padded
@@ -134,7 +134,7 @@ accept bs user is =
     }
 
 -- what the tests of the two fields decide
-module _ (bs u r : List ℕ) (long : HasLength bs) (cut_at : u ≡ username_field bs) (rest : r ≡ role_field bs) where
+module _ (bs u r : List ℕ) (long : HasRecordSize bs) (cut_at : u ≡ username_field bs) (rest : r ≡ role_field bs) where
   pub refused_count : ¬ ((count u ≤ 20) × (count r ≤ 5)) → IsDecoded bs (Err Count)
   refused_count fails = refused bs Count (long, λ fit. fails (rw (cut_at, rest) fit))
 
@@ -144,12 +144,12 @@ module _ (bs u r : List ℕ) (long : HasLength bs) (cut_at : u ≡ username_fiel
 
     module _ (user : User) (name : IsText user.username.text × (bytes user.username.text ≡ counted_bytes u))
         (role : IsText user.role.text × (bytes user.role.text ≡ counted_bytes r)) where
-      pub refused_padding : ¬ (All (λ b. b ≡ 0) (padding u) × All (λ b. b ≡ 0) (padding r)) → IsDecoded bs (Err Padding)
+      pub refused_padding : ¬ (All (λ b. b ≡ 0) (uncounted_bytes u) × All (λ b. b ≡ 0) (uncounted_bytes r)) → IsDecoded bs (Err Padding)
       refused_padding fails =
           let well : IsWellFormed (counted_bytes u) × IsWellFormed (counted_bytes r) = ((user.username.text, name), (user.role.text, role)) in
           refused bs Padding (long, rw (cut_at, rest) at fits, rw (cut_at, rest) at well, λ padded. fails (rw (cut_at, rest) padded))
 
-      pub accepted : All (λ b. b ≡ 0) (padding u) → All (λ b. b ≡ 0) (padding r) → IsDecoded bs (Ok user)
+      pub accepted : All (λ b. b ≡ 0) (uncounted_bytes u) → All (λ b. b ≡ 0) (uncounted_bytes r) → IsDecoded bs (Ok user)
       accepted zero_u zero_r =
           let long_u : length u ≡ 21 = ap length cut_at ∙ length-take-le 21 bs (omega arith) in
           let long_r : length r ≡ 6 = ap length rest ∙ omega (arith, length-drop 21 bs) in

@@ -3,7 +3,7 @@ use Rattle.std.proofs.Common.{◌∙◌, ap, length}
 use mathlib.Core.List.{map-map}
 use Rattle.std.specs.Iterator.{YieldsFirstBy, YieldsLastBy}
 use Rattle.std.proofs.iter.runs.Sources.{from_front, from_back}
-use Rattle.bounded_records.specs.Walks.{GivesInOrder, GivesInReverse, GivesCopiesInOrder}
+use Rattle.bounded_records.specs.DirectoryWalks.{GivesInOrder, GivesInReverse, GivesCopiesInOrder}
 
 module _ {A B : Type 0} (view : A → B) where
   pub in_order : GivesInOrder view

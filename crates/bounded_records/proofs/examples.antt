@@ -1,5 +1,5 @@
-mod Users
-mod Records
+mod UserTexts
+mod RecordBytes
 mod Names
 mod UserFaults
-mod Walks
+mod DirectoryWalks

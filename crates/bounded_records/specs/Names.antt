@@ -1,4 +1,4 @@
--- The names under which the faults are printed.
+-- The faults of records and of users are printed under these names.
 use Rattle.std.specs.Prelude.{List, ℕ, codes}
 use Rattle.bounded_records.specs.declared.record.RecordFault.{RecordFault}
 use Rattle.bounded_records.specs.declared.record.RecordFault.TheVariants.{Length, Count, Utf8, Padding}

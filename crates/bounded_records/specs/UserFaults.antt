@@ -1,4 +1,4 @@
--- The reasons why a username and a role make no user.
+-- A username and a role make no user if one of them is too large.
 use Rattle.std.specs.Prelude.{ℕ, ◌<◌, ◌≤◌, List}
 use Rattle.arraystring.specs.Text.{size}
 use Rattle.bounded_records.specs.declared.user.UserFault.{UserFault}

@@ -4,8 +4,8 @@ ghost use Rattle.std.specs.Option.{option_copied, option_map};
 ghost use Rattle.std.specs.List.{AllPairs};
 ghost use Rattle.std.specs.FinMap as map;
 ghost use Rattle.arraystring.specs.Text.{IsBefore};
-ghost use Rattle.bounded_records.specs.Users.{texts, names_of};
-ghost use Rattle.bounded_records.specs.Walks.{GivesInOrder, GivesInReverse, GivesCopiesInOrder, name_text, stored_text, user_texts};
+ghost use Rattle.bounded_records.specs.UserTexts.{texts, names_of};
+ghost use Rattle.bounded_records.specs.DirectoryWalks.{GivesInOrder, GivesInReverse, GivesCopiesInOrder, text_of_borrowed_username, text_of_username, texts_of_borrowed_user};
 
 use crate::User;
 use crate::walks::{Names, Users};
@@ -30,17 +30,17 @@ impl Model for Directory {
     ghost use Rattle.std.specs.Cmp.Lexicographic.{slice_cmp};
     ghost use Rattle.std.specs.FinMap as map;
     ghost use Rattle.std.specs.Coded.{coded_list, coded_ℕ, coded×};
-    ghost use Rattle.bounded_records.specs.Users.{by_text, AreUnderTheirNames};
+    ghost use Rattle.bounded_records.specs.UserTexts.{entry_texts, AreUnderTheirNames};
 
     ghost Value = { map.FinMap (slice_cmp nat_cmp) (List ℕ × List ℕ) };
 
     ghost coded = { map.code (coded_list coded_ℕ)
         (coded× (coded_list coded_ℕ) (coded_list coded_ℕ)) };
 
-    ghost view = { λ d. map.from_entries (by_text d.users.entries) };
+    ghost view = { λ d. map.from_entries (entry_texts d.users.entries) };
 
     ghost invariant = { λ d. AreUnderTheirNames
-        (map.from_entries (by_text d.users.entries)) };
+        (map.from_entries (entry_texts d.users.entries)) };
 }
 
 impl Directory {
@@ -165,9 +165,9 @@ impl Directory {
         ensures found { All (λ name. IsTrue (map.contains_key self.now name)) result }
         ensures len { length result ≡ map.len self.now }
         ensures countable { length result < 2 ^ 63 }
-        ensures runs { GivesInOrder name_text }
-        ensures runs_back { GivesInReverse name_text }
-        ensures copies { GivesCopiesInOrder stored_text }
+        ensures runs { GivesInOrder text_of_borrowed_username }
+        ensures runs_back { GivesInReverse text_of_borrowed_username }
+        ensures copies { GivesCopiesInOrder text_of_username }
     {
         Names {
             keys: self.users.keys(),
@@ -181,8 +181,8 @@ impl Directory {
         ensures found { All (λ user. map.get self.now user.0 ≡ Some user) result }
         ensures len { length result ≡ map.len self.now }
         ensures countable { length result < 2 ^ 63 }
-        ensures runs { GivesInOrder user_texts }
-        ensures runs_back { GivesInReverse user_texts }
+        ensures runs { GivesInOrder texts_of_borrowed_user }
+        ensures runs_back { GivesInReverse texts_of_borrowed_user }
         ensures copies { GivesCopiesInOrder texts }
     {
         Users {

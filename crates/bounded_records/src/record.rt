@@ -14,8 +14,8 @@ ghost use Rattle.arraystring.specs.Text.{IsText, IsWellFormed, bytes, size};
 ghost use Rattle.bounded_records.specs.declared.record.RecordFault.{RecordFault};
 ghost use Rattle.bounded_records.specs.declared.record.RecordFault.TheVariants.{Utf8};
 ghost use Rattle.bounded_records.specs.Names.{fault_name};
-ghost use Rattle.bounded_records.specs.Records.{IsRecord, field_of, count, counted_bytes, padding, HasLength, IsFirstFault};
-ghost use Rattle.bounded_records.specs.Users.{texts};
+ghost use Rattle.bounded_records.specs.RecordBytes.{IsRecord, field_of, count, counted_bytes, uncounted_bytes, HasRecordSize, IsFirstFault};
+ghost use Rattle.bounded_records.specs.UserTexts.{texts};
 
 use crate::User;
 use arraystring::ArrayString;
@@ -83,8 +83,8 @@ pub fn encode(user: &User) -> [u8; RECORD_SIZE]
 {
     let mut record = [0; RECORD_SIZE];
     let (username, role) = record.split_at_mut(ROLE_OFFSET);
-    write_field(username, &user.username);
-    write_field(role, &user.role);
+    fill_zeroed_field(username, &user.username);
+    fill_zeroed_field(role, &user.role);
     record
 }
 
@@ -110,7 +110,7 @@ pub fn decode(given: &[u8]) -> Result<User, RecordFault>
     ensures fault { (fault : RecordFault)
         → IsErrAnd result (λ e. e ≡ fault) ↔ IsFirstFault given.now fault }
 {
-    if !has_length(given) {
+    if !has_record_size(given) {
         return Err(RecordFault::Length);
     }
     let (username, role) = given.split_at(ROLE_OFFSET);
@@ -129,7 +129,7 @@ pub fn decode(given: &[u8]) -> Result<User, RecordFault>
 
 /// Writes a text into a field whose bytes are all 0.
 #[tactic(auto, using(crate::proofs::RecordLemmas::written))]
-fn write_field<const N: usize>(field: &mut [u8], text: &ArrayString<N>)
+fn fill_zeroed_field<const N: usize>(field: &mut [u8], text: &ArrayString<N>)
     requires { field.old ≡ replicate (suc N) 0 }
     ensures field { field.new ≡ field_of N text.now.text }
     ensures text { IsText text.now.text }
@@ -141,8 +141,8 @@ fn write_field<const N: usize>(field: &mut [u8], text: &ArrayString<N>)
 }
 
 /// Whether there are as many bytes as a record has.
-fn has_length(given: &[u8]) -> bool
-    ensures { IsTrue result ↔ HasLength given.now }
+fn has_record_size(given: &[u8]) -> bool
+    ensures { IsTrue result ↔ HasRecordSize given.now }
 {
     given.len() == RECORD_SIZE
 }
@@ -181,7 +181,8 @@ fn are_padded(username: &[u8], role: &[u8]) -> bool
     requires username { count username.now < length username.now }
     requires role { count role.now < length role.now }
     ensures { IsTrue result
-        ↔ (All (λ b. b ≡ 0) (padding username.now) × All (λ b. b ≡ 0) (padding role.now)) }
+        ↔ (All (λ b. b ≡ 0) (uncounted_bytes username.now)
+        × All (λ b. b ≡ 0) (uncounted_bytes role.now)) }
 {
     is_padded(username) && is_padded(role)
 }
@@ -189,7 +190,7 @@ fn are_padded(username: &[u8], role: &[u8]) -> bool
 /// Whether all bytes after the counted ones are zero.
 fn is_padded(field: &[u8]) -> bool
     requires { count field.now < length field.now }
-    ensures { IsTrue result ↔ All (λ b. b ≡ 0) (padding field.now) }
+    ensures { IsTrue result ↔ All (λ b. b ≡ 0) (uncounted_bytes field.now) }
 {
     field[1 + field[0] as usize..].iter().all(|&b| b == 0)
 }

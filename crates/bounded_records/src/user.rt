@@ -2,7 +2,7 @@
 ghost use Rattle.std.specs.Prelude.{◌≡◌, ◌≤◌, Some, IfOk, IfErr, OnOk, chars};
 ghost use Rattle.arraystring.specs.Text.{size};
 ghost use Rattle.bounded_records.specs.Names.{user_fault_name};
-ghost use Rattle.bounded_records.specs.Users.{texts};
+ghost use Rattle.bounded_records.specs.UserTexts.{texts};
 ghost use Rattle.bounded_records.specs.UserFaults.{IsFirstTooLarge};
 
 use arraystring::ArrayString;

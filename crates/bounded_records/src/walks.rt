@@ -2,7 +2,7 @@
 ghost use Rattle.std.specs.Prelude.{◌≡◌, ⊤, Some, IfSome, length};
 ghost use Rattle.std.specs.Iterator.{YieldsFirstBy, YieldsLastBy, UpTo, at_most, item_count};
 ghost use Rattle.std.specs.Iterator.SizeHint.{IsWithinCount};
-ghost use Rattle.bounded_records.specs.Walks.{name_text, user_texts};
+ghost use Rattle.bounded_records.specs.DirectoryWalks.{text_of_borrowed_username, texts_of_borrowed_user};
 
 use crate::User;
 use arraystring::ArrayString;
@@ -45,7 +45,7 @@ impl<'a> Clone for Names<'a> {
 impl<'a> Iterator for Names<'a> {
     type Item = &'a ArrayString<20>;
 
-    ghost next_gives = { YieldsFirstBy name_text (λ names. names) };
+    ghost next_gives = { YieldsFirstBy text_of_borrowed_username (λ names. names) };
 
     ghost remaining = { item_count (λ names. names) };
 
@@ -66,7 +66,7 @@ impl<'a> Iterator for Names<'a> {
 }
 
 impl<'a> DoubleEndedIterator for Names<'a> {
-    ghost next_back_gives = { YieldsLastBy name_text (λ names. names) };
+    ghost next_back_gives = { YieldsLastBy text_of_borrowed_username (λ names. names) };
 
     /// Returns the last username that is left. Once none is left, it always returns `None`.
     fn next_back(&mut self) -> Option<&'a ArrayString<20>> {
@@ -100,7 +100,7 @@ pub struct Users<'a> {
 
 impl<'a> Model for Users<'a> {
     ghost use Rattle.std.specs.Prelude.{ℕ, List, map};
-    ghost use Rattle.bounded_records.specs.Users.{texts};
+    ghost use Rattle.bounded_records.specs.UserTexts.{texts};
 
     ghost Value = { List (List ℕ × List ℕ) };
 
@@ -124,7 +124,7 @@ impl<'a> Clone for Users<'a> {
 impl<'a> Iterator for Users<'a> {
     type Item = &'a User;
 
-    ghost next_gives = { YieldsFirstBy user_texts (λ users. users) };
+    ghost next_gives = { YieldsFirstBy texts_of_borrowed_user (λ users. users) };
 
     ghost remaining = { item_count (λ users. users) };
 
@@ -145,7 +145,7 @@ impl<'a> Iterator for Users<'a> {
 }
 
 impl<'a> DoubleEndedIterator for Users<'a> {
-    ghost next_back_gives = { YieldsLastBy user_texts (λ users. users) };
+    ghost next_back_gives = { YieldsLastBy texts_of_borrowed_user (λ users. users) };
 
     /// Returns the last user that is left. Once none is left, it always returns `None`.
     fn next_back(&mut self) -> Option<&'a User> {

@@ -1,4 +1,9 @@
 //! The paths by which callers reach the crate, and the traits of the types at those paths.
+// The old names of definitions, in the modules where they were, stay until the next release.
+ghost use Rattle.bounded_records.specs.Records.{padding, HasLength};
+ghost use Rattle.bounded_records.specs.Users.{by_text};
+ghost use Rattle.bounded_records.specs.Walks.{stored_text, name_text, user_texts};
+
 use super::users::agree;
 use arraystring::ArrayString;
 use bounded_records::{

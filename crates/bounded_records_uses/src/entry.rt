@@ -1,7 +1,7 @@
 //! The user of a record, entered in a directory.
 ghost use Rattle.std.specs.Prelude.{◌≡◌, ℕ, List, IfErr, IsErrAnd, OnErr, OnOk};
 ghost use Rattle.std.specs.FinMap as finite;
-ghost use Rattle.bounded_records.specs.Records.{IsFirstFault, IsRecord};
+ghost use Rattle.bounded_records.specs.RecordBytes.{IsFirstFault, IsRecord};
 ghost use Rattle.bounded_records.specs.declared.record.RecordFault.{RecordFault};
 ghost use Rattle.bounded_records_uses.specs.declared.entry.NotEntered.TheVariants.{Memory, NoRecord};
 

@@ -1,6 +1,6 @@
 //! What is in a record.
 ghost use Rattle.std.specs.Prelude.{◌≡◌, ℕ, List, IfErr, IsOkAnd};
-ghost use Rattle.bounded_records.specs.Records.{IsFirstFault, IsRecord};
+ghost use Rattle.bounded_records.specs.RecordBytes.{IsFirstFault, IsRecord};
 
 use arraystring::ArrayString;
 use bounded_records::{RecordFault, decode};

@@ -2,7 +2,7 @@
 ghost use Rattle.std.specs.Prelude.{◌≡◌, ◌≢◌, ℕ, List, Some, None, IfOk, IfErr, OnOk, OnErr, IsSome, map, is_some};
 ghost use Rattle.std.specs.Option.{option_map};
 ghost use Rattle.std.specs.FinMap as finite;
-ghost use Rattle.bounded_records.specs.Users.{texts};
+ghost use Rattle.bounded_records.specs.UserTexts.{texts};
 ghost use Rattle.bounded_records_uses.specs.declared.registry.NotRenamed.TheVariants.{Missing, Taken, Memory};
 
 use arraystring::ArrayString;

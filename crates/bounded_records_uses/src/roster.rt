@@ -3,7 +3,7 @@ ghost use Rattle.std.specs.Prelude.{◌≡◌, Some, IsSome};
 ghost use Rattle.std.specs.List.{AllPairs};
 ghost use Rattle.std.specs.FinMap as finite;
 ghost use Rattle.arraystring.specs.Text.{IsBefore};
-ghost use Rattle.bounded_records.specs.Users.{texts};
+ghost use Rattle.bounded_records.specs.UserTexts.{texts};
 
 use bounded_records::{Directory, Names, User};
 use std::alloc::AllocError;

@@ -9,8 +9,10 @@ use crate::{ArrayString, Error, OutOfBounds, Utf8, Utf16};
 
 /// # Strings made, whole or not at all
 ///
-/// Their contracts are in `crates/arraystring_core/src/array_string/construct.rt` and `utf16.rt` of the repository, and that of `new` is in
-/// `../array_string.rt`. But `const_try_from_str`, `try_from_iterator`, the lossy forms and `try_from_format` have none.
+/// Some of these calls make the proved call of the same name, whose contract is in
+/// `crates/arraystring_core/src/array_string/construct.rt` or `utf16.rt` of the repository, or for `new` in `array_string.rt` beside that
+/// folder. The others, `const_try_from_str`, `try_from_iterator`, the two `_lossy` calls and `try_from_format`, have bodies of their own,
+/// and no contract. (The `try_from_iterator` in `construct.rt` has one, but it is of another body.)
 impl<const N: usize> ArrayString<N> {
     /// An empty string.
     ///
@@ -43,11 +45,11 @@ impl<const N: usize> ArrayString<N> {
     #[inline]
     pub fn try_from_str(text: &str) -> Result<Self, OutOfBounds> {
         let _ = Self::CAPACITY;
-        core_of::ArrayString::try_from_str(text).map(ArrayString).map_err(OutOfBounds::from_core)
+        core_of::ArrayString::try_from_str(text).map(ArrayString).map_err(OutOfBounds::from_proved_error)
     }
 
-    /// The string of `text`, in a constant. Where it is no constant, [`try_from_str`](Self::try_from_str) is faster. The macro
-    /// [`arraystring!`](crate::arraystring) does not compile if the text does not fit.
+    /// The string of `text`. It can be called in a `const`. In code that is no constant, [`try_from_str`](Self::try_from_str) is faster.
+    /// The macro [`arraystring!`](crate::arraystring) does not compile if the text does not fit.
     ///
     /// # Errors
     ///
@@ -79,8 +81,8 @@ impl<const N: usize> ArrayString<N> {
         let (mut array, mut bytes): (&mut [MaybeByte], _) = (&mut made.0.array, text.as_bytes());
         while let ([place, places @ ..], [byte, others @ ..]) = (array, bytes) {
             *place = MaybeByte::new(*byte);
-            // The size grows with the bytes that are written, and stays within the capacity by the test above. Behind the loop all bytes
-            // of the text are written, so the string ends with a whole character.
+            // The size counts the bytes that were written, and stays within the capacity by the test above. After the loop all
+            // bytes of the text are written, so the string ends with a whole character.
             made.0.size += 1;
             (array, bytes) = (places, others);
         }
@@ -91,7 +93,8 @@ impl<const N: usize> ArrayString<N> {
     ///
     /// # Errors
     ///
-    /// Returns [`OutOfBounds`] at the first piece that does not fit. So the iterator may be endless, if its pieces are not all empty.
+    /// Returns [`OutOfBounds`] at the first piece that does not fit. So the iterator may be endless, unless from some piece on it gives
+    /// only empty ones.
     ///
     /// # Examples
     ///
@@ -133,7 +136,7 @@ impl<const N: usize> ArrayString<N> {
     #[inline]
     pub fn try_from_chars(characters: impl IntoIterator<Item = char>) -> Result<Self, OutOfBounds> {
         let _ = Self::CAPACITY;
-        core_of::ArrayString::try_from_chars(characters).map(ArrayString).map_err(OutOfBounds::from_core)
+        core_of::ArrayString::try_from_chars(characters).map(ArrayString).map_err(OutOfBounds::from_proved_error)
     }
 
     /// The string of a text in UTF-8.
@@ -158,10 +161,11 @@ impl<const N: usize> ArrayString<N> {
     #[inline]
     pub fn try_from_utf8(bytes: &[u8]) -> Result<Self, Error> {
         let _ = Self::CAPACITY;
-        core_of::ArrayString::try_from_utf8(bytes).map(ArrayString).map_err(Error::from_core)
+        core_of::ArrayString::try_from_utf8(bytes).map(ArrayString).map_err(Error::from_proved_error)
     }
 
-    /// The string of bytes, in which each run that is no UTF-8 becomes U+FFFD (three bytes), as in `String::from_utf8_lossy`.
+    /// The string of bytes, in which each malformed sequence becomes one U+FFFD (three bytes), as in `String::from_utf8_lossy`:
+    /// `b"\xFF\xFF"` has two such sequences.
     ///
     /// # Errors
     ///
@@ -212,7 +216,7 @@ impl<const N: usize> ArrayString<N> {
     #[inline]
     pub fn try_from_utf16(units: &[u16]) -> Result<Self, Error> {
         let _ = Self::CAPACITY;
-        core_of::ArrayString::try_from_utf16(units).map(ArrayString).map_err(Error::from_core)
+        core_of::ArrayString::try_from_utf16(units).map(ArrayString).map_err(Error::from_proved_error)
     }
 
     /// The string of a text in UTF-16, in which each lone surrogate becomes U+FFFD (three bytes), as in `String::from_utf16_lossy`.
@@ -239,7 +243,7 @@ impl<const N: usize> ArrayString<N> {
     }
 
     /// The string of what a format prints, whole: [`try_write`](Self::try_write) on an empty string. The macro
-    /// [`try_format!`](crate::try_format) writes the `format_args!`.
+    /// [`try_format!`](crate::try_format) makes this call, and writes the `format_args!` for you.
     ///
     /// # Errors
     ///
@@ -266,8 +270,9 @@ impl<const N: usize> ArrayString<N> {
 
 /// # Strings made of as much as fits
 ///
-/// Their contracts are in the same files, under the names without `truncate`, except that `from_iterator_truncate` and
-/// `from_utf8_lossy_truncate` have none.
+/// The contract of `from_str_truncate` is in `crates/arraystring_core/src/array_string/construct.rt` of the repository. Those of the others
+/// are there or in `utf16.rt` beside it, under the names without `_truncate`. But `from_iterator_truncate` and `from_utf8_lossy_truncate`
+/// have none.
 impl<const N: usize> ArrayString<N> {
     /// The longest prefix of whole characters of `text` that fits.
     ///
@@ -284,8 +289,8 @@ impl<const N: usize> ArrayString<N> {
         ArrayString(core_of::ArrayString::from_str_truncate(text))
     }
 
-    /// All pieces, one behind the other, cut to the longest prefix of whole characters that fits. The iterator may be endless, if its
-    /// pieces are not all empty.
+    /// All pieces, one behind the other, cut to the longest prefix of whole characters that fits. The iterator may be endless, unless from
+    /// some piece on it gives only empty ones.
     ///
     /// ```
     /// use arraystring::ArrayString;
@@ -336,10 +341,10 @@ impl<const N: usize> ArrayString<N> {
     #[inline]
     pub fn from_utf8_truncate(bytes: &[u8]) -> Result<Self, Utf8> {
         let _ = Self::CAPACITY;
-        core_of::ArrayString::from_utf8(bytes).map(ArrayString).map_err(Utf8::from_core)
+        core_of::ArrayString::from_utf8(bytes).map(ArrayString).map_err(Utf8::from_proved_error)
     }
 
-    /// A text with U+FFFD for each run of bytes that is no UTF-8, cut to the longest prefix of whole characters that fits.
+    /// The text of bytes, with one U+FFFD for each malformed sequence, cut to the longest prefix of whole characters that fits.
     ///
     /// ```
     /// use arraystring::ArrayString;
@@ -362,12 +367,13 @@ impl<const N: usize> ArrayString<N> {
         made
     }
 
-    /// A text in UTF-16, cut to the longest prefix of whole characters that fits. What comes behind the first character that does not fit
-    /// has no effect.
+    /// The text of units of UTF-16, which are read in order, as characters and lone surrogates, up to the first that cannot be appended. If
+    /// it is a character that does not fit, the text is cut before it, and nothing behind it has an effect.
     ///
     /// # Errors
     ///
-    /// Returns [`Utf16`] if a lone surrogate comes right behind that prefix (the Unicode Standard, section 3.9), even if the string is full.
+    /// Returns [`Utf16`] if the first that cannot be appended is a lone surrogate (the Unicode Standard, section 3.9), even if the string
+    /// is full.
     ///
     /// # Examples
     ///
@@ -381,7 +387,7 @@ impl<const N: usize> ArrayString<N> {
     #[inline]
     pub fn from_utf16_truncate(units: &[u16]) -> Result<Self, Utf16> {
         let _ = Self::CAPACITY;
-        core_of::ArrayString::from_utf16(units).map(ArrayString).map_err(Utf16::from_core)
+        core_of::ArrayString::from_utf16(units).map(ArrayString).map_err(Utf16::from_proved_error)
     }
 
     /// A text in UTF-16, with U+FFFD for each lone surrogate, cut to the longest prefix of whole characters that fits.

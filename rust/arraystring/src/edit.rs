@@ -6,7 +6,7 @@ use crate::{ArrayString, Drain, Error, OutOfBounds, Utf8};
 
 /// An index as the core takes it, which is a `u8`. No text has more than 255 bytes, so an index that is no `u8` is past every text.
 #[inline(always)]
-fn core_index(at: usize) -> Result<u8, Error> {
+fn try_core_index(at: usize) -> Result<u8, Error> {
     u8::try_from(at).map_err(|_| Error::OutOfBounds)
 }
 
@@ -35,7 +35,8 @@ fn rest_of(text: &str, taken: usize) -> &str {
 
 /// # Adding at the end
 ///
-/// Their contracts are in `crates/arraystring_core/src/array_string/push.rt` of the repository.
+/// The contracts of these calls are in `crates/arraystring_core/src/array_string/push.rt` of the repository. A name that ends in
+/// `_truncate` stands there without this ending, for a call that returns no rest.
 impl<const N: usize> ArrayString<N> {
     /// Appends `ch`.
     ///
@@ -57,7 +58,7 @@ impl<const N: usize> ArrayString<N> {
     #[doc(alias = "push")]
     #[inline(always)]
     pub fn try_push(&mut self, ch: char) -> Result<(), OutOfBounds> {
-        self.0.try_push(ch).map_err(OutOfBounds::from_core)
+        self.0.try_push(ch).map_err(OutOfBounds::from_proved_error)
     }
 
     /// Appends `text`.
@@ -80,7 +81,7 @@ impl<const N: usize> ArrayString<N> {
     #[doc(alias = "push_str")]
     #[inline]
     pub fn try_push_str(&mut self, text: &str) -> Result<(), OutOfBounds> {
-        self.0.try_push_str(text).map_err(OutOfBounds::from_core)
+        self.0.try_push_str(text).map_err(OutOfBounds::from_proved_error)
     }
 
     /// Appends the longest prefix of whole characters of `text` that fits, and returns the rest.
@@ -118,7 +119,8 @@ impl<const N: usize> ArrayString<N> {
 
 /// # Inserting and replacing
 ///
-/// Their contracts are in `crates/arraystring_core/src/array_string/insert.rt` and `replaced_range.rt` of the repository.
+/// The contracts of these calls are in `crates/arraystring_core/src/array_string/insert.rt` and `replaced_range.rt` of the repository.
+/// `insert_str_truncate` stands there as `insert_str`, which returns no rest.
 impl<const N: usize> ArrayString<N> {
     /// Inserts `ch` at the byte index `at`.
     ///
@@ -145,7 +147,7 @@ impl<const N: usize> ArrayString<N> {
     #[doc(alias = "insert")]
     #[inline]
     pub fn try_insert(&mut self, at: usize, ch: char) -> Result<(), Error> {
-        self.0.try_insert(core_index(at)?, ch).map_err(Error::from_core)
+        self.0.try_insert(try_core_index(at)?, ch).map_err(Error::from_proved_error)
     }
 
     /// Inserts `text` at the byte index `at`.
@@ -172,7 +174,7 @@ impl<const N: usize> ArrayString<N> {
     #[doc(alias = "insert_str")]
     #[inline]
     pub fn try_insert_str(&mut self, at: usize, text: &str) -> Result<(), Error> {
-        self.0.try_insert_str(core_index(at)?, text).map_err(Error::from_core)
+        self.0.try_insert_str(try_core_index(at)?, text).map_err(Error::from_proved_error)
     }
 
     /// Inserts at the byte index `at` the longest prefix of whole characters of `text` that fits, and returns the rest.
@@ -199,7 +201,7 @@ impl<const N: usize> ArrayString<N> {
     #[inline]
     pub fn insert_str_truncate<'a>(&mut self, at: usize, text: &'a str) -> Result<&'a str, Error> {
         let before = self.len();
-        self.0.insert_str(core_index(at)?, text).map_err(Error::from_core)?;
+        self.0.insert_str(try_core_index(at)?, text).map_err(Error::from_proved_error)?;
         Ok(rest_of(text, self.len() - before))
     }
 
@@ -228,14 +230,14 @@ impl<const N: usize> ArrayString<N> {
     #[inline(always)]
     pub fn replace_range(&mut self, range: impl RangeBounds<usize>, text: &str) -> Result<(), Error> {
         let (start, end) = range_ends(range, self.len());
-        self.0.replace_range(core_index(start)?..core_index(end)?, text).map_err(Error::from_core)
+        self.0.replace_range(try_core_index(start)?..try_core_index(end)?, text).map_err(Error::from_proved_error)
     }
 }
 
 /// # Removing
 ///
-/// Their contracts are in `crates/arraystring_core/src/array_string/remove.rt`, `drained_range.rt`, `retain.rt` and `trim.rt` of the
-/// repository.
+/// The contracts of these calls are in `crates/arraystring_core/src/array_string/remove.rt`, `drained_range.rt`, `retain.rt` and `trim.rt`
+/// of the repository. `trim_in_place` stands there as `trim`.
 impl<const N: usize> ArrayString<N> {
     /// Removes the last character, and returns it. Returns `None` if the text is empty.
     ///
@@ -271,10 +273,11 @@ impl<const N: usize> ArrayString<N> {
     /// ```
     #[inline]
     pub fn remove(&mut self, at: usize) -> Result<char, Error> {
-        self.0.remove(core_index(at)?).map_err(Error::from_core)
+        self.0.remove(try_core_index(at)?).map_err(Error::from_proved_error)
     }
 
-    /// Shortens the text to its first `len` bytes. Nothing changes if the text has at most `len` bytes.
+    /// Shortens the text to its first `len` bytes. Nothing changes if the text has at most `len` bytes. Unlike `String::truncate`, it never
+    /// panics.
     ///
     /// # Errors
     ///
@@ -294,13 +297,14 @@ impl<const N: usize> ArrayString<N> {
     /// ```
     #[inline]
     pub fn truncate(&mut self, len: usize) -> Result<(), Utf8> {
-        match core_index(len) {
-            Ok(len) => self.0.truncate(len).map_err(Utf8::from_core),
+        match try_core_index(len) {
+            Ok(len) => self.0.truncate(len).map_err(Utf8::from_proved_error),
             Err(_) => Ok(()),
         }
     }
 
-    /// Keeps the part before the byte index `at`, which may be the length, and returns the part from it on.
+    /// Keeps the part before the byte index `at`, which may be the length, and returns the part from it on. Unlike `String::split_off`, it
+    /// never panics.
     ///
     /// # Errors
     ///
@@ -322,7 +326,7 @@ impl<const N: usize> ArrayString<N> {
     /// ```
     #[inline]
     pub fn split_off(&mut self, at: usize) -> Result<Self, Error> {
-        self.0.split_off(core_index(at)?).map(ArrayString).map_err(Error::from_core)
+        self.0.split_off(try_core_index(at)?).map(ArrayString).map_err(Error::from_proved_error)
     }
 
     /// Removes the part in the range, and returns its characters. The part is removed at once, whether or not the [`Drain`] is used.
@@ -349,7 +353,7 @@ impl<const N: usize> ArrayString<N> {
     #[inline(always)]
     pub fn drain(&mut self, range: impl RangeBounds<usize>) -> Result<Drain<N>, Error> {
         let (start, end) = range_ends(range, self.len());
-        self.0.drain(core_index(start)?..core_index(end)?).map(Drain).map_err(Error::from_core)
+        self.0.drain(try_core_index(start)?..try_core_index(end)?).map(Drain).map_err(Error::from_proved_error)
     }
 
     /// Keeps the characters for which `keeps` returns true, and removes all others. `keeps` is called once with each character, in order.

@@ -7,7 +7,7 @@ use core::str::Utf8Error;
 
 use crate::proved::base::error as by_core;
 
-/// Why a call was refused. `?` converts each error of this crate, and a `fmt::Error`, into it.
+/// Why a call was refused. `?` converts each error of this crate, a `fmt::Error`, and std's `Utf8Error` and `DecodeUtf16Error` into it.
 ///
 /// # Examples
 ///
@@ -33,7 +33,7 @@ pub enum Error {
 impl Error {
     /// Makes an error of the core into the error of this crate.
     #[inline(always)]
-    pub(crate) const fn from_core(refusal: by_core::Error) -> Self {
+    pub(crate) const fn from_proved_error(refusal: by_core::Error) -> Self {
         match refusal {
             by_core::Error::Utf8 => Error::Utf8,
             by_core::Error::Utf16 => Error::Utf16,
@@ -65,7 +65,7 @@ macro_rules! define_error {
         impl $part {
             /// Makes an error of the core into the error of this crate.
             #[inline(always)]
-            pub(crate) const fn from_core(_refusal: by_core::$part) -> Self {
+            pub(crate) const fn from_proved_error(_refusal: by_core::$part) -> Self {
                 $part
             }
         }

@@ -7,8 +7,8 @@
 use core::mem::MaybeUninit;
 use core::{ptr, slice};
 
-/// Whether each access is tested, although the proof says of each that it is right: in debug builds, by the feature `checked`, and where
-/// a `usize` has not the 64 bits for which that is proved.
+/// Whether each access is tested: in debug builds, with the feature `checked`, and where a `usize` does not have 64 bits, for which the
+/// proofs hold. Elsewhere the proofs make the tests needless.
 pub(crate) const CHECKS_ACCESS: bool =
     cfg!(any(debug_assertions, feature = "checked", not(target_pointer_width = "64")));
 
@@ -24,8 +24,8 @@ macro_rules! required {
 /// A byte of the array of a string. It has no value before one is written.
 pub(crate) type MaybeByte = MaybeUninit<u8>;
 
-/// The content of a place in a new array: no value, or 0 if `CHECKS_ACCESS`. Where accesses are tested, a wrong index panics, perhaps when
-/// the size is already raised and the byte not yet written. Thanks to the 0, each place of the text that is left after the panic has a value.
+/// The content of a place in a new array: no value, or 0 if `CHECKS_ACCESS`. Where accesses are tested, a wrong index panics. By then the
+/// size may be raised, and the byte not yet written. Because of the 0, its place has a value even if the text is read after the panic.
 pub(crate) const NEW_BYTE: MaybeByte = if CHECKS_ACCESS { MaybeByte::new(0) } else { MaybeByte::uninit() };
 
 /// A byte that can be read: a `u8` of a text, or a place of a string's array after it was written. Both are laid out as a `u8`.
@@ -61,7 +61,8 @@ pub(crate) fn byte(bytes: &[impl ReadableByte], at: usize) -> u8 {
     unsafe { bytes.get_unchecked(at) }.value()
 }
 
-/// Writes the `K` bytes of an array into `all`, from index `at` on. `put_vector` writes places, as `vector_at` returns them.
+/// Writes the `K` bytes of an array into `all`, from index `at` on. (`put_vector` does this with an array that `vector_at` returned, which
+/// may have bytes without a value.)
 ///
 /// ```text
 /// requires { at + K ≤ length all.old }
@@ -70,8 +71,9 @@ pub(crate) fn byte(bytes: &[impl ReadableByte], at: usize) -> u8 {
 #[inline(always)]
 pub(crate) fn put_array<const K: usize>(all: &mut [MaybeByte], at: usize, bytes: [u8; K]) {
     required!(at <= all.len(), K <= all.len() - at);
-    // SAFETY: the run is within `all`, as is required, and a byte is laid out as a place. (To map the bytes to places for `put_vector`
-    // would put a call into `encode_non_ascii`, which rustc then would not inline in another crate.)
+    // SAFETY: the `K` bytes from `at` on are within `all`, as is required, and a `u8` is laid out as a `MaybeByte`. (`put_vector`
+    // is not called here, because turning each `u8` into a `MaybeByte` would put a call into `write_non_ascii_at`, and rustc
+    // would then not inline that function in another crate.)
     unsafe { all.as_mut_ptr().add(at).cast::<[u8; K]>().write(bytes) };
 }
 
@@ -82,7 +84,7 @@ pub(crate) fn put_array<const K: usize>(all: &mut [MaybeByte], at: usize, bytes:
 /// ensures { result.now ≡ take len (drop start bytes.now) }
 /// ```
 #[inline(always)]
-pub(crate) const fn part(bytes: &[MaybeByte], start: usize, len: usize) -> &[u8] {
+pub(crate) const fn part_of_length(bytes: &[MaybeByte], start: usize, len: usize) -> &[u8] {
     required!(start <= bytes.len(), len <= bytes.len() - start);
     // SAFETY: the part is within `bytes`, as is required. Each of its places has a value, because the proved code borrows only
     // bytes of texts, and these were written.
@@ -107,7 +109,7 @@ pub(crate) fn part_mut(bytes: &mut [MaybeByte], start: usize, end: usize) -> &mu
 ///     ++ (map to_ascii_uppercase (take (end - start) (drop start all.old)) ++ drop end all.old) }
 /// ```
 #[inline(always)]
-pub(crate) fn make_upper(all: &mut [MaybeByte], start: usize, end: usize) {
+pub(crate) fn uppercase_between(all: &mut [MaybeByte], start: usize, end: usize) {
     part_mut(all, start, end).make_ascii_uppercase();
 }
 
@@ -120,7 +122,7 @@ pub(crate) fn make_upper(all: &mut [MaybeByte], start: usize, end: usize) {
 ///     ++ (map to_ascii_lowercase (take (end - start) (drop start all.old)) ++ drop end all.old) }
 /// ```
 #[inline(always)]
-pub(crate) fn make_lower(all: &mut [MaybeByte], start: usize, end: usize) {
+pub(crate) fn lowercase_between(all: &mut [MaybeByte], start: usize, end: usize) {
     part_mut(all, start, end).make_ascii_lowercase();
 }
 
@@ -159,7 +161,7 @@ pub(crate) fn text_from_boundary(text: &str, start: usize) -> &str {
 ///     ≡ take to array.old ++ (take len (drop from array.old) ++ drop (to + len) array.old) }
 /// ```
 #[inline(always)]
-pub(crate) fn move_bytes<const N: usize>(array: &mut [MaybeByte; N], from: usize, to: usize, len: usize) {
+pub(crate) fn move_on_cold_path<const N: usize>(array: &mut [MaybeByte; N], from: usize, to: usize, len: usize) {
     required!(from <= N, len <= N - from, to <= N, len <= N - to);
     let bytes = array.as_mut_ptr();
     // SAFETY: both runs are within `array`, as is required, and `ptr::copy` lets them overlap.
@@ -177,7 +179,7 @@ pub(crate) fn move_bytes<const N: usize>(array: &mut [MaybeByte; N], from: usize
 ///     ≡ take to all.old ++ (take len (drop from all.old) ++ drop (to + len) all.old) }
 /// ```
 #[inline(always)]
-pub(crate) fn move_long_run<const N: usize>(all: &mut [MaybeByte], from: usize, to: usize, len: usize) {
+pub(crate) fn move_16_or_more<const N: usize>(all: &mut [MaybeByte], from: usize, to: usize, len: usize) {
     required!(from <= all.len(), len <= all.len() - from, to <= all.len(), len <= all.len() - to, len <= N, 16 <= len);
     let bytes = all.as_mut_ptr();
     // SAFETY: both runs are within `all`, as is required, and `ptr::copy` lets them overlap.
@@ -197,7 +199,7 @@ pub(crate) fn write_bytes(all: &mut [MaybeByte], given: &[u8], at: usize) {
     unsafe { ptr::copy_nonoverlapping(given.as_ptr().cast(), all.as_mut_ptr().add(at), given.len()) };
 }
 
-/// The `K` bytes of `given` from index `at` on, as an array of places. (In Rattle it is a vector, which gives the name.)
+/// The `K` bytes of `given` from index `at` on, as an array of places. (In Rattle it is a vector, hence the name.)
 ///
 /// ```text
 /// requires { at + K ≤ length given.now }
@@ -210,7 +212,7 @@ pub(crate) fn vector_at<const K: usize>(given: &[impl ReadableByte], at: usize) 
     unsafe { given.as_ptr().add(at).cast::<[MaybeByte; K]>().read() }
 }
 
-/// Writes `K` places, which `vector_at` returned, into `all`, from index `at` on.
+/// Writes the `K` bytes that `vector_at` returned, some of which may have no value, into `all`, from index `at` on.
 ///
 /// ```text
 /// requires { at + K ≤ length all.old }
@@ -219,6 +221,6 @@ pub(crate) fn vector_at<const K: usize>(given: &[impl ReadableByte], at: usize) 
 #[inline(always)]
 pub(crate) fn put_vector<const K: usize>(all: &mut [MaybeByte], at: usize, bytes: [MaybeByte; K]) {
     required!(at <= all.len(), K <= all.len() - at);
-    // SAFETY: the run is within `all`, as is required.
+    // SAFETY: the `K` places from index `at` on are within `all`, as is required.
     unsafe { all.as_mut_ptr().add(at).cast::<[MaybeByte; K]>().write(bytes) };
 }

@@ -24,7 +24,7 @@ impl<const N: usize> ArrayString<N> {
     #[inline]
     pub fn as_mut_str(&mut self) -> &mut str {
         let (start, end) = (self.0.start as usize, self.0.start as usize + self.0.size as usize);
-        // SAFETY: these bytes are the text, so UTF-8, as the fields of the core's string say.
+        // SAFETY: these bytes are the text, so they are UTF-8, as the comments at the fields of the core's string say.
         unsafe { from_utf8_unchecked_mut(part_mut(&mut self.0.array, start, end)) }
     }
 }
@@ -56,7 +56,8 @@ impl<const N: usize> DerefMut for ArrayString<N> {
 ///
 /// # Panics
 ///
-/// Panics for a range outside the text, or with an end inside a character, as the index of a `str` does. [`str::get`] returns `None` there.
+/// Panics if the range is reversed or outside the text, or if an end is inside a character, as indexing a `str` does. [`str::get`] returns
+/// `None` there.
 ///
 /// ```
 /// let string = arraystring::ArrayString::<8>::try_from_str("café").unwrap();

@@ -18,7 +18,7 @@ mod leaf;
 #[rustfmt::skip]
 mod proved;
 
-// The reference shows the calls of a string in the order of these: first what most programs need, and last what is unchecked.
+// rustdoc lists the calls of a string in the order of these modules: first what most programs need, and last what is unchecked.
 mod construct;
 mod string;
 mod edit;

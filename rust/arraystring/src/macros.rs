@@ -2,8 +2,8 @@
 
 use crate::{ArrayString, OutOfBounds};
 
-/// A string of a text that is known when the program is compiled, anywhere in a program. If the text does not fit, the program does not
-/// compile. The type that is wanted decides the capacity.
+/// A string of a text that is known when the program is compiled. The macro may stand in a `const`, a `static` or other code. If the text
+/// does not fit, the program does not compile. The type that is wanted decides the capacity.
 ///
 /// ```
 /// use arraystring::{ArrayString, CacheString, arraystring};
@@ -61,7 +61,7 @@ macro_rules! try_format {
 }
 
 impl<const N: usize> ArrayString<N> {
-    /// The call that `arraystring!` writes, in a constant. Outside a constant it would panic when the program runs.
+    /// The call that `arraystring!` writes, in a constant. Elsewhere it would panic for a text that does not fit.
     #[doc(hidden)]
     #[must_use]
     #[track_caller]

@@ -7,7 +7,7 @@ use std::path::{Path, PathBuf};
 use crate::ArrayString;
 
 /// Writes the impls that lend a string as an `OsStr` or a `Path` (`AsRef`), and copy it into an `OsString` or a `PathBuf` (`From`).
-macro_rules! impl_os_names {
+macro_rules! impl_os_conversions {
     ($($name:ty => $owned:ty;)*) => {$(
         impl<const N: usize> AsRef<$name> for ArrayString<N> {
             #[inline]
@@ -25,7 +25,7 @@ macro_rules! impl_os_names {
     )*};
 }
 
-impl_os_names! {
+impl_os_conversions! {
     OsStr => OsString;
     Path => PathBuf;
 }

@@ -15,8 +15,8 @@ impl<const N: usize> Serialize for ArrayString<N> {
     }
 }
 
-/// Reads a text, or bytes that are one. A text that does not fit is an error: `invalid length 7, expected a text of at most 4 bytes`.
-/// [`truncate`](mod@crate::truncate) keeps as much of it as fits.
+/// Reads a text, or bytes that are the UTF-8 of a text. Other bytes are an error. A text that does not fit is an error: `invalid length 7,
+/// expected a text of at most 4 bytes`. [`truncate`](mod@crate::truncate) keeps as much of it as fits.
 impl<'de, const N: usize> Deserialize<'de> for ArrayString<N> {
     fn deserialize<D: Deserializer<'de>>(deserializer: D) -> Result<Self, D::Error> {
         deserializer.deserialize_str(WholeVisitor)
@@ -37,12 +37,12 @@ impl<const N: usize> Visitor<'_> for WholeVisitor<N> {
     }
 
     fn visit_bytes<E: Error>(self, bytes: &[u8]) -> Result<ArrayString<N>, E> {
-        let text = text_of_bytes(bytes, &self)?;
+        let text = str_from_bytes(bytes, &self)?;
         self.visit_str(text)
     }
 }
 
-/// The text whose UTF-8 the bytes are. A format that has no texts gives bytes in their place.
-pub(crate) fn text_of_bytes<'a, 'de, E: Error>(bytes: &'a [u8], visitor: &impl Visitor<'de>) -> Result<&'a str, E> {
+/// The text whose UTF-8 is given, or an error if the bytes are not UTF-8. A format that has no texts gives bytes in their place.
+pub(crate) fn str_from_bytes<'a, 'de, E: Error>(bytes: &'a [u8], visitor: &impl Visitor<'de>) -> Result<&'a str, E> {
     from_utf8(bytes).map_err(|_| E::invalid_value(Unexpected::Bytes(bytes), visitor))
 }

@@ -6,9 +6,9 @@ use crate::proved::string as core_of;
 /// count bytes.
 ///
 /// A text *fits* if the string with it is not larger than the capacity. **No call loses a part of a text, unless its name says so:** a call
-/// whose name ends in `_truncate` keeps the longest prefix of whole characters that fits. If it edits a string, it returns the rest of
-/// the text, or whether anything was left. Every other call that is given too much refuses it, returns an error, and changes nothing
-/// (a `write!` is many calls, one for each piece).
+/// whose name ends in `_truncate` keeps the longest prefix of whole characters that fits. If it edits a string, it returns the rest of the
+/// text, or whether anything was left. Every other call that is given too much refuses it, returns an error, and changes nothing (a
+/// `write!` is many calls, one for each piece; only the `arbitrary` of a fuzzer cuts, too).
 ///
 /// A *boundary* is an index at which a character begins or the text ends. An index is *past* the text if it is greater than the length,
 /// and *inside* a character if it is less and no boundary.
@@ -32,8 +32,8 @@ use crate::proved::string as core_of;
 ///
 /// # Copies
 ///
-/// A string is `Copy`, as an array is. So an edit of a copy leaves the string that it was copied from, where rustc would refuse to move a
-/// `String`: take a `&mut`.
+/// A string is `Copy`, as an array is. So where rustc would refuse to move a `String`, it copies a string, and an edit of the copy does not
+/// change the string that it was copied from: take a `&mut`.
 ///
 /// ```
 /// use arraystring::{ArrayString, OutOfBounds, arraystring};
@@ -58,7 +58,8 @@ use crate::proved::string as core_of;
 ///
 /// # Capacities above 255
 ///
-/// They do not compile: each call that makes a string or reads one is an error of `cargo build`. (`cargo check` does not see it.)
+/// They do not compile: each call that makes a string is an error of `cargo build`, and so are `len`, `as_str`, `as_bytes` and the calls of
+/// `str` that only read. (`cargo check` does not see it.)
 ///
 /// ```compile_fail,E0080
 /// let string = arraystring::ArrayString::<256>::new();
@@ -81,8 +82,9 @@ impl<const N: usize> ArrayString<N> {
     /// assert_eq!([0u8; Name::CAPACITY].len(), 8);
     /// ```
     pub const CAPACITY: usize = {
-        // Each call that makes a string names this constant first, so that the error of rustc shows the line of the caller. `len`, `as_str`
-        // and `as_bytes` name it, too, because a library that only reads strings would else compile for a capacity that no string has.
+        // Each constructor, `default`, `from_str` and each `try_from` name this constant first, so that the error of rustc shows
+        // the line of the caller. `len`, `as_str` and `as_bytes` name it, too. Otherwise a library that only reads strings would
+        // compile for a capacity that no string has.
         assert!(
             N <= 255,
             "an `ArrayString` has at most 255 bytes: for more take that of arrayvec, or the `String` of heapless or std"

@@ -34,7 +34,7 @@ impl<const N: usize> FromStr for ArrayString<N> {
     }
 }
 
-/// Refuses a text that does not fit.
+/// Makes a string of a text, and refuses one that does not fit.
 ///
 /// ```
 /// use arraystring::{ArrayString, OutOfBounds};
@@ -101,14 +101,14 @@ impl<const N: usize> fmt::Display for ArrayString<N> {
     fn fmt(&self, f: &mut fmt::Formatter<'_>) -> fmt::Result {
         match (f.width(), f.precision()) {
             (None, None) => f.write_str(self.as_str()),
-            // `pad` would do for `{}`, too, but takes twenty instructions more there.
+            // `pad` would print the same for a plain `{}`, too, but takes twenty instructions more than `write_str`.
             _ => f.pad(self.as_str()),
         }
     }
 }
 
-/// `write!` appends piece by piece. The first piece that does not fit is refused, and the pieces before it stay. In its place
-/// [`try_write`](ArrayString::try_write) appends all or nothing.
+/// `write!` appends piece by piece. The first piece that does not fit is refused, and the pieces before it stay. To append all or nothing,
+/// call [`try_write`](ArrayString::try_write).
 impl<const N: usize> fmt::Write for ArrayString<N> {
     #[inline]
     fn write_str(&mut self, text: &str) -> fmt::Result {

@@ -16,22 +16,22 @@ use serde::de::{Deserializer, Error, Visitor};
 use serde::ser::Serializer;
 
 use crate::ArrayString;
-use crate::serde_traits::text_of_bytes;
+use crate::serde_traits::str_from_bytes;
 
 /// Writes the text.
 ///
 /// # Errors
 ///
-/// Returns that of the serializer.
+/// Returns the error of the serializer.
 pub fn serialize<const N: usize, S: Serializer>(string: &ArrayString<N>, serializer: S) -> Result<S::Ok, S::Error> {
     serializer.serialize_str(string)
 }
 
-/// Reads a text, or bytes that are one, and keeps the longest prefix of whole characters that fits.
+/// Reads a text, or bytes that are the UTF-8 of a text, and keeps the longest prefix of whole characters that fits.
 ///
 /// # Errors
 ///
-/// Returns that of the deserializer, or an error if bytes are not UTF-8.
+/// Returns the error of the deserializer, or an error if bytes are not UTF-8.
 pub fn deserialize<'de, const N: usize, D: Deserializer<'de>>(deserializer: D) -> Result<ArrayString<N>, D::Error> {
     deserializer.deserialize_str(TruncatingVisitor)
 }
@@ -50,7 +50,7 @@ impl<const N: usize> Visitor<'_> for TruncatingVisitor<N> {
     }
 
     fn visit_bytes<E: Error>(self, bytes: &[u8]) -> Result<ArrayString<N>, E> {
-        let text = text_of_bytes(bytes, &self)?;
+        let text = str_from_bytes(bytes, &self)?;
         self.visit_str(text)
     }
 }

@@ -7,9 +7,9 @@ use crate::{ArrayString, OutOfBounds};
 
 /// # Adding what a format prints, or an iterator gives
 ///
-/// They have no contract, since none can say what is left after a panic of the caller's code.
+/// These calls have no contract, because a contract can't say what is left after code of the caller panicked.
 impl<const N: usize> ArrayString<N> {
-    /// Appends what a format prints, whole or not at all. (A `write!` is refused piece by piece, and keeps the pieces before the one that
+    /// Appends what a format prints, whole or not at all. (A `write!` appends piece by piece, and keeps the pieces before the one that
     /// does not fit.)
     ///
     /// # Errors
@@ -36,12 +36,12 @@ impl<const N: usize> ArrayString<N> {
     #[doc(alias = "write_fmt")]
     #[inline]
     pub fn try_write(&mut self, arguments: fmt::Arguments<'_>) -> fmt::Result {
-        let mut draft = Draft::begin(self);
-        draft.write_fmt(arguments)?;
-        if !draft.is_whole {
+        let mut transaction = AppendTransaction::begin(self);
+        transaction.write_fmt(arguments)?;
+        if !transaction.is_whole {
             return Err(fmt::Error);
         }
-        draft.commit();
+        transaction.commit();
         Ok(())
     }
 
@@ -66,14 +66,14 @@ impl<const N: usize> ArrayString<N> {
     #[doc(alias = "write_fmt")]
     #[inline]
     pub fn write_truncate(&mut self, arguments: fmt::Arguments<'_>) -> Result<bool, fmt::Error> {
-        let mut prefix = CuttingDraft(Draft::begin(self));
+        let mut prefix = TruncatingTransaction(AppendTransaction::begin(self));
         let written = prefix.write_fmt(arguments);
-        let CuttingDraft(draft) = prefix;
-        let is_cut = !draft.is_whole;
+        let TruncatingTransaction(transaction) = prefix;
+        let is_cut = !transaction.is_whole;
         if !is_cut {
             written?;
         }
-        draft.commit();
+        transaction.commit();
         Ok(is_cut)
     }
 
@@ -99,9 +99,9 @@ impl<const N: usize> ArrayString<N> {
     #[doc(alias = "extend")]
     #[inline]
     pub fn try_extend_chars(&mut self, characters: impl IntoIterator<Item = char>) -> Result<(), OutOfBounds> {
-        let draft = Draft::begin(self);
-        characters.into_iter().try_for_each(|ch| draft.string.try_push(ch))?;
-        draft.commit();
+        let transaction = AppendTransaction::begin(self);
+        characters.into_iter().try_for_each(|ch| transaction.string.try_push(ch))?;
+        transaction.commit();
         Ok(())
     }
 
@@ -109,8 +109,8 @@ impl<const N: usize> ArrayString<N> {
     ///
     /// # Errors
     ///
-    /// Returns [`OutOfBounds`] at the first piece that does not fit, so the iterator may be endless, if its pieces are not all empty.
-    /// Nothing has changed then, nor if the iterator panics.
+    /// Returns [`OutOfBounds`] at the first piece that does not fit, so the iterator may be endless, unless from some piece on it gives
+    /// only empty ones. Nothing has changed then, nor if the iterator panics.
     ///
     /// # Examples
     ///
@@ -127,9 +127,9 @@ impl<const N: usize> ArrayString<N> {
     #[doc(alias = "extend")]
     #[inline]
     pub fn try_extend_strs(&mut self, pieces: impl IntoIterator<Item = impl AsRef<str>>) -> Result<(), OutOfBounds> {
-        let draft = Draft::begin(self);
-        pieces.into_iter().try_for_each(|piece| draft.string.try_push_str(piece.as_ref()))?;
-        draft.commit();
+        let transaction = AppendTransaction::begin(self);
+        pieces.into_iter().try_for_each(|piece| transaction.string.try_push_str(piece.as_ref()))?;
+        transaction.commit();
         Ok(())
     }
 
@@ -147,9 +147,9 @@ impl<const N: usize> ArrayString<N> {
         characters.into_iter().any(|ch| self.try_push(ch).is_err())
     }
 
-    /// Appends the pieces, one behind the other, up to the last whole character that fits, and returns whether something did not fit. What
-    /// did not fit of that piece is lost, and no later piece is asked for. If the iterator panics, the text has the pieces that came
-    /// before.
+    /// Appends the pieces, one behind the other, up to the last whole character that fits, and returns whether something did not fit. The
+    /// rest of the piece that did not fit is lost, and no later piece is asked for. If the iterator panics, the text has the pieces that
+    /// came before.
     ///
     /// ```
     /// let mut string = arraystring::ArrayString::<8>::try_from_str("one").unwrap();
@@ -163,34 +163,35 @@ impl<const N: usize> ArrayString<N> {
     }
 }
 
-/// An addition to a string, as long as it may still be taken back. `drop` takes it back, so that nothing of it stays where something is
-/// refused, or where a `Display` or an iterator panics. Only `commit` makes it stay.
-struct Draft<'a, const N: usize> {
+/// A transaction is an addition to a string as long as it may still be taken back. `drop` takes it back, so that nothing of it stays where
+/// something is refused, or where a `Display` or an iterator panics. Only `commit` makes it stay.
+struct AppendTransaction<'a, const N: usize> {
     string: &'a mut ArrayString<N>,
-    /// The length of the text before the draft.
+    /// The length of the text before the transaction.
     len: usize,
     /// Whether no piece was refused or cut so far. It is noted here, because a `Display` may pass over an error, and return `Ok`.
     is_whole: bool,
 }
 
-/// A draft that keeps, of the first piece that is too long, the longest prefix of whole characters that fits. It refuses later pieces.
-struct CuttingDraft<'a, const N: usize>(Draft<'a, N>);
+/// A transaction that keeps, of the first piece that is too long, the longest prefix of whole characters that fits. It refuses later
+/// pieces.
+struct TruncatingTransaction<'a, const N: usize>(AppendTransaction<'a, N>);
 
-impl<'a, const N: usize> Draft<'a, N> {
-    /// Begins a draft behind the text of a string. It has no text yet.
+impl<'a, const N: usize> AppendTransaction<'a, N> {
+    /// Begins a transaction behind the text of a string, where nothing is added yet.
     #[inline]
     fn begin(string: &'a mut ArrayString<N>) -> Self {
-        Draft { len: string.len(), string, is_whole: true }
+        AppendTransaction { len: string.len(), string, is_whole: true }
     }
 
-    /// Makes the draft stay in the string. It is forgotten, so its `drop` does not run.
+    /// Makes the addition stay in the string. The transaction is forgotten, so its `drop` does not run.
     #[inline]
     fn commit(self) {
         mem::forget(self);
     }
 }
 
-impl<const N: usize> Write for Draft<'_, N> {
+impl<const N: usize> Write for AppendTransaction<'_, N> {
     #[inline]
     fn write_str(&mut self, piece: &str) -> fmt::Result {
         let written = self.string.write_str(piece);
@@ -199,21 +200,21 @@ impl<const N: usize> Write for Draft<'_, N> {
     }
 }
 
-impl<const N: usize> Write for CuttingDraft<'_, N> {
+impl<const N: usize> Write for TruncatingTransaction<'_, N> {
     #[inline]
     fn write_str(&mut self, piece: &str) -> fmt::Result {
-        let CuttingDraft(draft) = self;
-        if draft.is_whole {
-            draft.is_whole = draft.string.push_str_truncate(piece).is_empty();
+        let TruncatingTransaction(transaction) = self;
+        if transaction.is_whole {
+            transaction.is_whole = transaction.string.push_str_truncate(piece).is_empty();
         }
-        if draft.is_whole { Ok(()) } else { Err(fmt::Error) }
+        if transaction.is_whole { Ok(()) } else { Err(fmt::Error) }
     }
 }
 
-impl<const N: usize> Drop for Draft<'_, N> {
+impl<const N: usize> Drop for AppendTransaction<'_, N> {
     #[inline]
     fn drop(&mut self) {
-        // The text ended at `len` before, so that is a boundary, and nothing is refused.
+        // The text ended at `len` before the transaction, so `len` is a boundary, and `truncate` refuses nothing.
         let _ = self.string.truncate(self.len);
     }
 }

@@ -5,9 +5,9 @@ use zeroize::Zeroize;
 use crate::leaf::MaybeByte;
 use crate::{ArrayString, Drain};
 
-/// Makes each byte of the array zero, also those that were removed from the text, and the text empty. The compiler does not leave this out
-/// where nobody reads the string again. This can't reach other copies, such as the place from which a string was moved. A string is `Copy`
-/// and so can't do this when it is dropped: `zeroize::Zeroizing<ArrayString<N>>` does.
+/// Makes the text empty and each byte of the array zero, also the bytes of characters that were removed before. The compiler does not leave
+/// this out where nobody reads the string again. This can't reach other copies, such as the place from which a string was moved. A string
+/// is `Copy` and so can't do this when it is dropped: `zeroize::Zeroizing<ArrayString<N>>` does.
 ///
 /// ```
 /// use arraystring::ArrayString;

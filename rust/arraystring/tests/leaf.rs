@@ -134,30 +134,30 @@ fn one_byte_is_read() {
 
 #[test]
 fn a_part_is_borrowed_and_its_letters_are_turned() {
-    const PART: &[u8] = part(&[MaybeByte::new(b'a'), MaybeByte::new(b'b'), NEW_BYTE], 1, 1);
+    const PART: &[u8] = part_of_length(&[MaybeByte::new(b'a'), MaybeByte::new(b'b'), NEW_BYTE], 1, 1);
     assert_eq!(PART, b"b");
     let mut count = 0;
     for len in lengths() {
         let (given, mut all) = (bytes(len), written(&bytes(len)));
         for (start, end) in ranges(len) {
-            let found = part(&all, start, end - start);
+            let found = part_of_length(&all, start, end - start);
             assert_eq!((found, found.as_ptr()), (&given[start..end], given_at(&all, start)));
-            changes(len, |all| make_upper(all, start, end), |all| all[start..end].make_ascii_uppercase());
-            changes(len, |all| make_lower(all, start, end), |all| all[start..end].make_ascii_lowercase());
+            changes(len, |all| uppercase_between(all, start, end), |all| all[start..end].make_ascii_uppercase());
+            changes(len, |all| lowercase_between(all, start, end), |all| all[start..end].make_ascii_lowercase());
             count += 1;
         }
         for start in ends(len) {
             for past in past(len) {
-                refused(|| part(&all, start, past - start));
-                refused(|| part(&all, past, start));
-                refused(|| make_upper(&mut all, start, past));
-                refused(|| make_lower(&mut all, start, past));
-                refused(|| make_upper(&mut all, past, past));
-                refused(|| make_lower(&mut all, past, past));
+                refused(|| part_of_length(&all, start, past - start));
+                refused(|| part_of_length(&all, past, start));
+                refused(|| uppercase_between(&mut all, start, past));
+                refused(|| lowercase_between(&mut all, start, past));
+                refused(|| uppercase_between(&mut all, past, past));
+                refused(|| lowercase_between(&mut all, past, past));
             }
             for end in ends(len).into_iter().filter(|end| *end < start) {
-                refused(|| make_upper(&mut all, start, end));
-                refused(|| make_lower(&mut all, start, end));
+                refused(|| uppercase_between(&mut all, start, end));
+                refused(|| lowercase_between(&mut all, start, end));
             }
         }
         assert_eq!(values(&all), given, "what is refused changes nothing");
@@ -233,15 +233,15 @@ fn any_run_of_an_array_is_moved() {
         for (from, end) in ranges(N) {
             for to in places(N - (end - from)) {
                 let edit =
-                    |all: &mut [MaybeByte]| move_bytes::<N>(all.try_into().expect("N places"), from, to, end - from);
+                    |all: &mut [MaybeByte]| move_on_cold_path::<N>(all.try_into().expect("N places"), from, to, end - from);
                 changes(N, edit, |all| all.copy_within(from..end, to));
             }
         }
         let mut all: [MaybeByte; N] = written(&bytes(N)).try_into().expect("N places");
         for run in ends(N) {
             for past in past(N - run) {
-                refused(|| move_bytes(&mut all, 0, past, run));
-                refused(|| move_bytes(&mut all, past, 0, run));
+                refused(|| move_on_cold_path(&mut all, 0, past, run));
+                refused(|| move_on_cold_path(&mut all, past, 0, run));
             }
         }
         assert_eq!(values(&all), bytes(N), "what is refused changes nothing");
@@ -261,7 +261,7 @@ fn a_long_run_is_moved() {
         for len in lengths() {
             for (from, end) in ranges(len).into_iter().filter(|(from, end)| (16..=N).contains(&(end - from))) {
                 for to in places(len - (end - from)) {
-                    let edit = |all: &mut [MaybeByte]| move_long_run::<N>(all, from, to, end - from);
+                    let edit = |all: &mut [MaybeByte]| move_16_or_more::<N>(all, from, to, end - from);
                     changes(len, edit, |all| all.copy_within(from..end, to));
                     count += 1;
                 }
@@ -269,11 +269,11 @@ fn a_long_run_is_moved() {
             let mut all = written(&bytes(len));
             for run in ends(len) {
                 if !(16..=N).contains(&run) {
-                    refused(|| move_long_run::<N>(&mut all, 0, len - run, run));
+                    refused(|| move_16_or_more::<N>(&mut all, 0, len - run, run));
                 }
                 for past in past(len - run) {
-                    refused(|| move_long_run::<N>(&mut all, 0, past, run));
-                    refused(|| move_long_run::<N>(&mut all, past, 0, run));
+                    refused(|| move_16_or_more::<N>(&mut all, 0, past, run));
+                    refused(|| move_16_or_more::<N>(&mut all, past, 0, run));
                 }
             }
             assert_eq!(values(&all), bytes(len), "what is refused changes nothing");
@@ -320,6 +320,6 @@ fn a_new_place_has_a_value_where_accesses_are_tested() {
     }
     let mut all = [NEW_BYTE; 40];
     write_bytes(&mut all, &bytes(30), 5);
-    move_long_run::<40>(&mut all, 5, 0, 30);
-    assert_eq!(part(&all, 0, 30), bytes(30));
+    move_16_or_more::<40>(&mut all, 5, 0, 30);
+    assert_eq!(part_of_length(&all, 0, 30), bytes(30));
 }

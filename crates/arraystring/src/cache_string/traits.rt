@@ -2,7 +2,7 @@
 //! written out and not derived, so that a caller's proof can cite what each call returns.
 ghost use Rattle.std.specs.Prelude.{◌≡◌, ◌++◌, [], Ok, Some, IsOk, chars, nat_eq, refl};
 ghost use Rattle.arraystring_base.specs.Text.{bytes, IsBefore};
-ghost use Rattle.arraystring_core.specs.Edits.{Makes, from_out_of_bounds, from_fmt_error, addition, addition_of_cut};
+ghost use Rattle.arraystring_core.specs.Edits.{Makes, map_err_from_out_of_bounds, map_err_from_fmt, addition, addition_of_cut};
 ghost use Rattle.arraystring_core.specs.Construct.{IsWholeOrRefused};
 ghost use Rattle.arraystring.specs.Cached.{inner_result};
 ghost use Rattle.std.specs.Cmp.{on_equiv, on_per, on_total, on_po, partial_equiv_from_equiv};
@@ -71,7 +71,7 @@ impl FromStr for CacheString {
     type Err = OutOfBounds;
 
     ghost from_str_gives = { λ string result.
-        IsWholeOrRefused (chars string) 63 (from_out_of_bounds (inner_result result)) };
+        IsWholeOrRefused (chars string) 63 (map_err_from_out_of_bounds (inner_result result)) };
 
     /// Creates a string from `string`.
     ///
@@ -120,7 +120,7 @@ impl Ord for CacheString {
     }
 }
 
-/// Strings are equal if their texts are.
+/// Strings are equal if and only if their texts are.
 impl PartialEq for CacheString {
     ghost eq = { λ s t. pointwise nat_eq s.0.text t.0.text };
 
@@ -155,7 +155,7 @@ impl fmt::Write for CacheString {
     fn write_str(&mut self, string: &str) -> fmt::Result
         ensures ok { IsOk result → bytes self.new.0.text ≡ bytes self.old.0.text ++ string.now }
         ensures made { Makes (addition self.old.0.text (chars string.now) 63)
-            self.old.0.text (from_fmt_error result) self.new.0.text }
+            self.old.0.text (map_err_from_fmt result) self.new.0.text }
     {
         self.0.write_str(string)
     }

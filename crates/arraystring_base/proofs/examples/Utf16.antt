@@ -2,7 +2,7 @@
 use Rattle.std.proofs.Common.{◌≡◌, [], ◌∷◌, ◌++◌, refl, arith, codes, inl, inr, map}
 use Rattle.std.proofs.lemmas.List.Elements.{All-nil, All-cons, All-head}
 use Rattle.std.proofs.lemmas.Bool.Decides.{nat_tests}
-use Rattle.arraystring_base.specs.Utf16.{IsHigh, IsLow, utf16, text_units, IsValidItem, item_units, joined_units, NoPairApart, IsReading, End, Fault, Full, StopsAt, prepend_to_stop, first_stop, char_or_replacement, lossy_text}
+use Rattle.arraystring_base.specs.Utf16.{IsHigh, IsLow, utf16, text_units, IsValidItem, item_units, joined_units, NoPairApart, IsReading, End, Fault, Full, IsStopOf, prepend_to_stop, first_stop, char_or_replacement, lossy_text}
 use Rattle.arraystring_base.specs.Text.{width}
 use Rattle.arraystring_base.specs.declared.utf16.Unit16.TheVariants.{Char, Lone}
 
@@ -122,50 +122,50 @@ IsReading-the_greatest_unit = record {
     apart (x ∷ []) after high low e is_high_surrogate is_low_surrogate = cc
     apart (x ∷ y ∷ before) after high low e is_high_surrogate is_low_surrogate = cc
 
-Stop-each_kind_is_another : (End [] ≡ Fault [] → ⊥) × (End [] ≡ Full [] → ⊥) × (Fault [] ≡ Full [] → ⊥)
-Stop-each_kind_is_another = (λ e. cc, λ e. cc, λ e. cc)
+DecodingStop-each_kind_is_another : (End [] ≡ Fault [] → ⊥) × (End [] ≡ Full [] → ⊥) × (Fault [] ≡ Full [] → ⊥)
+DecodingStop-each_kind_is_another = (λ e. cc, λ e. cc, λ e. cc)
 
-StopsAt-end : StopsAt (Char 0x61 ∷ []) 1 (End (codes "a"))
+IsStopOf-end : IsStopOf (Char 0x61 ∷ []) 1 (End (codes "a"))
 unfolding width
-StopsAt-end = (refl, omega arith)
+IsStopOf-end = (refl, omega arith)
 
-StopsAt-no_end_before_an_item : StopsAt (Char 0x61 ∷ Char 0x62 ∷ []) 2 (End (codes "a")) → ⊥
-StopsAt-no_end_before_an_item is = grind arith
+IsStopOf-no_end_before_an_item : IsStopOf (Char 0x61 ∷ Char 0x62 ∷ []) 2 (End (codes "a")) → ⊥
+IsStopOf-no_end_before_an_item is = grind arith
 
-StopsAt-no_end_past_the_room : StopsAt (Char 0x61 ∷ []) 0 (End (codes "a")) → ⊥
+IsStopOf-no_end_past_the_room : IsStopOf (Char 0x61 ∷ []) 0 (End (codes "a")) → ⊥
 unfolding width
-StopsAt-no_end_past_the_room is = omega (arith, is.1)
+IsStopOf-no_end_past_the_room is = omega (arith, is.1)
 
-StopsAt-fault : StopsAt (Char 0x61 ∷ Lone 0xD800 ∷ Char 0x62 ∷ []) 1 (Fault (codes "a"))
+IsStopOf-fault : IsStopOf (Char 0x61 ∷ Lone 0xD800 ∷ Char 0x62 ∷ []) 1 (Fault (codes "a"))
 unfolding width
-StopsAt-fault = (0xD800, Char 0x62 ∷ [], refl, omega arith)
+IsStopOf-fault = (0xD800, Char 0x62 ∷ [], refl, omega arith)
 
-StopsAt-no_fault_at_a_character : StopsAt (Char 0x61 ∷ Char 0x62 ∷ []) 2 (Fault (codes "a")) → ⊥
-StopsAt-no_fault_at_a_character is = grind arith
+IsStopOf-no_fault_at_a_character : IsStopOf (Char 0x61 ∷ Char 0x62 ∷ []) 2 (Fault (codes "a")) → ⊥
+IsStopOf-no_fault_at_a_character is = grind arith
 
-StopsAt-no_fault_past_the_room : StopsAt (Char 0x61 ∷ Lone 0xD800 ∷ []) 0 (Fault (codes "a")) → ⊥
+IsStopOf-no_fault_past_the_room : IsStopOf (Char 0x61 ∷ Lone 0xD800 ∷ []) 0 (Fault (codes "a")) → ⊥
 unfolding width
-StopsAt-no_fault_past_the_room is = omega (arith, is.3)
+IsStopOf-no_fault_past_the_room is = omega (arith, is.3)
 
 -- 'é' takes two bytes, and one is left
-StopsAt-full : StopsAt (Char 0x61 ∷ Char 0xE9 ∷ Lone 0xD800 ∷ []) 2 (Full (codes "a"))
+IsStopOf-full : IsStopOf (Char 0x61 ∷ Char 0xE9 ∷ Lone 0xD800 ∷ []) 2 (Full (codes "a"))
 unfolding width
-StopsAt-full = (0xE9, Lone 0xD800 ∷ [], refl, omega arith, omega arith)
+IsStopOf-full = (0xE9, Lone 0xD800 ∷ [], refl, omega arith, omega arith)
 
-StopsAt-not_full_at_a_fault : StopsAt (Char 0x61 ∷ Lone 0xD800 ∷ []) 1 (Full (codes "a")) → ⊥
-StopsAt-not_full_at_a_fault is = grind arith
+IsStopOf-not_full_at_a_fault : IsStopOf (Char 0x61 ∷ Lone 0xD800 ∷ []) 1 (Full (codes "a")) → ⊥
+IsStopOf-not_full_at_a_fault is = grind arith
 
-StopsAt-not_full_past_the_room : StopsAt (Char 0x61 ∷ Char 0x62 ∷ []) 0 (Full (codes "a")) → ⊥
+IsStopOf-not_full_past_the_room : IsStopOf (Char 0x61 ∷ Char 0x62 ∷ []) 0 (Full (codes "a")) → ⊥
 unfolding width
-StopsAt-not_full_past_the_room is = omega (arith, is.3)
+IsStopOf-not_full_past_the_room is = omega (arith, is.3)
 
-StopsAt-not_full_before_what_fits : StopsAt (Char 0x61 ∷ Char 0xE9 ∷ []) 3 (Full (codes "a")) → ⊥
+IsStopOf-not_full_before_what_fits : IsStopOf (Char 0x61 ∷ Char 0xE9 ∷ []) 3 (Full (codes "a")) → ⊥
 unfolding width
-StopsAt-not_full_before_what_fits is = grind (arith, nat_tests)
+IsStopOf-not_full_before_what_fits is = grind (arith, nat_tests)
 
-StopsAt-full_behind_what_fills_the_room : StopsAt (Char 0x61 ∷ Char 0x62 ∷ []) 1 (Full (codes "a"))
+IsStopOf-full_behind_what_fills_the_room : IsStopOf (Char 0x61 ∷ Char 0x62 ∷ []) 1 (Full (codes "a"))
 unfolding width
-StopsAt-full_behind_what_fills_the_room = (0x62, [], refl, omega arith, omega arith)
+IsStopOf-full_behind_what_fills_the_room = (0x62, [], refl, omega arith, omega arith)
 
 prepend_to_stop-keeps_the_kind : (prepend_to_stop 0x61 (End (codes "b")) ≡ End (codes "ab"))
     × (prepend_to_stop 0x61 (Fault (codes "b")) ≡ Fault (codes "ab"))

@@ -6,10 +6,10 @@ use Rattle.arraystring_base.specs.Text.{width}
 use Rattle.arraystring_base.specs.declared.error.Error.TheVariants as error
 use Rattle.arraystring_base.specs.declared.error.OutOfBounds.{OutOfBounds}
 use Rattle.arraystring_base.specs.declared.error.Utf8.{Utf8}
-use Rattle.arraystring_core.specs.Stored.{view_with_text}
-use Rattle.arraystring_core.specs.WhiteSpace.{is_space, is_white_space}
+use Rattle.arraystring_core.specs.Stored.{view_with_empty_spare}
+use Rattle.arraystring_core.specs.WhiteSpace.{equals_space, is_white_space}
 use Rattle.arraystring_core.specs.Causes.{Past, Inside, first_cause}
-use Rattle.arraystring_core.specs.Edits.{ok_unless, result_of, text_of, Makes, from_out_of_bounds, from_fmt_error, from_utf8_error, with_text, addition, addition_of_cut, popping, insertion, insertion_of_cut, truncation, trimming, removal, clearing, split, uppercase, lowercase, draining, replacement}
+use Rattle.arraystring_core.specs.Edits.{ok_unless_cause, result_of, text_after_edit, Makes, map_err_from_out_of_bounds, map_err_from_fmt, map_err_from_utf8, string_result_as_text, addition, addition_of_cut, popping, insertion, insertion_of_cut, truncation, trimming_matches, removal, clearing, split, uppercase, lowercase, draining, replacement}
 
 -- rows
 
@@ -17,17 +17,17 @@ Edit-tests_result_and_text : ((popping (codes "ab")).tests ≡ [])
     × ((popping (codes "ab")).result ≡ Some 0x62) × ((popping (codes "ab")).after ≡ codes "a")
 Edit-tests_result_and_text = (refl, refl, refl)
 
-ok_unless-there_is_a_cause : (ok_unless None (codes "a") ≡ Ok (codes "a")) × (ok_unless (Some Inside) (codes "a") ≡ Err error.Utf8)
-ok_unless-there_is_a_cause = (refl, refl)
+ok_unless_cause-there_is_a_cause : (ok_unless_cause None (codes "a") ≡ Ok (codes "a")) × (ok_unless_cause (Some Inside) (codes "a") ≡ Err error.Utf8)
+ok_unless_cause-there_is_a_cause = (refl, refl)
 
 result_of-done_and_refused : (result_of (split (codes "aé") 1) ≡ Ok (codes "é")) × (result_of (split (codes "aé") 2) ≡ Err error.Utf8)
 unfolding width
 result_of-done_and_refused = (refl, refl)
 
-text_of-done_and_refused : (text_of (split (codes "aé") 1) (codes "aé") ≡ codes "a")
-    × (text_of (split (codes "aé") 2) (codes "aé") ≡ codes "aé")
+text_after_edit-done_and_refused : (text_after_edit (split (codes "aé") 1) (codes "aé") ≡ codes "a")
+    × (text_after_edit (split (codes "aé") 2) (codes "aé") ≡ codes "aé")
 unfolding width
-text_of-done_and_refused = (refl, refl)
+text_after_edit-done_and_refused = (refl, refl)
 
 Makes-done : Makes clearing (codes "a") (Ok tt) []
 Makes-done = record { returns = refl; ok = refl; err = tt }
@@ -45,23 +45,23 @@ Makes-no_other_text_when_done makes = cc (makes.ok)
 Makes-no_other_text_when_refused : Makes (removal (codes "é") 1) (codes "é") (Err error.Utf8) [] → ⊥
 Makes-no_other_text_when_refused makes = cc (makes.err)
 
-from_out_of_bounds-of_each_result : (from_out_of_bounds (Ok (codes "a")) ≡ Ok (codes "a"))
-    × ((e : OutOfBounds) → from_out_of_bounds {A = ℕ} (Err e) ≡ Err error.OutOfBounds)
-from_out_of_bounds-of_each_result = (refl, λ e. refl)
+map_err_from_out_of_bounds-of_each_result : (map_err_from_out_of_bounds (Ok (codes "a")) ≡ Ok (codes "a"))
+    × ((e : OutOfBounds) → map_err_from_out_of_bounds {A = ℕ} (Err e) ≡ Err error.OutOfBounds)
+map_err_from_out_of_bounds-of_each_result = (refl, λ e. refl)
 
-from_fmt_error-of_each_result : (from_fmt_error (Ok (codes "a")) ≡ Ok (codes "a"))
-    × ((e : FmtError) → from_fmt_error {A = ℕ} (Err e) ≡ Err error.OutOfBounds)
-from_fmt_error-of_each_result = (refl, λ e. refl)
+map_err_from_fmt-of_each_result : (map_err_from_fmt (Ok (codes "a")) ≡ Ok (codes "a"))
+    × ((e : FmtError) → map_err_from_fmt {A = ℕ} (Err e) ≡ Err error.OutOfBounds)
+map_err_from_fmt-of_each_result = (refl, λ e. refl)
 
-from_utf8_error-of_each_result : (from_utf8_error (Ok (codes "a")) ≡ Ok (codes "a"))
-    × ((e : Utf8) → from_utf8_error {A = ℕ} (Err e) ≡ Err error.Utf8)
-from_utf8_error-of_each_result = (refl, λ e. refl)
+map_err_from_utf8-of_each_result : (map_err_from_utf8 (Ok (codes "a")) ≡ Ok (codes "a"))
+    × ((e : Utf8) → map_err_from_utf8 {A = ℕ} (Err e) ≡ Err error.Utf8)
+map_err_from_utf8-of_each_result = (refl, λ e. refl)
 
-with_text-of_each_result : (with_text (Ok (view_with_text (codes "ab"))) ≡ Ok (codes "ab")) × (with_text (Err error.Utf8) ≡ Err error.Utf8)
-with_text-of_each_result = (refl, refl)
+string_result_as_text-of_each_result : (string_result_as_text (Ok (view_with_empty_spare (codes "ab"))) ≡ Ok (codes "ab")) × (string_result_as_text (Err error.Utf8) ≡ Err error.Utf8)
+string_result_as_text-of_each_result = (refl, refl)
 
-with_text-whatever_lies_around_it : (spare : List ℕ) → with_text (Ok (record { text = codes "ab"; spare = spare })) ≡ Ok (codes "ab")
-with_text-whatever_lies_around_it spare = refl
+string_result_as_text-whatever_lies_around_it : (spare : List ℕ) → string_result_as_text (Ok (record { text = codes "ab"; spare = spare })) ≡ Ok (codes "ab")
+string_result_as_text-whatever_lies_around_it spare = refl
 
 -- the table
 
@@ -69,9 +69,9 @@ addition-fits_exactly : Makes (addition (codes "a") (codes "é") 3) (codes "a") 
 unfolding width
 addition-fits_exactly = record { returns = refl; ok = refl; err = tt }
 
-addition-no_room : Makes (addition (codes "a") (codes "é") 2) (codes "a") (Err error.OutOfBounds) (codes "a")
+addition-no_room_test : Makes (addition (codes "a") (codes "é") 2) (codes "a") (Err error.OutOfBounds) (codes "a")
 unfolding width
-addition-no_room = record { returns = refl; ok = tt; err = refl }
+addition-no_room_test = record { returns = refl; ok = tt; err = refl }
 
 addition_of_cut-to_the_room : Makes (addition_of_cut (codes "a") (codes "bc") 2) (codes "a") (Ok tt) (codes "ab")
 unfolding width
@@ -108,9 +108,9 @@ insertion-inside_a_character : Makes (insertion (codes "aé") 2 (codes "x") 4) (
 unfolding width
 insertion-inside_a_character = record { returns = refl; ok = tt; err = refl }
 
-insertion-no_room : Makes (insertion (codes "aé") 1 (codes "x") 3) (codes "aé") (Err error.OutOfBounds) (codes "aé")
+insertion-no_room_test : Makes (insertion (codes "aé") 1 (codes "x") 3) (codes "aé") (Err error.OutOfBounds) (codes "aé")
 unfolding width
-insertion-no_room = record { returns = refl; ok = tt; err = refl }
+insertion-no_room_test = record { returns = refl; ok = tt; err = refl }
 
 -- the error is the same, but only a refusal for room is tight
 insertion-past_before_room : first_cause (insertion (codes "aé") 4 (codes "xy") 4).tests ≡ Some Past
@@ -146,13 +146,13 @@ truncation-inside_a_character : Makes (truncation (codes "aé") 2) (codes "aé")
 unfolding width
 truncation-inside_a_character = record { returns = refl; ok = tt; err = refl }
 
-trimming-both_ends : Makes (trimming is_space (codes " a b ")) (codes " a b ") (Ok tt) (codes "a b")
-trimming-both_ends = record { returns = refl; ok = refl; err = tt }
+trimming_matches-both_ends : Makes (trimming_matches equals_space (codes " a b ")) (codes " a b ") (Ok tt) (codes "a b")
+trimming_matches-both_ends = record { returns = refl; ok = refl; err = tt }
 
 -- a tab and U+3000 are white space, and no spaces
-trimming-what_passes : Makes (trimming is_white_space (0x09 ∷ 0x61 ∷ 0x3000 ∷ [])) (0x09 ∷ 0x61 ∷ 0x3000 ∷ []) (Ok tt) (codes "a")
+trimming_matches-what_passes : Makes (trimming_matches is_white_space (0x09 ∷ 0x61 ∷ 0x3000 ∷ [])) (0x09 ∷ 0x61 ∷ 0x3000 ∷ []) (Ok tt) (codes "a")
 unfolding is_white_space
-trimming-what_passes = record { returns = refl; ok = refl; err = tt }
+trimming_matches-what_passes = record { returns = refl; ok = refl; err = tt }
 
 removal-between : Makes (removal (codes "aéb") 1) (codes "aéb") (Ok 0xE9) (codes "ab")
 unfolding width
@@ -228,9 +228,9 @@ replacement-of_a_full_text : Makes (replacement (codes "abcd") 0 4 (codes "x") 4
 unfolding width
 replacement-of_a_full_text = record { returns = refl; ok = refl; err = tt }
 
-replacement-no_room : Makes (replacement (codes "abcd") 0 0 (codes "xy") 5) (codes "abcd") (Err error.OutOfBounds) (codes "abcd")
+replacement-no_room_test : Makes (replacement (codes "abcd") 0 0 (codes "xy") 5) (codes "abcd") (Err error.OutOfBounds) (codes "abcd")
 unfolding width
-replacement-no_room = record { returns = refl; ok = tt; err = refl }
+replacement-no_room_test = record { returns = refl; ok = tt; err = refl }
 
 replacement-reversed : Makes (replacement (codes "aé") 2 1 (codes "x") 9) (codes "aé") (Err error.OutOfBounds) (codes "aé")
 unfolding width

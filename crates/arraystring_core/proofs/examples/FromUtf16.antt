@@ -5,67 +5,67 @@ use Rattle.arraystring_base.specs.Utf16.{End, Fault, Full}
 use Rattle.arraystring_base.specs.declared.error.Error.TheVariants as error
 use Rattle.arraystring_base.specs.declared.error.Utf16.{Utf16}
 use Rattle.arraystring_base.specs.declared.utf16.Unit16.TheVariants.{Char, Lone}
-use Rattle.arraystring_core.specs.Stored.{view_with_text}
-use Rattle.arraystring_core.specs.FromUtf16.{GivesWhole, GivesPrefix, stop_by_next}
+use Rattle.arraystring_core.specs.Stored.{view_with_empty_spare}
+use Rattle.arraystring_core.specs.FromUtf16.{GivesWholeOrError, GivesPrefixOrFault, stop_before_item}
 
-GivesWhole-all : GivesWhole (End (codes "ab")) (Ok (view_with_text (codes "ab")))
-GivesWhole-all = refl
+GivesWholeOrError-all : GivesWholeOrError (End (codes "ab")) (Ok (view_with_empty_spare (codes "ab")))
+GivesWholeOrError-all = refl
 
-GivesWhole-whatever_lies_around_it : (spare : List ℕ) → GivesWhole (End (codes "ab")) (Ok (record { text = codes "ab"; spare = spare }))
-GivesWhole-whatever_lies_around_it spare = refl
+GivesWholeOrError-whatever_lies_around_it : (spare : List ℕ) → GivesWholeOrError (End (codes "ab")) (Ok (record { text = codes "ab"; spare = spare }))
+GivesWholeOrError-whatever_lies_around_it spare = refl
 
-GivesWhole-no_part : GivesWhole (End (codes "ab")) (Ok (view_with_text (codes "a"))) → ⊥
-GivesWhole-no_part gives = grind (arith, gives)
+GivesWholeOrError-no_part : GivesWholeOrError (End (codes "ab")) (Ok (view_with_empty_spare (codes "a"))) → ⊥
+GivesWholeOrError-no_part gives = grind (arith, gives)
 
-GivesWhole-no_error_at_the_end : GivesWhole (End (codes "ab")) (Err error.OutOfBounds) → ⊥
-GivesWhole-no_error_at_the_end gives = gives
+GivesWholeOrError-no_error_at_the_end : GivesWholeOrError (End (codes "ab")) (Err error.OutOfBounds) → ⊥
+GivesWholeOrError-no_error_at_the_end gives = gives
 
-GivesWhole-the_error_of_a_fault : GivesWhole (Fault (codes "ab")) (Err error.Utf16)
-GivesWhole-the_error_of_a_fault = refl
+GivesWholeOrError-the_error_of_a_fault : GivesWholeOrError (Fault (codes "ab")) (Err error.Utf16)
+GivesWholeOrError-the_error_of_a_fault = refl
 
-GivesWhole-no_other_error_of_a_fault : GivesWhole (Fault (codes "ab")) (Err error.OutOfBounds) → ⊥
-GivesWhole-no_other_error_of_a_fault gives = cc
+GivesWholeOrError-no_other_error_of_a_fault : GivesWholeOrError (Fault (codes "ab")) (Err error.OutOfBounds) → ⊥
+GivesWholeOrError-no_other_error_of_a_fault gives = cc
 
-GivesWhole-no_string_at_a_fault : GivesWhole (Fault (codes "ab")) (Ok (view_with_text (codes "ab"))) → ⊥
-GivesWhole-no_string_at_a_fault gives = gives
+GivesWholeOrError-no_string_at_a_fault : GivesWholeOrError (Fault (codes "ab")) (Ok (view_with_empty_spare (codes "ab"))) → ⊥
+GivesWholeOrError-no_string_at_a_fault gives = gives
 
-GivesWhole-the_error_of_no_room : GivesWhole (Full (codes "ab")) (Err error.OutOfBounds)
-GivesWhole-the_error_of_no_room = refl
+GivesWholeOrError-the_error_of_no_room : GivesWholeOrError (Full (codes "ab")) (Err error.OutOfBounds)
+GivesWholeOrError-the_error_of_no_room = refl
 
-GivesWhole-no_other_error_of_no_room : GivesWhole (Full (codes "ab")) (Err error.Utf16) → ⊥
-GivesWhole-no_other_error_of_no_room gives = cc
+GivesWholeOrError-no_other_error_of_no_room : GivesWholeOrError (Full (codes "ab")) (Err error.Utf16) → ⊥
+GivesWholeOrError-no_other_error_of_no_room gives = cc
 
-GivesWhole-no_string_without_room : GivesWhole (Full (codes "ab")) (Ok (view_with_text (codes "ab"))) → ⊥
-GivesWhole-no_string_without_room gives = gives
+GivesWholeOrError-no_string_without_room : GivesWholeOrError (Full (codes "ab")) (Ok (view_with_empty_spare (codes "ab"))) → ⊥
+GivesWholeOrError-no_string_without_room gives = gives
 
-GivesPrefix-all : GivesPrefix (End (codes "ab")) (Ok (view_with_text (codes "ab")))
-GivesPrefix-all = refl
+GivesPrefixOrFault-all : GivesPrefixOrFault (End (codes "ab")) (Ok (view_with_empty_spare (codes "ab")))
+GivesPrefixOrFault-all = refl
 
-GivesPrefix-whatever_lies_around_it : (spare : List ℕ) → GivesPrefix (End (codes "ab")) (Ok (record { text = codes "ab"; spare = spare }))
-GivesPrefix-whatever_lies_around_it spare = refl
+GivesPrefixOrFault-whatever_lies_around_it : (spare : List ℕ) → GivesPrefixOrFault (End (codes "ab")) (Ok (record { text = codes "ab"; spare = spare }))
+GivesPrefixOrFault-whatever_lies_around_it spare = refl
 
-GivesPrefix-no_part : GivesPrefix (End (codes "ab")) (Ok (view_with_text (codes "a"))) → ⊥
-GivesPrefix-no_part gives = grind (arith, gives)
+GivesPrefixOrFault-no_part : GivesPrefixOrFault (End (codes "ab")) (Ok (view_with_empty_spare (codes "a"))) → ⊥
+GivesPrefixOrFault-no_part gives = grind (arith, gives)
 
-GivesPrefix-no_error_at_the_end : (e : Utf16) → GivesPrefix (End (codes "ab")) (Err e) → ⊥
-GivesPrefix-no_error_at_the_end e gives = gives
+GivesPrefixOrFault-no_error_at_the_end : (e : Utf16) → GivesPrefixOrFault (End (codes "ab")) (Err e) → ⊥
+GivesPrefixOrFault-no_error_at_the_end e gives = gives
 
-GivesPrefix-an_error_at_a_fault : (e : Utf16) → GivesPrefix (Fault (codes "ab")) (Err e)
-GivesPrefix-an_error_at_a_fault e = refl
+GivesPrefixOrFault-an_error_at_a_fault : (e : Utf16) → GivesPrefixOrFault (Fault (codes "ab")) (Err e)
+GivesPrefixOrFault-an_error_at_a_fault e = refl
 
-GivesPrefix-no_string_at_a_fault : GivesPrefix (Fault (codes "ab")) (Ok (view_with_text (codes "ab"))) → ⊥
-GivesPrefix-no_string_at_a_fault gives = cc
+GivesPrefixOrFault-no_string_at_a_fault : GivesPrefixOrFault (Fault (codes "ab")) (Ok (view_with_empty_spare (codes "ab"))) → ⊥
+GivesPrefixOrFault-no_string_at_a_fault gives = cc
 
-GivesPrefix-cut : GivesPrefix (Full (codes "ab")) (Ok (view_with_text (codes "ab")))
-GivesPrefix-cut = refl
+GivesPrefixOrFault-cut : GivesPrefixOrFault (Full (codes "ab")) (Ok (view_with_empty_spare (codes "ab")))
+GivesPrefixOrFault-cut = refl
 
-GivesPrefix-not_cut_shorter : GivesPrefix (Full (codes "ab")) (Ok (view_with_text (codes "a"))) → ⊥
-GivesPrefix-not_cut_shorter gives = grind (arith, gives)
+GivesPrefixOrFault-not_cut_shorter : GivesPrefixOrFault (Full (codes "ab")) (Ok (view_with_empty_spare (codes "a"))) → ⊥
+GivesPrefixOrFault-not_cut_shorter gives = grind (arith, gives)
 
 -- what is too long is cut, and not refused
-GivesPrefix-no_error_of_no_room : (e : Utf16) → GivesPrefix (Full (codes "ab")) (Err e) → ⊥
-GivesPrefix-no_error_of_no_room e gives = gives
+GivesPrefixOrFault-no_error_of_no_room : (e : Utf16) → GivesPrefixOrFault (Full (codes "ab")) (Err e) → ⊥
+GivesPrefixOrFault-no_error_of_no_room e gives = gives
 
-stop_by_next-each_item : (stop_by_next None (codes "ab") ≡ End (codes "ab")) × (stop_by_next (Some (Lone 0xD800)) (codes "ab") ≡ Fault (codes "ab"))
-    × (stop_by_next (Some (Char 0x63)) (codes "ab") ≡ Full (codes "ab"))
-stop_by_next-each_item = (refl, refl, refl)
+stop_before_item-each_item : (stop_before_item None (codes "ab") ≡ End (codes "ab")) × (stop_before_item (Some (Lone 0xD800)) (codes "ab") ≡ Fault (codes "ab"))
+    × (stop_before_item (Some (Char 0x63)) (codes "ab") ≡ Full (codes "ab"))
+stop_before_item-each_item = (refl, refl, refl)

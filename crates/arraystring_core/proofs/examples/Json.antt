@@ -3,30 +3,30 @@ use Rattle.std.proofs.Common.{◌≡◌, [], ◌∷◌, refl, arith, codes, true
 use Rattle.std.specs.Str.{chars}
 use Rattle.serde_json.specs.Data.{null, boolean, number, string, array, object, unsigned, no_items, no_members}
 use Rattle.arraystring_base.specs.Text.{width, utf8}
-use Rattle.arraystring_core.specs.Json.{json_string, text_cut_to, whole_text, IsWhyRefused, value_error_name}
+use Rattle.arraystring_core.specs.Json.{json_string, cut_text_of_value, text_of_value, IsWhyRefused, value_error_name}
 use Rattle.arraystring_core.specs.declared.integration.ValueError.TheVariants.{NotText, OutOfBounds}
 
 json_string-of_two_characters : json_string (codes "aé") ≡ string (0x61 ∷ 0xC3 ∷ 0xA9 ∷ [])
 unfolding utf8
 json_string-of_two_characters = refl
 
-text_cut_to-cut : (text_cut_to (string (0x61 ∷ 0xC3 ∷ 0xA9 ∷ [])) 3 ≡ Some (codes "aé"))
-    × (text_cut_to (string (0x61 ∷ 0xC3 ∷ 0xA9 ∷ [])) 2 ≡ Some (codes "a"))
+cut_text_of_value-cut : (cut_text_of_value (string (0x61 ∷ 0xC3 ∷ 0xA9 ∷ [])) 3 ≡ Some (codes "aé"))
+    × (cut_text_of_value (string (0x61 ∷ 0xC3 ∷ 0xA9 ∷ [])) 2 ≡ Some (codes "a"))
 unfolding chars width
-text_cut_to-cut = (refl, refl)
+cut_text_of_value-cut = (refl, refl)
 
-text_cut_to-no_other_value : (text_cut_to null 3 ≡ None)
-    × (text_cut_to (boolean true) 3 ≡ None) × (text_cut_to (number (unsigned 7)) 3 ≡ None)
-    × (text_cut_to (array no_items) 3 ≡ None) × (text_cut_to (object no_members) 3 ≡ None)
-text_cut_to-no_other_value = (refl, refl, refl, refl, refl)
+cut_text_of_value-no_other_value : (cut_text_of_value null 3 ≡ None)
+    × (cut_text_of_value (boolean true) 3 ≡ None) × (cut_text_of_value (number (unsigned 7)) 3 ≡ None)
+    × (cut_text_of_value (array no_items) 3 ≡ None) × (cut_text_of_value (object no_members) 3 ≡ None)
+cut_text_of_value-no_other_value = (refl, refl, refl, refl, refl)
 
-whole_text-of_two_characters : whole_text (string (0x61 ∷ 0xC3 ∷ 0xA9 ∷ [])) ≡ Some (codes "aé")
+text_of_value-of_two_characters : text_of_value (string (0x61 ∷ 0xC3 ∷ 0xA9 ∷ [])) ≡ Some (codes "aé")
 unfolding chars
-whole_text-of_two_characters = refl
+text_of_value-of_two_characters = refl
 
-whole_text-no_other_value : (whole_text null ≡ None) × (whole_text (boolean true) ≡ None) × (whole_text (number (unsigned 7)) ≡ None)
-    × (whole_text (array no_items) ≡ None) × (whole_text (object no_members) ≡ None)
-whole_text-no_other_value = (refl, refl, refl, refl, refl)
+text_of_value-no_other_value : (text_of_value null ≡ None) × (text_of_value (boolean true) ≡ None) × (text_of_value (number (unsigned 7)) ≡ None)
+    × (text_of_value (array no_items) ≡ None) × (text_of_value (object no_members) ≡ None)
+text_of_value-no_other_value = (refl, refl, refl, refl, refl)
 
 IsWhyRefused-no_text : IsWhyRefused None 3 NotText
 IsWhyRefused-no_text = refl

@@ -4,7 +4,7 @@ use Rattle.std.proofs.Math.Utf8.{encode}
 use Rattle.std.specs.Str.{chars, is_utf8}
 use Rattle.std.proofs.lemmas.Str.{IsUtf8-from_is_utf8, is_utf8-from_IsUtf8, IsUtf8-had}
 use Rattle.arraystring_base.specs.Text.{width, utf8}
-use Rattle.arraystring_core.specs.Layout.{string_in, IsStringLayout, IsDrainLayout, start_of, array_of}
+use Rattle.arraystring_core.specs.Layout.{string_in, MeetsStringInvariant, MeetsDrainInvariant, start_of, array_of}
 
 string_in-from_offset_1 : string_in (codes "xab.") 1 2 ≡ record { text = codes "ab"; spare = 1 ∷ codes "x." }
 unfolding chars
@@ -14,33 +14,33 @@ string_in-of_two_bytes : string_in (0xC3 ∷ 0xA9 ∷ 0x00 ∷ []) 0 2 ≡ recor
 unfolding chars
 string_in-of_two_bytes = refl
 
-IsStringLayout-up_to_the_capacity : IsStringLayout 4 (0x78 ∷ 0x61 ∷ 0xC3 ∷ 0xA9 ∷ []) 1 3
+MeetsStringInvariant-up_to_the_capacity : MeetsStringInvariant 4 (0x78 ∷ 0x61 ∷ 0xC3 ∷ 0xA9 ∷ []) 1 3
 unfolding chars is_utf8 encode
-IsStringLayout-up_to_the_capacity = record { within = omega arith; length = refl; utf8 = ∣ IsUtf8-from_is_utf8 (0x61 ∷ 0xC3 ∷ 0xA9 ∷ []) refl ∣₁ }
+MeetsStringInvariant-up_to_the_capacity = record { within = omega arith; length = refl; utf8 = ∣ IsUtf8-from_is_utf8 (0x61 ∷ 0xC3 ∷ 0xA9 ∷ []) refl ∣₁ }
 
-IsStringLayout-not_past_the_capacity : IsStringLayout 4 (codes "xab.") 3 2 → ⊥
-IsStringLayout-not_past_the_capacity is = omega (arith, is.within)
+MeetsStringInvariant-not_past_the_capacity : MeetsStringInvariant 4 (codes "xab.") 3 2 → ⊥
+MeetsStringInvariant-not_past_the_capacity is = omega (arith, is.within)
 
-IsStringLayout-not_past_255 : (array : List ℕ) → IsStringLayout 300 array 0 256 → ⊥
-IsStringLayout-not_past_255 array is = omega (arith, is.within)
+MeetsStringInvariant-not_past_255 : (array : List ℕ) → MeetsStringInvariant 300 array 0 256 → ⊥
+MeetsStringInvariant-not_past_255 array is = omega (arith, is.within)
 
-IsStringLayout-no_shorter_array : IsStringLayout 5 (codes "xab.") 1 2 → ⊥
-IsStringLayout-no_shorter_array is = omega (arith, is.length)
+MeetsStringInvariant-no_shorter_array : MeetsStringInvariant 5 (codes "xab.") 1 2 → ⊥
+MeetsStringInvariant-no_shorter_array is = omega (arith, is.length)
 
-IsStringLayout-no_other_bytes : IsStringLayout 1 (0x80 ∷ []) 0 1 → ⊥
+MeetsStringInvariant-no_other_bytes : MeetsStringInvariant 1 (0x80 ∷ []) 0 1 → ⊥
 unfolding chars is_utf8
-IsStringLayout-no_other_bytes is = cc (is_utf8-from_IsUtf8 (0x80 ∷ []) (IsUtf8-had (0x80 ∷ []) is.utf8))
+MeetsStringInvariant-no_other_bytes is = cc (is_utf8-from_IsUtf8 (0x80 ∷ []) (IsUtf8-had (0x80 ∷ []) is.utf8))
 
-IsDrainLayout-at_a_boundary : IsDrainLayout 4 (0x78 ∷ 0x61 ∷ 0xC3 ∷ 0xA9 ∷ []) 1 3 1
+MeetsDrainInvariant-at_a_boundary : MeetsDrainInvariant 4 (0x78 ∷ 0x61 ∷ 0xC3 ∷ 0xA9 ∷ []) 1 3 1
 unfolding chars width
-IsDrainLayout-at_a_boundary = record { in_array = IsStringLayout-up_to_the_capacity; at = refl }
+MeetsDrainInvariant-at_a_boundary = record { in_array = MeetsStringInvariant-up_to_the_capacity; at = refl }
 
-IsDrainLayout-not_inside_a_character : IsDrainLayout 4 (0x78 ∷ 0x61 ∷ 0xC3 ∷ 0xA9 ∷ []) 1 3 2 → ⊥
+MeetsDrainInvariant-not_inside_a_character : MeetsDrainInvariant 4 (0x78 ∷ 0x61 ∷ 0xC3 ∷ 0xA9 ∷ []) 1 3 2 → ⊥
 unfolding chars width
-IsDrainLayout-not_inside_a_character is = cc (is.at)
+MeetsDrainInvariant-not_inside_a_character is = cc (is.at)
 
-IsDrainLayout-not_past_the_capacity : IsDrainLayout 4 (codes "xab.") 3 2 0 → ⊥
-IsDrainLayout-not_past_the_capacity is = IsStringLayout-not_past_the_capacity is.in_array
+MeetsDrainInvariant-not_past_the_capacity : MeetsDrainInvariant 4 (codes "xab.") 3 2 0 → ⊥
+MeetsDrainInvariant-not_past_the_capacity is = MeetsStringInvariant-not_past_the_capacity is.in_array
 
 start_of-the_first_number : start_of (record { text = codes "ab"; spare = 1 ∷ codes "x." }) ≡ 1
 start_of-the_first_number = refl

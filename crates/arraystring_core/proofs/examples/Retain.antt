@@ -2,7 +2,7 @@
 use Rattle.std.proofs.Common.{◌≡◌, ◌+◌, ◌<◌, ℕ, Bool, List, [], ◌∷◌, ◌++◌, refl, arith, codes, true}
 use Rattle.std.specs.List.{FoldsTo}
 use Rattle.arraystring_core.specs.Retain.{IsCallableInTurn, ReturnsAs}
-use Rattle.arraystring_core.specs.WhiteSpace.{is_space}
+use Rattle.arraystring_core.specs.WhiteSpace.{equals_space}
 
 abbrev can : ℕ → ℕ → Type 0
 can calls c = calls < 2
@@ -29,13 +29,13 @@ IsCallableInTurn-not_the_first_time is = omega (arith, is.at [] 0x61 (codes "b")
 
 -- a closure that tells spaces, and one that returns anything
 abbrev tells : Unit {0} → ℕ → Bool → Type 0
-tells f c answer = answer ≡ is_space c
+tells f c answer = answer ≡ equals_space c
 
 abbrev guesses : Unit {0} → ℕ → Bool → Type 0
 guesses f c answer = answer ≡ answer
 
-ReturnsAs-it_tells : ReturnsAs tells tt is_space
+ReturnsAs-it_tells : ReturnsAs tells tt equals_space
 ReturnsAs-it_tells = record { at = λ c b returns. returns }
 
-ReturnsAs-not_if_it_guesses : ReturnsAs guesses tt is_space → ⊥
+ReturnsAs-not_if_it_guesses : ReturnsAs guesses tt equals_space → ⊥
 ReturnsAs-not_if_it_guesses is = cc (is.at 0x61 true refl)

@@ -1,9 +1,9 @@
 -- Examples of white space: of each range its first and last character, and those next to it.
 use Rattle.std.proofs.Common.{◌≡◌, [], ◌∷◌, refl, true, false}
-use Rattle.arraystring_core.specs.WhiteSpace.{is_space, in_ranges, is_white_space}
+use Rattle.arraystring_core.specs.WhiteSpace.{equals_space, in_ranges, is_white_space}
 
-is_space-alone : (is_space 0x1F ≡ false) × (is_space 0x20 ≡ true) × (is_space 0x21 ≡ false) × (is_space 0x09 ≡ false)
-is_space-alone = (refl, refl, refl, refl)
+equals_space-alone : (equals_space 0x1F ≡ false) × (equals_space 0x20 ≡ true) × (equals_space 0x21 ≡ false) × (equals_space 0x09 ≡ false)
+equals_space-alone = (refl, refl, refl, refl)
 
 in_ranges-of_none : in_ranges [] 0 ≡ false
 in_ranges-of_none = refl

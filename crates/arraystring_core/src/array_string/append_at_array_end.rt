@@ -3,17 +3,17 @@
 ghost use Rattle.std.specs.Prelude.{◌≡◌, ◌+◌, ◌≤◌, ◌↔◌, [], ◌∷◌, ◌++◌, IsTrue, chars, Ok};
 ghost use Rattle.arraystring_base.specs.Text.{size, width, cap};
 ghost use Rattle.arraystring_core.specs.Edits.{Makes, addition_of_cut};
-ghost use Rattle.arraystring_core.specs.Layout.{string_in, IsStringLayout};
+ghost use Rattle.arraystring_core.specs.Layout.{string_in, MeetsStringInvariant};
 
 use crate::ArrayString;
-use arraystring_base::utils::{Steps, encode, shift_by_call, truncate_str, write_by_call};
+use arraystring_base::utils::{Steps, encode, shift_on_cold_path, truncate_str, write_by_call};
 
 impl<const N: usize> ArrayString<N> {
     /// Whether there is room for `ch` after `len` bytes. ASCII has a test of its own, which the
     /// compiler joins with that of `encode`. If four more bytes fit, the width of any other
     /// character is not tested.
     #[inline(always)]
-    pub(super) fn has_room(len: usize, ch: char) -> bool
+    pub(super) fn has_room_for_char(len: usize, ch: char) -> bool
         requires { len ≤ 255 }
         ensures { IsTrue result ↔ (len + width ch ≤ cap N) }
     {
@@ -30,24 +30,24 @@ impl<const N: usize> ArrayString<N> {
     /// in this order no register has to be moved before the call.
     #[cold]
     #[inline(never)]
-    pub(super) fn compact_and_push(
+    pub(super) fn compact_and_push_char(
         array: &mut [u8; N],
         ch: char,
         start: usize,
         size: usize,
     ) -> usize
-        requires in_array { IsStringLayout N array.old start size }
+        requires in_array { MeetsStringInvariant N array.old start size }
         requires room { size + width ch ≤ cap N }
-        ensures in_array { IsStringLayout N array.new 0 result }
+        ensures in_array { MeetsStringInvariant N array.new 0 result }
         ensures text { (string_in array.new 0 result).text
             ≡ (string_in array.old start size).text ++ (ch ∷ []) }
     {
-        shift_by_call(array, start, 0, size, &mut Steps::new());
+        shift_on_cold_path(array, start, 0, size, &mut Steps::new());
         size + encode(ch, array, size)
     }
 
     /// Moves the text to the start of the array, and appends `string`. It stands apart from `try_push_str`, as
-    /// `compact_and_push` does from `try_push`.
+    /// `compact_and_push_char` does from `try_push`.
     #[cold]
     #[inline(never)]
     pub(super) fn compact_and_push_str(&mut self, string: &str)
@@ -57,7 +57,7 @@ impl<const N: usize> ArrayString<N> {
         let (from, size) = (self.start as usize, self.size as usize);
         self.start = 0;
         self.size += string.len() as u8;
-        shift_by_call(&mut self.array, from, 0, size, &mut Steps::new());
+        shift_on_cold_path(&mut self.array, from, 0, size, &mut Steps::new());
         write_by_call(&mut self.array, size, string.as_bytes());
     }
 

@@ -12,7 +12,7 @@ use arraystring_base::error::OutOfBounds;
 impl<const N: usize> ArrayString<N> {
     /// Appends the characters before the first that does not fit. Returns `Err` if there is such a one: what fitted stays.
     #[inline]
-    pub(super) fn add_chars<I: IntoIterator<Item = char> + Drop>(
+    pub(super) fn push_chars_until_full<I: IntoIterator<Item = char> + Drop>(
         &mut self,
         characters: I,
     ) -> Result<(), OutOfBounds>
@@ -38,7 +38,7 @@ impl<const N: usize> ArrayString<N> {
     /// Appends the pieces before the first that does not fit, and of that one what fits. Returns `Err`
     /// if there is such a one: what fitted stays.
     #[inline]
-    pub(super) fn add_strs<'a, I: IntoIterator<Item = &'a str> + Drop>(
+    pub(super) fn push_strs_until_full<'a, I: IntoIterator<Item = &'a str> + Drop>(
         &mut self,
         pieces: I,
     ) -> Result<(), OutOfBounds>

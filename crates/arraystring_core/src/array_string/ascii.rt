@@ -7,8 +7,8 @@ ghost use Rattle.arraystring_core.specs.Edits.{Makes, uppercase, lowercase, part
 ghost use Rattle.arraystring_core.specs.Ascii.{to_case};
 
 use crate::ArrayString;
-use crate::range_ends::plain_ends;
-use arraystring_base::leaf::{make_lower, make_upper};
+use crate::range_ends::unsaturated_ends;
+use arraystring_base::leaf::{lowercase_between, uppercase_between};
 use std::ops::RangeBounds;
 
 /// The case that ASCII letters are put into.
@@ -33,7 +33,7 @@ impl<const N: usize> ArrayString<N> {
     pub fn make_ascii_uppercase(&mut self)
         ensures { Makes (uppercase self.old.text) self.old.text (Ok result) self.new.text }
     {
-        self.change_case(0, self.len() as usize, Case::Upper);
+        self.change_case_of_part(0, self.len() as usize, Case::Upper);
     }
 
     /// Changes A..Z to a..z. All other characters stay as they are.
@@ -50,7 +50,7 @@ impl<const N: usize> ArrayString<N> {
     pub fn make_ascii_lowercase(&mut self)
         ensures { Makes (lowercase self.old.text) self.old.text (Ok result) self.new.text }
     {
-        self.change_case(0, self.len() as usize, Case::Lower);
+        self.change_case_of_part(0, self.len() as usize, Case::Lower);
     }
 
     /// Changes a..z to A..Z in the range. All other characters stay as they are.
@@ -83,8 +83,8 @@ impl<const N: usize> ArrayString<N> {
             self.new.text
             ≡ front t start ++ (map to_ascii_uppercase (part t start end) ++ back t end) }
     {
-        let (start, end) = plain_ends(range, self.len());
-        self.change_case(start, end, Case::Upper);
+        let (start, end) = unsaturated_ends(range, self.len());
+        self.change_case_of_part(start, end, Case::Upper);
     }
 
     /// Changes A..Z to a..z in the range. All other characters stay as they are.
@@ -117,13 +117,13 @@ impl<const N: usize> ArrayString<N> {
             self.new.text
             ≡ front t start ++ (map to_ascii_lowercase (part t start end) ++ back t end) }
     {
-        let (start, end) = plain_ends(range, self.len());
-        self.change_case(start, end, Case::Lower);
+        let (start, end) = unsaturated_ends(range, self.len());
+        self.change_case_of_part(start, end, Case::Lower);
     }
 
     /// Puts the ASCII letters between two boundaries into a case.
     #[inline]
-    fn change_case(&mut self, start: usize, end: usize, case: Case)
+    fn change_case_of_part(&mut self, start: usize, end: usize, case: Case)
         requires order { start ≤ end }
         requires start { IsTrue (boundary self.old.text start) }
         requires end { IsTrue (boundary self.old.text end) }
@@ -131,13 +131,13 @@ impl<const N: usize> ArrayString<N> {
             ++ (map (to_case case) (part self.old.text start end) ++ back self.old.text end) }
     {
         let offset = self.start as usize;
-        change_case_of_bytes(&mut self.array, offset + start, offset + end, case);
+        change_case_between(&mut self.array, offset + start, offset + end, case);
     }
 }
 
 /// Puts the ASCII letters among the bytes from `start` to `end` into a case.
 #[inline]
-fn change_case_of_bytes<const N: usize>(array: &mut [u8; N], start: usize, end: usize, case: Case)
+fn change_case_between<const N: usize>(array: &mut [u8; N], start: usize, end: usize, case: Case)
     requires order { start ≤ end }
     requires within { end ≤ N }
     ensures { array.new ≡ take start array.old
@@ -145,7 +145,7 @@ fn change_case_of_bytes<const N: usize>(array: &mut [u8; N], start: usize, end: 
 {
     let all = &mut array[..];
     match case {
-        Case::Upper => make_upper(all, start, end),
-        Case::Lower => make_lower(all, start, end),
+        Case::Upper => uppercase_between(all, start, end),
+        Case::Lower => lowercase_between(all, start, end),
     }
 }

@@ -2,11 +2,11 @@
 ghost use Rattle.std.specs.Prelude.{◌≡◌, ◌≤◌, IsTrue, MatchOption, Some, None, chars};
 ghost use Rattle.std.specs.Range.Bound.{start_index, end_index};
 ghost use Rattle.arraystring_base.specs.Text.{bytes, size, boundary};
-ghost use Rattle.arraystring_core.specs.RangeEnds.{OfReturnedBounds};
-ghost use Rattle.arraystring_core.specs.Edits.{part, part_in};
+ghost use Rattle.arraystring_core.specs.RangeEnds.{HoldsOfReturnedBounds};
+ghost use Rattle.arraystring_core.specs.Edits.{part, checked_part};
 
 use crate::ArrayString;
-use crate::range_ends::plain_ends;
+use crate::range_ends::unsaturated_ends;
 use arraystring_base::leaf::{text_before_boundary, text_from_boundary};
 use std::ops::RangeBounds;
 
@@ -45,7 +45,7 @@ impl<const N: usize> ArrayString<N> {
             chars result.now ≡ part t (start_index (R.start_bound range))
             (end_index (R.end_bound range) (size t)) }
     {
-        let (start, end) = plain_ends(range, self.len());
+        let (start, end) = unsaturated_ends(range, self.len());
         self.slice_unchecked(start, end)
     }
 
@@ -62,12 +62,12 @@ impl<const N: usize> ArrayString<N> {
     /// ```
     #[inline]
     pub fn get<R: RangeBounds<u8> + Drop>(&self, range: R) -> Option<&str>
-        ensures { OfReturnedBounds R.has_bounds R.start_bound R.end_bound range (λ start end.
-            let found = part_in self.now.text (start_index start)
+        ensures { HoldsOfReturnedBounds R.has_bounds R.start_bound R.end_bound range (λ start end.
+            let found = checked_part self.now.text (start_index start)
             (end_index end (size self.now.text)) in
             MatchOption result (found ≡ None) (λ s. found ≡ Some (chars s.now))) }
     {
-        let (start, end) = plain_ends(range, self.len());
+        let (start, end) = unsaturated_ends(range, self.len());
         if start > end || !self.is_boundary(start) || !self.is_boundary(end) {
             return None;
         }

@@ -3,7 +3,7 @@ ghost use Rattle.std.specs.Prelude.{◌≡◌, ℕ, ◌≤◌, ◌↔◌, List, 
 ghost use Rattle.std.specs.Borrow.{Bor};
 ghost use Rattle.std.specs.Iterator.{IsFiniteIterable};
 ghost use Rattle.arraystring_base.specs.Text.{bytes, cap, cut, IsText, IsWellFormed};
-ghost use Rattle.arraystring_core.specs.Edits.{from_out_of_bounds};
+ghost use Rattle.arraystring_core.specs.Edits.{map_err_from_out_of_bounds};
 ghost use Rattle.arraystring_core.specs.Construct.{IsWholeOrRefused};
 ghost use Rattle.arraystring_core.specs.Taken.{Takes, Gives, joined_texts, joined_pieces, piece_text};
 
@@ -28,7 +28,7 @@ impl<const N: usize> ArrayString<N> {
     /// ```
     #[inline]
     pub fn try_from_str(string: &str) -> Result<Self, OutOfBounds>
-        ensures { IsWholeOrRefused (chars string.now) (cap N) (from_out_of_bounds result) }
+        ensures { IsWholeOrRefused (chars string.now) (cap N) (map_err_from_out_of_bounds result) }
     {
         if string.len() > Self::capacity() as usize {
             return Err(OutOfBounds);
@@ -77,13 +77,13 @@ impl<const N: usize> ArrayString<N> {
             I.IntoIter.remaining pieces }
         ensures taken { (taken : List (Bor (List ℕ)))
             × Takes I.into_iter_gives I.IntoIter.next_gives joined_pieces pieces (cap N) taken
-            × IsWholeOrRefused (joined_pieces taken) (cap N) (from_out_of_bounds result) }
+            × IsWholeOrRefused (joined_pieces taken) (cap N) (map_err_from_out_of_bounds result) }
         ensures whole { (all : List (List ℕ))
             → Gives I.into_iter_gives I.IntoIter.next_gives piece_text pieces all
-            → IsWholeOrRefused (joined_texts all) (cap N) (from_out_of_bounds result) }
+            → IsWholeOrRefused (joined_texts all) (cap N) (map_err_from_out_of_bounds result) }
     {
         let mut made = Self::new();
-        made.add_strs(pieces)?;
+        made.push_strs_until_full(pieces)?;
         Ok(made)
     }
 
@@ -112,7 +112,7 @@ impl<const N: usize> ArrayString<N> {
             → result.text ≡ cut (joined_texts all) (cap N) }
     {
         let mut made = Self::new();
-        let _ = made.add_strs(pieces);
+        let _ = made.push_strs_until_full(pieces);
         made
     }
 
@@ -140,13 +140,13 @@ impl<const N: usize> ArrayString<N> {
             I.IntoIter.remaining characters }
         ensures taken { (taken : List ℕ)
             × Takes I.into_iter_gives I.IntoIter.next_gives (λ cs. cs) characters (cap N) taken
-            × IsWholeOrRefused taken (cap N) (from_out_of_bounds result) }
+            × IsWholeOrRefused taken (cap N) (map_err_from_out_of_bounds result) }
         ensures whole { (all : List ℕ)
             → Gives I.into_iter_gives I.IntoIter.next_gives (λ c. c) characters all
-            → IsWholeOrRefused all (cap N) (from_out_of_bounds result) }
+            → IsWholeOrRefused all (cap N) (map_err_from_out_of_bounds result) }
     {
         let mut made = Self::new();
-        made.add_chars(characters)?;
+        made.push_chars_until_full(characters)?;
         Ok(made)
     }
 
@@ -175,7 +175,7 @@ impl<const N: usize> ArrayString<N> {
             → result.text ≡ cut all (cap N) }
     {
         let mut made = Self::new();
-        let _ = made.add_chars(characters);
+        let _ = made.push_chars_until_full(characters);
         made
     }
 

@@ -1,8 +1,8 @@
 //! The part of a text in a range of bytes, taken out as a `Drain`.
 ghost use Rattle.std.specs.Prelude.{◌≡◌, ◌≢◌, ◌+◌, ◌-◌, ◌^◌, ◌≤◌, ◌++◌, min, IsTrue, OnOk, OnErr};
 ghost use Rattle.arraystring_base.specs.Text.{size, front, back, boundary};
-ghost use Rattle.arraystring_core.specs.RangeEnds.{OfReturnedBounds, saturated_start, saturated_end};
-ghost use Rattle.arraystring_core.specs.Drained.{result_with_left};
+ghost use Rattle.arraystring_core.specs.RangeEnds.{HoldsOfReturnedBounds, saturated_start, saturated_end};
+ghost use Rattle.arraystring_core.specs.Drained.{drain_result_as_text};
 ghost use Rattle.arraystring_core.specs.Edits.{Makes, draining};
 
 use crate::range_ends::saturating_ends;
@@ -36,10 +36,10 @@ impl<const N: usize> ArrayString<N> {
     /// ```
     #[inline]
     pub fn drain<R: RangeBounds<u8> + Drop>(&mut self, range: R) -> Result<Drain<N>, Error>
-        ensures { OfReturnedBounds R.has_bounds R.start_bound R.end_bound range (λ start end.
+        ensures { HoldsOfReturnedBounds R.has_bounds R.start_bound R.end_bound range (λ start end.
             let t = self.old.text in
             Makes (draining t (saturated_start start) (saturated_end end (size t)))
-            t (result_with_left result) self.new.text) }
+            t (drain_result_as_text result) self.new.text) }
     {
         self.drain_counted(range, &mut Steps::new())
     }
@@ -76,12 +76,14 @@ impl<const N: usize> ArrayString<N> {
     ) -> Result<Drain<N>, Error>
         requires looks { steps.old.looked ≤ 2 ^ 63 }
         requires moves { steps.old.moved ≤ 2 ^ 63 }
-        // Besides the edit, this bounds the moves: none if the range begins at 0; at most the bytes after
-        // it; if something is removed, at least the bytes before the range or after it, whichever are fewer.
-        ensures edit { OfReturnedBounds R.has_bounds R.start_bound R.end_bound range (λ start end.
+        // This clause says which edit is made, and bounds how many bytes move: at most those after the range, and
+        // none if the range begins at 0. If something is removed, at least as many move as lie before the range, or
+        // as lie after it, whichever are fewer.
+        ensures edit { HoldsOfReturnedBounds
+            R.has_bounds R.start_bound R.end_bound range (λ start end.
             let t = self.old.text in
             let from = saturated_start start in let to = saturated_end end (size t) in
-            Makes (draining t from to) t (result_with_left result) self.new.text
+            Makes (draining t from to) t (drain_result_as_text result) self.new.text
             × (from ≡ 0 → steps.new.moved ≡ steps.old.moved)
             × (steps.new.moved ≤ steps.old.moved + (size t - to))
             × OnOk result
@@ -118,12 +120,13 @@ impl<const N: usize> ArrayString<N> {
         if N <= 32 || start == 0 {
             return self.remove_range(start, end, steps);
         }
-        self.remove_by_call(start, end, steps);
+        self.remove_out_of_line(start, end, steps);
     }
 
-    /// Removes as `remove_range` does, for `remove_drained`, by code that stands once in a program.
+    /// Removes as `remove_range` does, for `remove_drained`. It is never inlined, so a program has its code
+    /// once for each capacity.
     #[inline(never)]
-    fn remove_by_call(&mut self, start: usize, end: usize, steps: &mut Steps)
+    fn remove_out_of_line(&mut self, start: usize, end: usize, steps: &mut Steps)
         requires order { start ≤ end }
         requires start { IsTrue (boundary self.old.text start) }
         requires end { IsTrue (boundary self.old.text end) }

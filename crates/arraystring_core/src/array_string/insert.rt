@@ -34,7 +34,7 @@ impl<const N: usize> ArrayString<N> {
             self.old.text result self.new.text }
     {
         self.check_insertion(index, ch.len_utf8())?;
-        self.insert_at_boundary(index as usize, ch);
+        self.insert_char_at_boundary(index as usize, ch);
         Ok(())
     }
 
@@ -135,7 +135,7 @@ impl<const N: usize> ArrayString<N> {
         ensures { Makes (insertion_of_cut self.old.text index (chars string.now) (cap N))
             self.old.text result self.new.text }
     {
-        self.check_index(index)?;
+        self.check_bounds_and_boundary(index)?;
         let room = Self::capacity() - self.len();
         let at = index as usize;
         self.splice(at, at, truncate_str(string, room), &mut Steps::new());

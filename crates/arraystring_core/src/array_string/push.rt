@@ -1,7 +1,7 @@
 //! Appends: of characters, of texts, and of the items of an iterator, whose loops are in `appended_items`.
 ghost use Rattle.std.specs.Prelude.{◌-◌, Ok, [], ◌∷◌, chars, ℕ, List};
 ghost use Rattle.arraystring_base.specs.Text.{size, cap};
-ghost use Rattle.arraystring_core.specs.Edits.{Makes, from_out_of_bounds, addition, addition_of_cut};
+ghost use Rattle.arraystring_core.specs.Edits.{Makes, map_err_from_out_of_bounds, addition, addition_of_cut};
 ghost use Rattle.std.specs.Borrow.{Bor};
 ghost use Rattle.std.specs.Iterator.{IsFiniteIterable};
 ghost use Rattle.arraystring_core.specs.Taken.{Takes, Gives, joined_texts, joined_pieces, piece_text};
@@ -28,11 +28,12 @@ impl<const N: usize> ArrayString<N> {
     #[inline(always)]
     pub fn try_push(&mut self, ch: char) -> Result<(), OutOfBounds>
         ensures { Makes (addition self.old.text (ch ∷ []) (cap N))
-            self.old.text (from_out_of_bounds result) self.new.text }
+            self.old.text (map_err_from_out_of_bounds result) self.new.text }
     {
         let end = self.end();
-        if Self::has_room(end, ch) {
-            // The sum for ASCII is separate, because one for all widths would make a loop of pushes longer.
+        if Self::has_room_for_char(end, ch) {
+            // ASCII has a sum of its own, because one sum for all widths would give the code of a loop of pushes more
+            // instructions.
             if ch.is_ascii() {
                 self.size += 1;
                 encode(ch, &mut self.array, end);
@@ -42,10 +43,10 @@ impl<const N: usize> ArrayString<N> {
             return Ok(());
         }
         let (start, size) = (self.start as usize, self.size as usize);
-        if !Self::has_room(size, ch) {
+        if !Self::has_room_for_char(size, ch) {
             return Err(OutOfBounds);
         }
-        let size = Self::compact_and_push(&mut self.array, ch, start, size);
+        let size = Self::compact_and_push_char(&mut self.array, ch, start, size);
         self.start = 0;
         self.size = size as u8;
         Ok(())
@@ -68,7 +69,7 @@ impl<const N: usize> ArrayString<N> {
     #[inline]
     pub fn try_push_str(&mut self, string: &str) -> Result<(), OutOfBounds>
         ensures { Makes (addition self.old.text (chars string.now) (cap N))
-            self.old.text (from_out_of_bounds result) self.new.text }
+            self.old.text (map_err_from_out_of_bounds result) self.new.text }
     {
         let end = self.end();
         if end + string.len() <= Self::capacity() as usize {
@@ -139,7 +140,7 @@ impl<const N: usize> ArrayString<N> {
             → Makes (addition_of_cut self.old.text all (cap N))
             self.old.text (Ok result) self.new.text }
     {
-        let _ = self.add_chars(characters);
+        let _ = self.push_chars_until_full(characters);
     }
 
     /// Appends the longest prefix of whole characters of the joined pieces that fits.
@@ -169,6 +170,6 @@ impl<const N: usize> ArrayString<N> {
             → Makes (addition_of_cut self.old.text (joined_texts all) (cap N))
             self.old.text (Ok result) self.new.text }
     {
-        let _ = self.add_strs(pieces);
+        let _ = self.push_strs_until_full(pieces);
     }
 }

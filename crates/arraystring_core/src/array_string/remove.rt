@@ -2,13 +2,13 @@
 //! it. The private calls remove a part, a front or an end of the text.
 ghost use Rattle.std.specs.Prelude.{◌≡◌, ◌≢◌, ◌+◌, ◌-◌, ◌^◌, ◌<◌, ◌≤◌, min, Ok, OnErr, IfOk, IfSome, ◌++◌, IsTrue, slice_index, drop};
 ghost use Rattle.arraystring_base.specs.Text.{size, width, front, back, boundary};
-ghost use Rattle.arraystring_core.specs.Edits.{Makes, popping, from_utf8_error, with_text, truncation, removal, clearing, split};
+ghost use Rattle.arraystring_core.specs.Edits.{Makes, popping, map_err_from_utf8, string_result_as_text, truncation, removal, clearing, split};
 
 use crate::ArrayString;
 use crate::laws::text_fits;
 use arraystring_base::error::{Error, Utf8};
 use arraystring_base::leaf::text_from_boundary;
-use arraystring_base::utils::{Steps, first_char, last_char};
+use arraystring_base::utils::{Steps, first_char_and_width, last_char_with_start};
 
 impl<const N: usize> ArrayString<N> {
     /// Shortens the text to its first `size` bytes. Nothing changes if it has no more.
@@ -30,7 +30,7 @@ impl<const N: usize> ArrayString<N> {
     #[inline]
     pub fn truncate(&mut self, size: u8) -> Result<(), Utf8>
         ensures { Makes (truncation self.old.text size)
-            self.old.text (from_utf8_error result) self.new.text }
+            self.old.text (map_err_from_utf8 result) self.new.text }
     {
         if size >= self.len() {
             return Ok(());
@@ -83,7 +83,7 @@ impl<const N: usize> ArrayString<N> {
         ensures counted { steps.old.looked ≤ steps.new.looked }
         ensures moved { steps.new.moved ≡ steps.old.moved }
     {
-        let (start, ch) = last_char(self.as_str(), steps)?;
+        let (start, ch) = last_char_with_start(self.as_str(), steps)?;
         self.set_len(start as u8);
         Some(ch)
     }
@@ -153,7 +153,7 @@ impl<const N: usize> ArrayString<N> {
     {
         self.check_removal(index)?;
         let start = index as usize;
-        let (ch, width) = self.char_at(start);
+        let (ch, width) = self.char_and_width_at(start);
         self.remove_range(start, start + width, steps);
         Ok(ch)
     }
@@ -178,9 +178,10 @@ impl<const N: usize> ArrayString<N> {
     /// ```
     #[inline]
     pub fn split_off(&mut self, at: u8) -> Result<Self, Error>
-        ensures { Makes (split self.old.text at) self.old.text (with_text result) self.new.text }
+        ensures { Makes (split self.old.text at)
+            self.old.text (string_result_as_text result) self.new.text }
     {
-        self.check_index(at)?;
+        self.check_bounds_and_boundary(at)?;
         let rest = Self::from_str_unchecked(text_from_boundary(self.as_str(), at as usize));
         self.set_len(at);
         Ok(rest)
@@ -237,7 +238,7 @@ impl<const N: usize> ArrayString<N> {
 
     /// The character that begins at a boundary before the end, and how many bytes it takes.
     #[inline]
-    fn char_at(&self, at: usize) -> (char, usize)
+    fn char_and_width_at(&self, at: usize) -> (char, usize)
         requires boundary { IsTrue (boundary self.now.text at) }
         requires before_end { at < size self.now.text }
         ensures first { result.0 ≡ slice_index (back self.now.text at) 0 }
@@ -245,6 +246,6 @@ impl<const N: usize> ArrayString<N> {
         ensures next { IsTrue (boundary self.now.text (at + width result.0)) }
         ensures rest { back self.now.text (at + width result.0) ≡ drop 1 (back self.now.text at) }
     {
-        first_char(text_from_boundary(self.as_str(), at))
+        first_char_and_width(text_from_boundary(self.as_str(), at))
     }
 }

@@ -1,7 +1,7 @@
 //! The part of a text in a range of bytes, replaced by another text.
 ghost use Rattle.std.specs.Prelude.{◌≡◌, ◌≢◌, ◌+◌, ◌-◌, ◌^◌, ◌≤◌, min, OnOk, OnErr, chars};
 ghost use Rattle.arraystring_base.specs.Text.{cap, size};
-ghost use Rattle.arraystring_core.specs.RangeEnds.{OfReturnedBounds, saturated_start, saturated_end};
+ghost use Rattle.arraystring_core.specs.RangeEnds.{HoldsOfReturnedBounds, saturated_start, saturated_end};
 ghost use Rattle.arraystring_core.specs.Edits.{Makes, replacement};
 
 use crate::ArrayString;
@@ -38,7 +38,7 @@ impl<const N: usize> ArrayString<N> {
         range: R,
         with: &str,
     ) -> Result<(), Error>
-        ensures { OfReturnedBounds R.has_bounds R.start_bound R.end_bound range (λ start end.
+        ensures { HoldsOfReturnedBounds R.has_bounds R.start_bound R.end_bound range (λ start end.
             let t = self.old.text in
             Makes (replacement t (saturated_start start) (saturated_end end (size t))
             (chars with.now) (cap N))
@@ -79,9 +79,11 @@ impl<const N: usize> ArrayString<N> {
     ) -> Result<(), Error>
         requires looks { steps.old.looked ≤ 2 ^ 63 }
         requires moves { steps.old.moved ≤ 2 ^ 63 }
-        // Besides the edit, this bounds the moves: if the text does not grow, at most the bytes after the
-        // range; if its size changes, at least the bytes before the range or after it, whichever are fewer.
-        ensures edit { OfReturnedBounds R.has_bounds R.start_bound R.end_bound range (λ start end.
+        // This clause says which edit is made, and bounds how many bytes move. If `with` is not larger than the
+        // range, at most those after the range move. If the size of the text changes, at least as many move as lie
+        // before the range, or as lie after it, whichever are fewer.
+        ensures edit { HoldsOfReturnedBounds
+            R.has_bounds R.start_bound R.end_bound range (λ start end.
             let t = self.old.text in
             let from = saturated_start start in let to = saturated_end end (size t) in
             let given = chars with.now in

@@ -3,10 +3,10 @@
 //! are in `push`, `append_at_array_end` and `remove`, because they move nothing, or all of the text.
 ghost use Rattle.std.specs.Prelude.{◌≡◌, ◌+◌, ◌-◌, ◌^◌, ◌≤◌, ◌∷◌, ◌++◌, IsTrue, chars};
 ghost use Rattle.arraystring_base.specs.Text.{size, width, cap, front, back, boundary};
-ghost use Rattle.arraystring_core.specs.Splice.{ReplacesPart};
+ghost use Rattle.arraystring_core.specs.Splice.{ReplacesPartCountingMoves};
 
 use crate::ArrayString;
-use arraystring_base::leaf::part;
+use arraystring_base::leaf::part_of_length;
 use arraystring_base::utils::{Steps, encode, shift, write_over};
 use std::str;
 
@@ -19,15 +19,15 @@ impl<const N: usize> ArrayString<N> {
         requires end { IsTrue (boundary self.old.text end) }
         requires room { size self.old.text - (end - start) + size (chars given.now) ≤ cap N }
         requires countable { steps.old.moved ≤ 2 ^ 63 }
-        ensures replaced { ReplacesPart self.old.text start end (chars given.now) self.new.text
-            steps.old steps.new }
+        ensures replaced { ReplacesPartCountingMoves self.old.text start end (chars given.now)
+            self.new.text steps.old steps.new }
         ensures tail_alone { size (chars given.now) ≤ end - start
             → steps.new.moved ≤ steps.old.moved + (size self.old.text - end) }
     {
         let (offset, size) = (self.start as usize, self.size as usize);
         let (len, tail) = (given.len(), size - end);
-        // The second test follows from the first, because only a text that grows can reach past the end. It is for the
-        // compiler, which leaves out the branch where nothing is given, as in a removal.
+        // The second test follows from the first, because only a text that grows can end past the capacity. It is for
+        // the compiler: where `given` is known to be empty, as in a removal, this branch is then left out.
         if offset + (start + (len + tail)) > Self::capacity() as usize && len > end - start {
             return self.compact_and_splice(start, end, given, steps);
         }
@@ -52,7 +52,7 @@ impl<const N: usize> ArrayString<N> {
         requires end { IsTrue (boundary self.old.text end) }
         requires room { size self.old.text - (end - start) + size (chars given.now) ≤ cap N }
         requires countable { steps.old.moved ≤ 2 ^ 63 }
-        ensures { ReplacesPart self.old.text start end (chars given.now) self.new.text
+        ensures { ReplacesPartCountingMoves self.old.text start end (chars given.now) self.new.text
             steps.old steps.new }
     {
         let (offset, size) = (self.start as usize, self.size as usize);
@@ -64,10 +64,11 @@ impl<const N: usize> ArrayString<N> {
         write_over(&mut self.array, start, given.as_bytes());
     }
 
-    /// Puts `ch` at a boundary, as `splice` does with a text. The new text must fit. If there is room behind the
-    /// text, the UTF-8 of `ch` is written straight into the array, without a text of it for `splice`.
+    /// Puts `ch` at a boundary, as `splice` does with a text. The new text must fit. If there is room behind
+    /// the text, the UTF-8 of `ch` is written straight into the array. If not, it is first written into an
+    /// array of its own, which `compact_and_splice` is given.
     #[tactic(auto, using(crate::proofs::StoredLaws::within))]
-    pub(super) fn insert_at_boundary(&mut self, at: usize, ch: char)
+    pub(super) fn insert_char_at_boundary(&mut self, at: usize, ch: char)
         requires boundary { IsTrue (boundary self.old.text at) }
         requires room { size self.old.text + width ch ≤ cap N }
         ensures { self.new.text ≡ front self.old.text at ++ (ch ∷ back self.old.text at) }
@@ -78,7 +79,7 @@ impl<const N: usize> ArrayString<N> {
             let mut utf8 = [0; 4];
             encode(ch, &mut utf8, 0);
             // SAFETY: `encode` wrote the `len` bytes of the UTF-8 of `ch` at the start of `utf8`.
-            let given = unsafe { str::from_utf8_unchecked(part(&utf8, 0, len)) };
+            let given = unsafe { str::from_utf8_unchecked(part_of_length(&utf8, 0, len)) };
             return self.compact_and_splice(at, at, given, &mut Steps::new());
         }
         self.size = (at + (len + tail)) as u8;

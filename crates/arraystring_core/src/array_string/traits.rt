@@ -5,7 +5,7 @@ ghost use Rattle.std.specs.Prelude.{◌≡◌, Ok, [], ◌++◌, chars, nat_eq, 
 ghost use Rattle.std.specs.Cmp.{on_equiv, on_per, partial_equiv_from_equiv, on_total, on_po};
 ghost use Rattle.std.specs.Cmp.Lexicographic.{pointwise, nat_list_eq_equiv, slice_cmp, nat_list_cmp_total, texts_po, texts_ties, bytes_decides};
 ghost use Rattle.arraystring_base.specs.Text.{bytes, cap, cut, IsBefore};
-ghost use Rattle.arraystring_core.specs.Edits.{Makes, from_out_of_bounds, from_fmt_error, addition, addition_of_cut};
+ghost use Rattle.arraystring_core.specs.Edits.{Makes, map_err_from_out_of_bounds, map_err_from_fmt, addition, addition_of_cut};
 ghost use Rattle.arraystring_core.specs.Construct.{IsWholeOrRefused};
 ghost use Rattle.std.specs.Hash as fed;
 ghost use Rattle.std.specs.Ordering.{nat_cmp, MatchOrdering};
@@ -71,9 +71,10 @@ impl<const N: usize> Eq for ArrayString<N> {
     ghost laws = { on_equiv (λ s. s.text) nat_list_eq_equiv };
 }
 
-/// Makes a string as `from_str_truncate` does, also by `into`: what does not fit is **cut** off. Std makes
-/// a `try_from` of this, too, which in Rust returns `Ok` of a cut text. `parse` and `try_from_str` refuse
-/// a text that does not fit.
+/// Makes a string as `from_str_truncate` does, also by `into`: what does not fit is **cut** off. Where this
+/// file is translated to Rust, std makes a `try_from` of this, too, which cuts and returns `Ok`. (The public
+/// type of the Cargo crate has a `try_from` of its own, which refuses.) `parse` and `try_from_str` refuse a
+/// text that does not fit.
 impl<'a, const N: usize> From<&'a str> for ArrayString<N> {
     ghost from_gives = { λ string made. made.text ≡ cut (chars string.now) (cap N) };
 
@@ -88,7 +89,7 @@ impl<const N: usize> FromStr for ArrayString<N> {
     type Err = OutOfBounds;
 
     ghost from_str_gives = { λ string result.
-        IsWholeOrRefused (chars string) (cap N) (from_out_of_bounds result) };
+        IsWholeOrRefused (chars string) (cap N) (map_err_from_out_of_bounds result) };
 
     /// Creates a string from `string`.
     ///
@@ -177,7 +178,7 @@ impl<const N: usize> fmt::Write for ArrayString<N> {
     fn write_str(&mut self, string: &str) -> fmt::Result
         ensures ok { IsOk result → bytes self.new.text ≡ bytes self.old.text ++ string.now }
         ensures made { Makes (addition self.old.text (chars string.now) (cap N))
-            self.old.text (from_fmt_error result) self.new.text }
+            self.old.text (map_err_from_fmt result) self.new.text }
     {
         match self.try_push_str(string) {
             Ok(()) => Ok(()),

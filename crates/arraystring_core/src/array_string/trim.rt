@@ -1,11 +1,11 @@
 //! Trimming at both ends.
 ghost use Rattle.std.specs.Prelude.{◌≡◌, ◌+◌, ◌-◌, ◌*◌, ◌^◌, ◌≤◌, ℕ, Bool, min, Ok, length};
 ghost use Rattle.arraystring_core.specs.Retain.{ReturnsAs};
-ghost use Rattle.arraystring_core.specs.Edits.{Makes, trimming, is_space, is_white_space, without_leading, without_trailing};
+ghost use Rattle.arraystring_core.specs.Edits.{Makes, trimming_matches, equals_space, is_white_space, without_leading, without_trailing};
 
 use crate::ArrayString;
 use crate::laws::text_fits;
-use arraystring_base::utils::{Steps, last_char};
+use arraystring_base::utils::{Steps, last_char_with_start};
 
 impl<const N: usize> ArrayString<N> {
     /// Removes all white space at both ends, and nothing else. As in `str::trim`, white space is
@@ -21,7 +21,7 @@ impl<const N: usize> ArrayString<N> {
     /// ```
     #[inline]
     pub fn trim(&mut self)
-        ensures { Makes (trimming is_white_space self.old.text)
+        ensures { Makes (trimming_matches is_white_space self.old.text)
             self.old.text (Ok result) self.new.text }
     {
         self.trim_counted(&mut Steps::new());
@@ -50,7 +50,7 @@ impl<const N: usize> ArrayString<N> {
     pub fn trim_counted(&mut self, steps: &mut Steps)
         requires looks { steps.old.looked ≤ 2 ^ 63 }
         requires moves { steps.old.moved ≤ 2 ^ 63 }
-        ensures edit { Makes (trimming is_white_space self.old.text)
+        ensures edit { Makes (trimming_matches is_white_space self.old.text)
             self.old.text (Ok result) self.new.text }
         ensures moved { steps.new.moved ≡ steps.old.moved }
         ensures looked { steps.new.looked ≤ steps.old.looked + 4 * (length self.old.text
@@ -60,8 +60,8 @@ impl<const N: usize> ArrayString<N> {
             ≤ steps.new.looked }
         ensures counted { steps.old.looked ≤ steps.new.looked }
     {
-        self.drop_trailing(is_white_space, steps);
-        self.drop_leading(is_white_space);
+        self.trim_end_matches(is_white_space, steps);
+        self.trim_start_matches(is_white_space);
     }
 
     /// Removes all spaces (U+0020) at both ends, and nothing else.
@@ -75,17 +75,18 @@ impl<const N: usize> ArrayString<N> {
     /// ```
     #[inline]
     pub fn trim_spaces(&mut self)
-        ensures { Makes (trimming is_space self.old.text) self.old.text (Ok result) self.new.text }
+        ensures { Makes (trimming_matches equals_space self.old.text)
+            self.old.text (Ok result) self.new.text }
     {
-        self.drop_trailing(is_space, &mut Steps::new());
-        self.drop_leading(is_space);
+        self.trim_end_matches(equals_space, &mut Steps::new());
+        self.trim_start_matches(equals_space);
     }
 
     /// Drops the characters at the end for which `drops` returns true, back to the last for which
     /// it does not. It moves no byte. It looks at each character that it drops and at the one before
     /// them: at each at least once, and at most four times.
     #[inline]
-    fn drop_trailing<F: Fn(char) -> bool + Drop>(&mut self, drops: F, steps: &mut Steps)
+    fn trim_end_matches<F: Fn(char) -> bool + Drop>(&mut self, drops: F, steps: &mut Steps)
         requires callable { F.IsAlwaysCallable drops }
         requires looks { steps.old.looked ≤ 2 ^ 63 }
         ensures text { (passes : ℕ → Bool) → ReturnsAs F.post drops passes
@@ -99,7 +100,7 @@ impl<const N: usize> ArrayString<N> {
         ensures counted { steps.old.looked ≤ steps.new.looked }
     {
         text_fits(self); // gives the prover that no count passes its greatest value
-        while let Some((start, ch)) = last_char(self.as_str(), steps) {
+        while let Some((start, ch)) = last_char_with_start(self.as_str(), steps) {
             if !drops(ch) {
                 break;
             }
@@ -110,7 +111,7 @@ impl<const N: usize> ArrayString<N> {
     /// Drops the characters at the start for which `drops` returns true, up to the first for which
     /// it does not.
     #[inline]
-    fn drop_leading<F: Fn(char) -> bool + Drop>(&mut self, drops: F)
+    fn trim_start_matches<F: Fn(char) -> bool + Drop>(&mut self, drops: F)
         requires callable { F.IsAlwaysCallable drops }
         ensures { (passes : ℕ → Bool) → ReturnsAs F.post drops passes
             → self.new.text ≡ without_leading passes self.old.text }
@@ -135,8 +136,8 @@ fn is_white_space(ch: char) -> bool
 
 /// Whether `ch` is the space, U+0020.
 #[inline]
-fn is_space(ch: char) -> bool
-    ensures { result ≡ is_space ch }
+fn equals_space(ch: char) -> bool
+    ensures { result ≡ equals_space ch }
 {
     ch == ' '
 }

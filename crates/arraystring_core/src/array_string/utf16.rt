@@ -3,7 +3,7 @@ ghost use Rattle.std.specs.Prelude.{◌≡◌, [], List, IfOk};
 ghost use Rattle.arraystring_base.specs.declared.utf16.Unit16.{Unit16};
 ghost use Rattle.arraystring_base.specs.Text.{cap, cut};
 ghost use Rattle.arraystring_base.specs.Utf16.{IsReading, first_stop, char_or_replacement, lossy_text, text_units};
-ghost use Rattle.arraystring_core.specs.FromUtf16.{GivesWhole, GivesPrefix, stop_by_next};
+ghost use Rattle.arraystring_core.specs.FromUtf16.{GivesWholeOrError, GivesPrefixOrFault, stop_before_item};
 
 use crate::ArrayString;
 use arraystring_base::error::{Error, Utf16};
@@ -33,25 +33,24 @@ impl<const N: usize> ArrayString<N> {
     #[inline]
     pub fn try_from_utf16(units: &[u16]) -> Result<Self, Error>
         ensures whole { (items : List Unit16) → IsReading units.now items
-            → GivesWhole (first_stop items (cap N)) result }
+            → GivesWholeOrError (first_stop items (cap N)) result }
         ensures units { IfOk result (λ made. text_units made.text ≡ units.now) }
     {
         let mut made = Self::new();
-        match made.add_units(units) {
+        match made.fill_from_units(units) {
             None => Ok(made),
             Some(Unit16::Lone(_)) => Err(Error::Utf16),
             Some(Unit16::Char(_)) => Err(Error::OutOfBounds),
         }
     }
 
-    /// Creates a string from the longest prefix of characters of `units` that fits. What comes
-    /// after a character that does not fit has no effect: the text is **cut** there.
-    /// `try_from_utf16` refuses what does not fit.
+    /// Creates a string from `units`, which are read in order, as characters and lone surrogates, up to the
+    /// first that cannot be appended. If it is a character that does not fit, the text is **cut** before it,
+    /// and nothing after it has an effect. `try_from_utf16` refuses what does not fit.
     ///
     /// # Errors
     ///
-    /// Returns `Err(Utf16)` if a lone surrogate comes right after that prefix, even if the string
-    /// is full.
+    /// Returns `Err(Utf16)` if it is a lone surrogate, even if the string is full.
     ///
     /// # Examples
     ///
@@ -63,10 +62,10 @@ impl<const N: usize> ArrayString<N> {
     #[inline]
     pub fn from_utf16(units: &[u16]) -> Result<Self, Utf16>
         ensures { (items : List Unit16) → IsReading units.now items
-            → GivesPrefix (first_stop items (cap N)) result }
+            → GivesPrefixOrFault (first_stop items (cap N)) result }
     {
         let mut made = Self::new();
-        if let Some(Unit16::Lone(_)) = made.add_units(units) {
+        if let Some(Unit16::Lone(_)) = made.fill_from_units(units) {
             return Err(Utf16);
         }
         Ok(made)
@@ -98,13 +97,13 @@ impl<const N: usize> ArrayString<N> {
         made
     }
 
-    /// Appends to the empty text the longest prefix of characters of `units` that fits. Returns the item
-    /// right after it.
+    /// Appends to the string, which must be empty, the longest prefix of characters of `units` that fits.
+    /// Returns the item right after it, or `None` if there is none.
     #[inline]
-    fn add_units(&mut self, units: &[u16]) -> Option<Unit16>
+    fn fill_from_units(&mut self, units: &[u16]) -> Option<Unit16>
         requires { self.old.text ≡ [] }
         ensures { (items : List Unit16) → IsReading units.now items
-            → first_stop items (cap N) ≡ stop_by_next result self.new.text }
+            → first_stop items (cap N) ≡ stop_before_item result self.new.text }
     {
         only_reading(units); // gives the prover that what `Units` reads is the only reading
         for item in Units::new(units) {

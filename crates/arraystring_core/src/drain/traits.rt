@@ -9,7 +9,7 @@ ghost use Rattle.std.specs.Ordering.{nat_cmp, MatchOrdering};
 
 use crate::Drain;
 use arraystring_base::leaf::byte;
-use arraystring_base::utils::{Steps, last_char};
+use arraystring_base::utils::{Steps, last_char_with_start};
 use std::cmp::Ordering;
 use std::fmt;
 use std::hash::{Hash, Hasher};
@@ -42,7 +42,7 @@ impl<const N: usize> DoubleEndedIterator for Drain<N> {
     /// after that.
     #[inline(always)]
     fn next_back(&mut self) -> Option<char> {
-        let (kept, ch) = last_char(self.as_str(), &mut Steps::new())?;
+        let (kept, ch) = last_char_with_start(self.as_str(), &mut Steps::new())?;
         self.size = self.front + kept as u8;
         Some(ch)
     }

@@ -2,7 +2,7 @@
 use Rattle.std.proofs.Common.{◌≡◌, ℕ, ◌≤◌, ◌+◌, List, [], ◌∷◌, ◌++◌, length, take, replicate, Some, None, Result, Ok, Err, inl, refl, sym, ap, ◌∙◌, ap₂, subst, zero, suc, true, false, IsSome, arith, codes, lit≤, lit<, length-append}
 use Rattle.std.specs.declared.env.FillError.{FillError}
 use Rattle.std.specs.declared.env.FillError.TheVariants.{NotPresent}
-use Rattle.arraystring.specs.Stored.{StringView, view_with_text}
+use Rattle.arraystring.specs.Stored.{StringView, view_with_empty_spare}
 use Rattle.arraystring.specs.Text.{IsScalarValue, IsText, width, utf8, size, bytes}
 use Rattle.arraystring_run.specs.Arguments.{IsOnlyWord}
 
@@ -13,7 +13,7 @@ has n = Ok n
 abbrev none : Result ℕ FillError
 none = Err NotPresent
 
-IsOnlyWord-alone : IsOnlyWord (has 5) (codes "small..") none (Some (view_with_text (codes "small")))
+IsOnlyWord-alone : IsOnlyWord (has 5) (codes "small..") none (Some (view_with_empty_spare (codes "small")))
 unfolding utf8
 IsOnlyWord-alone = record { text = (5, refl, refl); alone = λ some. refl; whole = λ t n is fits e long same alone. refl }
 
@@ -31,14 +31,14 @@ IsOnlyWord-none_where_there_is_no_first = record {
   whole = λ t n is fits e long same alone. absurd (cc);
 }
 
-IsOnlyWord-another_text : IsOnlyWord (has 5) (codes "cache") none (Some (view_with_text (codes "small"))) → ⊥
+IsOnlyWord-another_text : IsOnlyWord (has 5) (codes "cache") none (Some (view_with_empty_spare (codes "small"))) → ⊥
 unfolding utf8
 IsOnlyWord-another_text is = grind arith
 
-IsOnlyWord-of_no_first : IsOnlyWord none (codes "small") none (Some (view_with_text (codes "small"))) → ⊥
+IsOnlyWord-of_no_first : IsOnlyWord none (codes "small") none (Some (view_with_empty_spare (codes "small"))) → ⊥
 IsOnlyWord-of_no_first is = let e : none ≡ Ok is.text.0 = is.text.1 in cc
 
-IsOnlyWord-there_is_a_second : IsOnlyWord (has 5) (codes "small") (has 1) (Some (view_with_text (codes "small"))) → ⊥
+IsOnlyWord-there_is_a_second : IsOnlyWord (has 5) (codes "small") (has 1) (Some (view_with_empty_spare (codes "small"))) → ⊥
 IsOnlyWord-there_is_a_second is = cc (is.alone refl)
 
 IsOnlyWord-not_seen : IsOnlyWord (has 2) (codes "ab") none None → ⊥

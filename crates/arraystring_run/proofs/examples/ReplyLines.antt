@@ -5,8 +5,8 @@ use Rattle.std.specs.Fmt.{digits}
 use Rattle.std.specs.Str.{chars}
 use Rattle.arraystring.specs.Refusals.{OutOfBounds, Utf8, Utf16}
 use Rattle.arraystring.specs.Text.{width, utf8}
-use Rattle.arraystring_run.specs.Printing.{reply_line, replies_printed, all_printed, run_printed}
-use Rattle.arraystring_run.specs.Runs.{Done, Char, NoChar, Text, NoText, Number, Refused}
+use Rattle.arraystring_run.specs.Printing.{reply_line, replies_printed, replies_and_final_line, run_printed}
+use Rattle.arraystring_run.specs.Effects.{Done, Char, NoChar, Text, NoText, Number, Refused}
 use Rattle.arraystring_run.specs.declared.commands.Command.TheVariants as command
 
 reply_line-done : reply_line Done ≡ codes "done"
@@ -45,12 +45,12 @@ replies_printed-none = refl
 replies_printed-in_order : replies_printed (Done ∷ NoChar ∷ []) ≡ codes "done" ++ 0x0A ∷ codes "no char" ++ 0x0A ∷ []
 replies_printed-in_order = refl
 
-all_printed-no_reply : all_printed [] (codes "aé") ≡ codes "final a" ++ 0xC3 ∷ 0xA9 ∷ 0x0A ∷ []
+replies_and_final_line-no_reply : replies_and_final_line [] (codes "aé") ≡ codes "final a" ++ 0xC3 ∷ 0xA9 ∷ 0x0A ∷ []
 unfolding utf8
-all_printed-no_reply = refl
+replies_and_final_line-no_reply = refl
 
-all_printed-replies_first : all_printed (Done ∷ []) [] ≡ codes "done" ++ 0x0A ∷ codes "final " ++ 0x0A ∷ []
-all_printed-replies_first = refl
+replies_and_final_line-replies_first : replies_and_final_line (Done ∷ []) [] ≡ codes "done" ++ 0x0A ∷ codes "final " ++ 0x0A ∷ []
+replies_and_final_line-replies_first = refl
 
 run_printed-no_command : run_printed [] 23 ≡ codes "final " ++ 0x0A ∷ []
 run_printed-no_command = refl

@@ -1,6 +1,6 @@
 -- Examples of what a write that failed has written. `codes "ab"` is the list of the bytes of `"ab"`.
 use Rattle.std.proofs.Common.{[], Some, None, refl, arith, codes}
-use Rattle.arraystring_run.specs.Writing.{AppendsPrefix, IsPassed}
+use Rattle.arraystring_run.specs.Writing.{AppendsPrefix, PassesThroughBuffer}
 
 AppendsPrefix-none_of_it : AppendsPrefix (Some (codes "x")) (Some (codes "x")) (codes "ab")
 AppendsPrefix-none_of_it = record { done = []; later = codes "ab"; whole = refl; appended = refl }
@@ -24,14 +24,14 @@ AppendsPrefix-more is = grind arith
 AppendsPrefix-what_was_there_is_lost : AppendsPrefix (Some (codes "x")) (Some []) (codes "ab") → ⊥
 AppendsPrefix-what_was_there_is_lost is = cc
 
-IsPassed-all_waits : IsPassed (Some (codes "x")) (Some (codes "x")) (codes "a") (codes "ab") (codes "b")
-IsPassed-all_waits = record { done = []; whole = refl; appended = refl }
+PassesThroughBuffer-all_waits : PassesThroughBuffer (Some (codes "x")) (Some (codes "x")) (codes "a") (codes "ab") (codes "b")
+PassesThroughBuffer-all_waits = record { done = []; whole = refl; appended = refl }
 
-IsPassed-the_front_was_appended : IsPassed (Some (codes "x")) (Some (codes "xab")) (codes "a") (codes "c") (codes "bc")
-IsPassed-the_front_was_appended = record { done = codes "ab"; whole = refl; appended = refl }
+PassesThroughBuffer-the_front_was_appended : PassesThroughBuffer (Some (codes "x")) (Some (codes "xab")) (codes "a") (codes "c") (codes "bc")
+PassesThroughBuffer-the_front_was_appended = record { done = codes "ab"; whole = refl; appended = refl }
 
-IsPassed-a_byte_is_lost : IsPassed (Some (codes "x")) (Some (codes "xa")) (codes "a") [] (codes "b") → ⊥
-IsPassed-a_byte_is_lost is = grind arith
+PassesThroughBuffer-a_byte_is_lost : PassesThroughBuffer (Some (codes "x")) (Some (codes "xa")) (codes "a") [] (codes "b") → ⊥
+PassesThroughBuffer-a_byte_is_lost is = grind arith
 
-IsPassed-a_byte_was_not_appended : IsPassed (Some (codes "x")) (Some (codes "x")) (codes "a") (codes "b") (codes "b") → ⊥
-IsPassed-a_byte_was_not_appended is = grind arith
+PassesThroughBuffer-a_byte_was_not_appended : PassesThroughBuffer (Some (codes "x")) (Some (codes "x")) (codes "a") (codes "b") (codes "b") → ⊥
+PassesThroughBuffer-a_byte_was_not_appended is = grind arith

@@ -103,17 +103,17 @@ fn check_trims(rt: &impl Abort, table: &str) {
     for row in rows(table) {
         let (first, last) = (character_of(rt, row, 0), character_of(rt, row, 1));
         let is_trimmed = !column(row, 2).is_empty();
-        let is_space = column(row, 2).ends_with("trim_spaces");
+        let equals_space = column(row, 2).ends_with("trim_spaces");
         for end in (first..=last).into_iter() {
             let mut text: MaxString = string("a");
             let _ = text.try_push(end);
-            trims(rt, text, is_trimmed, is_space);
+            trims(rt, text, is_trimmed, equals_space);
             text = MaxString::new();
             let _ = text.try_push(end);
             text.push_str("a");
-            trims(rt, text, is_trimmed, is_space);
+            trims(rt, text, is_trimmed, equals_space);
             let _ = text.try_push(end);
-            trims(rt, text, is_trimmed, is_space);
+            trims(rt, text, is_trimmed, equals_space);
         }
     }
 }

@@ -8,7 +8,7 @@ use arraystring::utils::{
     truncate_str_counted,
 };
 use arraystring::{ArrayString, MaxString};
-use arraystring_base::utils::{last_char, write_over};
+use arraystring_base::utils::{last_char_with_start, write_over};
 use std::process::Abort;
 use test_support::table::{column, rows};
 
@@ -122,7 +122,12 @@ fn the_last_character(rt: HostRuntime) {
     for row in rows(table) {
         let wanted = Some(number(&rt, row, 1) as usize).zip(column(row, 2).chars().next());
         let mut steps = Steps::new();
-        agree(&rt, row, last_char(column(row, 0), &mut steps), wanted);
+        agree(
+            &rt,
+            row,
+            last_char_with_start(column(row, 0), &mut steps),
+            wanted,
+        );
         agree(&rt, row, (steps.looked() <= 4, steps.moved()), (true, 0));
     }
 }

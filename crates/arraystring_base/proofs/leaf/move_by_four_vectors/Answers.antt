@@ -8,6 +8,6 @@ returns g c =
     let old = c.args.all.now in
     let from = c.args.from in
     moved-by-ends old old _ _ from c.args.to (k + k) c.args.len (omega arith) (omega arith) c.requires.least
-    (read-as-one old _ _ from k c.vector_at-front.ensures c.vector_at-after_front.ensures) c.put_two_vectors.ensures _ _ c.requires.most
+    (read-as-one old _ _ from k c.vector_at-front.ensures c.vector_at-after_front.ensures) c.put_adjacent_vectors.ensures _ _ c.requires.most
     (read-as-one old _ _ (from + (c.args.len - (k + k))) k c.vector_at-before_end.ensures c.vector_at-end.ensures)
-    c.put_two_vectors-2.ensures
+    c.put_adjacent_vectors-2.ensures

@@ -1,12 +1,12 @@
 use Rattle.std.proofs.Common.{◌≡◌, ◌≤◌, ℕ, List, [], ◌∷◌, ◌++◌, length, length-append, ap, subst, sym, ◌∙◌, arith}
 use Rattle.std.proofs.lemmas.List.{append-nil}
 use Rattle.arraystring_run.specs.declared.commands.Command.{Command}
-use Rattle.arraystring_run.specs.Line.{IsLineOf}
-use Rattle.arraystring_run.specs.ScriptLines.{AreLinesOf}
+use Rattle.arraystring_run.specs.CommandLines.{IsLineOf}
+use Rattle.arraystring_run.specs.LinesOfScripts.{AreLinesOfCommands}
 use Rattle.arraystring_run.proofs.laws.first_bad_line_is_unique.Goals as goal
 
 -- no lines of commands go past a bad line
-at-most : (f g : List (List ℕ)) (l : List ℕ) (r s : List (List ℕ)) (ds : List Command) → f ++ l ∷ r ≡ g ++ s → AreLinesOf g ds
+at-most : (f g : List (List ℕ)) (l : List ℕ) (r s : List (List ℕ)) (ds : List Command) → f ++ l ∷ r ≡ g ++ s → AreLinesOfCommands g ds
     → ((c : Command) → IsLineOf l c → ⊥) → length g ≤ length f
 at-most f [] l r s ds e are bad = omega arith
 at-most f (x ∷ g) l r s [] e are bad = absurd are

@@ -1,6 +1,6 @@
 use Rattle.std.proofs.Common.{◌≡◌, subst, rules, IsUtf8, IfNone}
 use Rattle.arraystring_run.specs.declared.commands.Command.{Command}
-use Rattle.arraystring_run.specs.Line.{IsLineOf}
+use Rattle.arraystring_run.specs.CommandLines.{IsLineOf}
 use Rattle.arraystring_run.proofs.LineLemmas.{line-utf8}
 use Rattle.arraystring_run.proofs.line.command.Goals as goal
 

@@ -6,24 +6,24 @@ use Rattle.arraystring.specs.Text.{IsWellFormed}
 use Rattle.arraystring.proofs.TextLaws.{well_formed-utf8, utf8-well_formed}
 use Rattle.arraystring_run.specs.declared.commands.Command.{Command}
 use Rattle.arraystring_run.specs.declared.commands.Command.TheVariants as command
-use Rattle.arraystring_run.specs.Line.{Argument, Number, Character, Text, AreSpelled, IsNumberBefore, arguments, word, space}
+use Rattle.arraystring_run.specs.CommandLines.{Argument, Number, Character, Text, SpellsArguments, IsNumberBeforeSpace, arguments, word, space}
 use Rattle.arraystring_run.proofs.CommandLemmas.{kind, numbers_first, kinds-numbers_first}
 use Rattle.arraystring_run.proofs.LineLemmas.{Reads, same-word, digits-one, if-none, unread, line-parts, no-character, no-number, line-given, spelled-one}
 use Rattle.arraystring_run.proofs.line.command_of_number_and_more.Goals as goal
 
 reads-before : (rest : List ℕ) (k : ℕ) (kinds : List ℕ) → Reads rest (0 ∷ k ∷ kinds)
-    → (n : ℕ) × (behind : List ℕ) × IsNumberBefore rest n behind × Reads behind (k ∷ kinds)
+    → (n : ℕ) × (behind : List ℕ) × IsNumberBeforeSpace rest n behind × Reads behind (k ∷ kinds)
 reads-before rest k kinds (Number n ∷ a ∷ given, e, (first, others, whole, number, (second, more, others_whole, spelled, next))) =
     (n, second ++ more, (first, number, cc), (a ∷ given, cc, (second, more, refl, spelled, next)))
 reads-before rest k kinds (other, e, spelled) = absurd (cc)
 
-no-before : (rest : List ℕ) {k : ℕ} {others : List ℕ} → ((n : ℕ) (behind : List ℕ) → IsNumberBefore rest n behind → ⊥)
+no-before : (rest : List ℕ) {k : ℕ} {others : List ℕ} → ((n : ℕ) (behind : List ℕ) → IsNumberBeforeSpace rest n behind → ⊥)
     → Reads rest (0 ∷ k ∷ others) → ⊥
 no-before rest {k} {others} bad read = let found = reads-before rest k others read in bad found.0 found.1 found.2
 
 -- of two arguments or more the first is a number
-no-start : (rest : List ℕ) → ((n : ℕ) (behind : List ℕ) → IsNumberBefore rest n behind → ⊥)
-    → (given : List Argument) → numbers_first (map kind given) ≡ true → 2 ≤ length given → AreSpelled (space ∷ rest) given → ⊥
+no-start : (rest : List ℕ) → ((n : ℕ) (behind : List ℕ) → IsNumberBeforeSpace rest n behind → ⊥)
+    → (given : List Argument) → numbers_first (map kind given) ≡ true → 2 ≤ length given → SpellsArguments (space ∷ rest) given → ⊥
 no-start rest bad [] first more spelled = omega arith
 no-start rest bad (a ∷ []) first more spelled = omega arith
 no-start rest bad (Number n ∷ b ∷ given) first more spelled = no-before rest bad (Number n ∷ b ∷ given, refl, spelled)
@@ -43,7 +43,7 @@ ranges (command.Get m n) more is a b d e = (m, n, refl)
 ranges other more is a b d e = absurd (omega arith)
 
 -- what is after a number that was read
-reads-behind : (rest : List ℕ) (n : ℕ) (behind : List ℕ) (k : ℕ) (kinds : List ℕ) → IsNumberBefore rest n behind
+reads-behind : (rest : List ℕ) (n : ℕ) (behind : List ℕ) (k : ℕ) (kinds : List ℕ) → IsNumberBeforeSpace rest n behind
     → Reads rest (0 ∷ k ∷ kinds) → Reads behind (k ∷ kinds)
 reads-behind rest n behind k kinds (digits, number, e) read =
     let (m, others, (also, is, f), found) = reads-before rest k kinds read in
@@ -51,12 +51,12 @@ reads-behind rest n behind k kinds (digits, number, e) read =
     (digits-one also is.digits) refl refl (sym e ∙ f) in
     let this : others ≡ behind = cc in subst (λ l. Reads l (k ∷ kinds)) this found
 
-spelled-before : (rest : List ℕ) (n : ℕ) (behind : List ℕ) (given : List Argument) → IsNumberBefore rest n behind
-    → AreSpelled (space ∷ behind) given → AreSpelled (space ∷ rest) (Number n ∷ given)
+spelled-before : (rest : List ℕ) (n : ℕ) (behind : List ℕ) (given : List Argument) → IsNumberBeforeSpace rest n behind
+    → SpellsArguments (space ∷ behind) given → SpellsArguments (space ∷ rest) (Number n ∷ given)
 spelled-before rest n behind given (digits, number, e) spelled = (digits, space ∷ behind, cc, number, spelled)
 
 -- what follows a space is well formed
-number-behind : (bs : List ℕ) (n : ℕ) (rest : List ℕ) → IsUtf8 bs → IsNumberBefore bs n rest → IsWellFormed rest
+number-behind : (bs : List ℕ) (n : ℕ) (rest : List ℕ) → IsUtf8 bs → IsNumberBeforeSpace bs n rest → IsWellFormed rest
 number-behind bs n rest utf8 (front, number, e) =
     let line = front ++ space ∷ rest in
     let u = subst IsUtf8 e utf8 in
@@ -107,22 +107,22 @@ returns-in_err-start-clause-none c =
     rw c.from_residual.ensures (λ d more line.
     no-start _ c.in_err-start.ensures.none (arguments d) (kinds-numbers_first d) more (line-parts _ _ d c.requires line).1)
 
-pub returns-in_err-number-in_default-clause-none : goal.returns-in_err-number-in_default-clause-none
-returns-in_err-number-in_default-clause-none c =
-    rw c.from_residual-in_err-number-in_default.ensures (λ d more line.
+pub returns-in_err-parse_number-in_default-clause-none : goal.returns-in_err-parse_number-in_default-clause-none
+returns-in_err-parse_number-in_default-clause-none c =
+    rw c.from_residual-in_err-parse_number-in_default.ensures (λ d more line.
     let (is, spelled) = line-parts _ _ d c.requires line in
     let arm = c.in_default in
     let (m, n, ends) = ranges d more is arm.not-try_insert arm.not-try_insert_str arm.not-insert_str arm.not-replace_range in
-    no-number _ c.in_err-number-in_default.ensures.none (reads-behind _ _ _ _ _ c.in_ok-start.ensures.some (arguments d, ap (map kind) ends, spelled)))
+    no-number _ c.in_err-parse_number-in_default.ensures.none (reads-behind _ _ _ _ _ c.in_ok-start.ensures.some (arguments d, ap (map kind) ends, spelled)))
 
-pub returns-in_ok-number-in_default-clause-some : goal.returns-in_ok-number-in_default-clause-some
-returns-in_ok-number-in_default-clause-some c =
+pub returns-in_ok-parse_number-in_default-clause-some : goal.returns-in_ok-parse_number-in_default-clause-some
+returns-in_ok-parse_number-in_default-clause-some c =
     IfSome_then c.command_of_range.result c.command_of_range.ensures.some (λ d found.
-    line-given d _ _ found.0 (subst (AreSpelled _) (sym found.1)
-    (spelled-before _ _ _ (Number _ ∷ []) c.in_ok-start.ensures.some (spelled-one (Number _) _ c.in_ok-number-in_default.ensures.some))))
+    line-given d _ _ found.0 (subst (SpellsArguments _) (sym found.1)
+    (spelled-before _ _ _ (Number _ ∷ []) c.in_ok-start.ensures.some (spelled-one (Number _) _ c.in_ok-parse_number-in_default.ensures.some))))
 
-pub returns-in_ok-number-in_default-clause-none : goal.returns-in_ok-number-in_default-clause-none
-returns-in_ok-number-in_default-clause-none c =
+pub returns-in_ok-parse_number-in_default-clause-none : goal.returns-in_ok-parse_number-in_default-clause-none
+returns-in_ok-parse_number-in_default-clause-none c =
     if-none c.command_of_range.result (λ none d more line.
     let (is, spelled) = line-parts _ _ d c.requires line in
     let arm = c.in_default in

@@ -1,6 +1,6 @@
 use Rattle.std.proofs.Common.{sym, subst, IfNone}
 use Rattle.arraystring_run.specs.declared.commands.Command.{Command}
-use Rattle.arraystring_run.specs.Line.{IsLineOf}
+use Rattle.arraystring_run.specs.CommandLines.{IsLineOf}
 use Rattle.arraystring_run.proofs.line.command_of_str.Goals as goal
 
 pub returns-in-Some-clause-none : goal.returns-in-Some-clause-none

@@ -2,8 +2,8 @@ use Rattle.std.proofs.Common.{◌≡◌, ℕ, suc, ◌+◌, ◌-◌, ◌≤◌, 
 use Rattle.std.proofs.lemmas.Bool.{le-ltb, ltb-false}
 use Rattle.arraystring.specs.Text.{cap, size, cut}
 use Rattle.arraystring.proofs.CutLaws.{cut-all}
-use Rattle.arraystring_run.specs.Runs.{Effect, view_of, effect, is_tight, adds_less, after, first_tight_from}
-use Rattle.arraystring_run.specs.Agreement.{commands_before, Agrees, AllAgree, IsNoSooner}
+use Rattle.arraystring_run.specs.Effects.{Effect, view_of_reply, effect, is_tight, adds_only_part, run_result, first_tight_from}
+use Rattle.arraystring_run.specs.ReplyAgreement.{commands_before, RepliesAgreeExceptCapacity, AllRepliesAgree, IsNoLater}
 use Rattle.arraystring_run.specs.declared.commands.Command.{Command}
 use Rattle.arraystring_run.specs.declared.commands.Command.TheVariants as command
 use Rattle.arraystring_run.proofs.RunLemmas.{is_cut-larger, is_empty-none, of-none}
@@ -15,19 +15,19 @@ use Rattle.arraystring_run.proofs.runs.run_both.Goals as goal
 record IsSameStep (c : Command) (t : List ℕ) (n m : ℕ) : Type 0 where
   untight : is_tight c t m ≡ false
   text : (effect c t n).text ≡ (effect c t m).text
-  agrees : Agrees c (effect c t n).reply (effect c t m).reply
+  agrees : RepliesAgreeExceptCapacity c (effect c t n).reply (effect c t m).reply
 
 -- a text that fits whole at n does so at m
 module _ (t : List ℕ) (n m : ℕ) (le : n ≤ m) where
-  fits : (given : List ℕ) → adds_less t given n ≡ false → size given ≤ n - size t
+  fits : (given : List ℕ) → adds_only_part t given n ≡ false → size given ≤ n - size t
   fits given whole = ltb-false (n - size t) (size given) (is_cut-larger given (n - size t) ∙ whole)
 
-  adds_all : (given : List ℕ) → adds_less t given n ≡ false → adds_less t given m ≡ false
+  adds_all : (given : List ℕ) → adds_only_part t given n ≡ false → adds_only_part t given m ≡ false
   adds_all given whole =
       let f = fits given whole in
       sym (is_cut-larger given (m - size t)) ∙ le-ltb (m - size t) (size given) (omega arith)
 
-  same_cut : (given : List ℕ) → adds_less t given n ≡ false → cut given (n - size t) ≡ cut given (m - size t)
+  same_cut : (given : List ℕ) → adds_only_part t given n ≡ false → cut given (n - size t) ≡ cut given (m - size t)
   same_cut given whole =
       let f = fits given whole in
       let more : size given ≤ m - size t = omega arith in cut-all f ∙ sym (cut-all more)
@@ -61,7 +61,7 @@ commands_before-next : (c : Command) (cs : List Command) (o : Option ℕ) → co
 commands_before-next c cs None = refl
 commands_before-next c cs (Some k) = let up : k + 1 ≡ suc k = omega arith in ap (λ j. take j (c ∷ cs)) up
 
-no_sooner-next : (a b : Option ℕ) → IsNoSooner a b → IsNoSooner (next a) (next b)
+no_sooner-next : (a b : Option ℕ) → IsNoLater a b → IsNoLater (next a) (next b)
 no_sooner-next None None is = tt
 no_sooner-next (Some k) None is = tt
 no_sooner-next None (Some j) is = is
@@ -73,15 +73,15 @@ none-next (Some k) e = absurd (cc)
 
 -- what runs from t at two capacities, n and m, have alike, if the first tight command at n is at `first`
 record AreAlike (cs : List Command) (t : List ℕ) (n m : ℕ) (first : Option ℕ) : Type 0 where
-  agree : AllAgree (commands_before cs first) (after cs t n).replies (after cs t m).replies
-  no_sooner : IsNoSooner first (first_tight_from 0 cs t m)
-  same_text : first ≡ None → (after cs t n).text ≡ (after cs t m).text
+  agree : AllRepliesAgree (commands_before cs first) (run_result cs t n).replies (run_result cs t m).replies
+  no_sooner : IsNoLater first (first_tight_from 0 cs t m)
+  same_text : first ≡ None → (run_result cs t n).text ≡ (run_result cs t m).text
 
 alike : (cs : List Command) (t : List ℕ) (n m : ℕ) → n ≤ m → AreAlike cs t n m (first_tight_from 0 cs t n)
 alike [] t n m le = record { agree = tt; no_sooner = tt; same_text = λ none. refl }
 alike (c ∷ cs) t n m le = go (is_tight c t n) refl (alike cs (effect c t n).text n m le)
   where
-    zero-first : (o : Option ℕ) → IsNoSooner (Some 0) o
+    zero-first : (o : Option ℕ) → IsNoLater (Some 0) o
     zero-first None = tt
     zero-first (Some j) = omega arith
 
@@ -102,28 +102,28 @@ alike (c ∷ cs) t n m le = go (is_tight c t n) refl (alike cs (effect c t n).te
 
 pub returns-clause-second_replies : goal.returns-clause-second_replies
 returns-clause-second_replies g c = elim c.if-not-is_empty.branch [
-  | then-not-is_empty w ↦ ap (λ v. map view_of v.items) w.second_replies-is ∙ w.execute_all-first_tight.ensures.replies
+  | then-not-is_empty w ↦ ap (λ v. map view_of_reply v.items) w.second_replies-is ∙ w.execute_all_and_find_tight-first_tight.ensures.replies
   | else-not-is_empty w ↦
-      ap (λ v. map view_of v.items) w.second_replies-is ∙ ap (map view_of) c.in_ok-second_replies.ensures.items
+      ap (λ v. map view_of_reply v.items) w.second_replies-is ∙ ap (map view_of_reply) c.in_ok-second_replies.ensures.items
       ∙ sym (of-none _ c.args.second.now.text (cap g.row.M) w.if-not-is_empty.ensures).0
 ]
 
 pub returns-clause-second_text : goal.returns-clause-second_text
 returns-clause-second_text g c = elim c.if-not-is_empty.branch [
-  | then-not-is_empty w ↦ ap (λ t. t.text) w.second-is ∙ w.execute_all-first_tight.ensures.text
+  | then-not-is_empty w ↦ ap (λ t. t.text) w.second-is ∙ w.execute_all_and_find_tight-first_tight.ensures.text
   | else-not-is_empty w ↦ ap (λ t. t.text) w.second-is ∙ sym (of-none _ c.args.second.now.text (cap g.row.M) w.if-not-is_empty.ensures).1
 ]
 
 pub returns-clause-second_tight : goal.returns-clause-second_tight
 returns-clause-second_tight g c = elim c.if-not-is_empty.branch [
-  | then-not-is_empty w ↦ first_tight-at _ _ _ _ (w.first_tight-is ∙ w.execute_all-first_tight.ensures.first_tight)
+  | then-not-is_empty w ↦ first_tight-at _ _ _ _ (w.first_tight-is ∙ w.execute_all_and_find_tight-first_tight.ensures.first_tight)
   | else-not-is_empty w ↦
       first_tight-at _ _ _ _ (w.first_tight-is ∙ sym (of-none _ c.args.second.now.text (cap g.row.M) w.if-not-is_empty.ensures).2)
 ]
 
 pub returns-clause-one_each : goal.returns-clause-one_each
 returns-clause-one_each g c = elim c.if-not-is_empty.branch [
-  | then-not-is_empty w ↦ (c.in_ok-first_outcome.ensures.one_each, ap (λ v. v.len) w.second_replies-is ∙ w.execute_all-first_tight.ensures.one_each)
+  | then-not-is_empty w ↦ (c.in_ok-first_outcome.ensures.one_each, ap (λ v. v.len) w.second_replies-is ∙ w.execute_all_and_find_tight-first_tight.ensures.one_each)
   | else-not-is_empty w ↦ (
     c.in_ok-first_outcome.ensures.one_each,
     ap (λ v. v.len) w.second_replies-is ∙ c.in_ok-second_replies.ensures.len ∙ sym (ap length (is_empty-none c.args.commands.now w.if-not-is_empty.ensures)),
@@ -149,4 +149,4 @@ returns-clause-same_text g c = λ same le none.
     let cs = c.args.commands.now in let first = c.in_ok-first_outcome.ensures in
     let at = first_tight-only _ _ _ _ first.first_tight in
     first.text ∙ (alike cs c.args.first.now.text (cap g.row.N) (cap g.row.M) le).same_text (sym at ∙ none)
-    ∙ ap (λ t. (after cs t (cap g.row.M)).text) same ∙ sym (returns-clause-second_text g c)
+    ∙ ap (λ t. (run_result cs t (cap g.row.M)).text) same ∙ sym (returns-clause-second_text g c)

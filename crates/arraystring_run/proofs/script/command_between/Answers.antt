@@ -1,6 +1,6 @@
 use Rattle.std.proofs.Common.{◌≡◌, refl, subst, rules, slice_range, IsUtf8, IfNone}
 use Rattle.arraystring_run.specs.declared.commands.Command.{Command}
-use Rattle.arraystring_run.specs.Line.{IsLineOf}
+use Rattle.arraystring_run.specs.CommandLines.{IsLineOf}
 use Rattle.arraystring_run.proofs.LineLemmas.{line-utf8}
 use Rattle.arraystring_run.proofs.script.command_between.Goals.{in-Some, in-None+in_ok-line-in-None}
 use Rattle.arraystring_run.proofs.script.command_between.Goals as goal

@@ -2,8 +2,8 @@ use Rattle.std.proofs.Common.{◌≡◌, ◌≢◌, ℕ, suc, zero, ◌+◌, ◌
 use Rattle.std.proofs.lemmas.Bool.{ne_eqb}
 use Rattle.std.proofs.lemmas.List.{append-nil, drop_all, drop-drop, get_or-drop}
 use Rattle.std.proofs.lemmas.Str.{IsCharBoundary-start, lead_after_ascii}
-use Rattle.arraystring_run.specs.Line.{IsLineOf}
-use Rattle.arraystring_run.specs.ScriptLines.{lines, line_feed, first_byte, AreLinesOf, IsBadAt}
+use Rattle.arraystring_run.specs.CommandLines.{IsLineOf}
+use Rattle.arraystring_run.specs.LinesOfScripts.{lines, line_feed, prepend_to_first_line, AreLinesOfCommands, IsBadAt}
 use Rattle.arraystring_run.specs.declared.commands.Command.{Command}
 use Rattle.arraystring_run.proofs.script.parse_script.Invariants.{IsPartRead}
 use Rattle.arraystring_run.proofs.script.parse_script.Goals as goal
@@ -20,7 +20,7 @@ first-line (b ∷ []) (suc end) some le ends one =
 first-line (b ∷ d ∷ bs) (suc end) some le ends one =
     let rest = first-line (d ∷ bs) end (omega arith) (omega arith) (λ lt. ends (omega arith)) (λ i lt. one (suc i) (omega arith)) in
     let up : suc end + 1 ≡ suc (end + 1) = omega arith in
-    rw (ne_eqb b line_feed (one 0 (omega arith)), up) (ap (first_byte b) rest)
+    rw (ne_eqb b line_feed (one 0 (omega arith)), up) (ap (prepend_to_first_line b) rest)
 
 -- A line of a script, if a search in what is left from `start` on found its end.
 module _ (bs : List ℕ) (start len : ℕ) where
@@ -49,8 +49,8 @@ module _ (bs : List ℕ) (start len : ℕ) where
       let at = subst (λ l. len < length l → slice_index l len ≡ line_feed) rest-is ends (omega (arith, length-drop start bs)) in
       lead_after_ascii bs (start + len) u (omega (arith, get_or-drop start bs len 0)) lt
 
-more-lines : (front : List (List ℕ)) (done : List Command) (line : List ℕ) (c : Command) → AreLinesOf front done → IsLineOf line c
-    → AreLinesOf (front ++ line ∷ []) (done ++ c ∷ [])
+more-lines : (front : List (List ℕ)) (done : List Command) (line : List ℕ) (c : Command) → AreLinesOfCommands front done → IsLineOf line c
+    → AreLinesOfCommands (front ++ line ∷ []) (done ++ c ∷ [])
 more-lines [] [] line c are is = (is, tt)
 more-lines [] (d ∷ done) line c are is = absurd are
 more-lines (l ∷ front) [] line c are is = absurd are
@@ -91,7 +91,7 @@ loop-start-init c =
 
 pub returns-in_default-clause-bad_line : goal.returns-in_default-clause-bad_line
 returns-in_default-clause-bad_line c =
-    let found = c.find_byte.ensures in
+    let found = c.byte_position_or_len.ensures in
     read-bad (next-line _ _ _ c.loop-start.invariant.read c.loop-start-test.true found.at_most found.found found.before) c.in_default.ensures.none
 
 pub loop-start-preserved : goal.loop-start-preserved
@@ -99,7 +99,7 @@ loop-start-preserved c =
     let bs = c.args.script.now in
     let start = c.loop-start.start in
     let way = c.loop-start.invariant in
-    let found = c.find_byte.ensures in
+    let found = c.byte_position_or_len.ensures in
     let here = next-line _ _ _ way.read c.loop-start-test.true found.at_most found.found found.before in
     let pushed : c.push.new.self.items ≡ c.loop-start.commands.items ++ c.in-Some.command ∷ [] = search rules in
     record {
@@ -107,14 +107,14 @@ loop-start-preserved c =
       within = omega (arith, length-take (length bs - start) (drop start bs), length-drop start bs);
       read = rw pushed (read-more here c.in-Some.command c.in-Some.ensures.some);
       text = way.text;
-      boundary = after-line_feed bs start c.find_byte.result found.found;
+      boundary = after-line_feed bs start c.byte_position_or_len.result found.found;
     }
 
 pub returns-clause-accepted : goal.returns-clause-accepted
 returns-clause-accepted c =
     let way = c.loop-start.invariant.read in
     let none = ap (λ l. way.front ++ lines l) (drop_all c.loop-start.start c.args.script.now c.loop-start-test.false) in
-    subst (λ l. AreLinesOf l c.loop-start.commands.items) (sym (way.whole ∙ none ∙ append-nil way.front)) way.read
+    subst (λ l. AreLinesOfCommands l c.loop-start.commands.items) (sym (way.whole ∙ none ∙ append-nil way.front)) way.read
 
 pub returns-in_default-clause-faults : goal.returns-in_default-clause-faults
 returns-in_default-clause-faults c = search rules

@@ -1,5 +1,5 @@
 use Rattle.std.proofs.Common.{◌≡◌, ℕ, ◌+◌, ◌-◌, ◌<◌, ◌≤◌, List, ◌++◌, drop, length, slice_index, IfSome, IsUtf8}
-use Rattle.arraystring_run.specs.ScriptLines.{lines, AreLinesOf}
+use Rattle.arraystring_run.specs.LinesOfScripts.{lines, AreLinesOfCommands}
 use Rattle.arraystring_run.specs.declared.commands.Command.{Command}
 use Rattle.arraystring_run.proofs.script.parse_script.Given as goal
 
@@ -8,7 +8,7 @@ pub record IsPartRead (all : List (List ℕ)) (done : List Command) (left : List
   pub front : List (List ℕ)
   pub whole : all ≡ front ++ left
   pub count : number ≡ length front
-  pub read : AreLinesOf front done
+  pub read : AreLinesOfCommands front done
 
 abbrev pub invariant-loop-start : goal.invariant-loop-start
 invariant-loop-start l = record {

@@ -5,7 +5,7 @@ use Rattle.arraystring.specs.Text.{cut, size, boundary, cap}
 use Rattle.arraystring.specs.Edits.{insertion_of_cut}
 use Rattle.arraystring.proofs.TextLaws.{width-is}
 use Rattle.arraystring.proofs.BoundaryLaws.{boundary-within, boundary-at_end}
-use Rattle.arraystring_run.specs.Runs.{is_made}
+use Rattle.arraystring_run.specs.Effects.{is_accepted}
 use Rattle.arraystring_run.proofs.RunLemmas.{is_cut-larger}
 use Rattle.arraystring_run.proofs.tight.is_tight.Goals as goal
 
@@ -20,11 +20,11 @@ cut-over given s n le =
     same ∙ is_cut-larger given (n - s)
 
 -- the cut of a text is inserted exactly at a boundary
-made : (t : List ℕ) (i : ℕ) (given : List ℕ) (n : ℕ) → boundary t i ≡ true → is_made (insertion_of_cut t i given n) ≡ true
+made : (t : List ℕ) (i : ℕ) (given : List ℕ) (n : ℕ) → boundary t i ≡ true → is_accepted (insertion_of_cut t i given n) ≡ true
 made t i given n b =
     let within : i ≤ size t = boundary-within t i b in grind (arith, nat_tests)
 
-unmade : (t : List ℕ) (i : ℕ) (given : List ℕ) (n : ℕ) → boundary t i ≡ false → is_made (insertion_of_cut t i given n) ≡ false
+unmade : (t : List ℕ) (i : ℕ) (given : List ℕ) (n : ℕ) → boundary t i ≡ false → is_accepted (insertion_of_cut t i given n) ≡ false
 unmade t i given n b = grind (arith, nat_tests, boundary-at_end t i)
 
 pub returns-in-TryPush : goal.returns-in-TryPush
@@ -34,7 +34,7 @@ returns-in-TryPush g c =
 pub returns-in-PushStr : goal.returns-in-PushStr
 returns-in-PushStr g c =
     let given = chars c.in-PushStr.given.now in
-    rw (c.in-PushStr.is, c.lacks_room-in-PushStr.ensures, c.size_of_text-in-PushStr.ensures)
+    rw (c.in-PushStr.is, c.lacks_room_for_bytes-in-PushStr.ensures, c.size_of_text-in-PushStr.ensures)
     (cut-over given (size c.args.text.now.text) (cap g.row.N) c.text_fits.ensures)
 
 pub returns-then-index-len : goal.returns-then-index-len
@@ -50,7 +50,7 @@ returns-then-is_ok g c =
     let b : boundary t c.in-InsertStr.index ≡ true = search rules in
     rw (
       c.in-InsertStr.is,
-      c.lacks_room-then-is_ok.ensures,
+      c.lacks_room_for_bytes-then-is_ok.ensures,
       c.size_of_text-then-is_ok.ensures,
       made t c.in-InsertStr.index given (cap g.row.N) b,
     ) (cut-over given (size t) (cap g.row.N) c.text_fits.ensures)

@@ -1,16 +1,16 @@
 // Made from crates/arraystring_base/src/moves.rt by rust/generate.py: change that, and run this.
-//! The two moves of bytes: `shift` moves bytes inside an array, and `write_over` writes given bytes into one. Each has a
-//! second form, `shift_by_call` and `write_by_call`, for code that seldom runs. What makes them fast is in this file and
-//! in `leaf`.
+//! The two moves of bytes: `shift` moves bytes inside an array, and `write_over` writes given bytes into one.
+//! Each has a second form, `shift_on_cold_path` and `write_by_call`, for code that seldom runs. What makes them
+//! fast is in this file and in `leaf`.
 //!
-//! A run, which is so many bytes side by side, moves as its first `K` bytes and its last `K`. The two may overlap, so
-//! both are read before the first is written. `memmove` moves short runs in this way too. A byte that both have is
-//! written twice, to one offset, and counts as one move. They are read as vectors, since those stay in registers; arrays
-//! of bytes would be put on the stack. `N` is a constant, so the compiler leaves out the sizes that an array of `N` bytes
-//! can't have. `write_over` writes 16 bytes or more by a call, of `write_bytes`, which takes a slice and so stands once in
-//! a program.
+//! A run, which is so many bytes side by side, moves as its first `K` bytes and its last `K`. The two may
+//! overlap, so both are read before the first is written. `memmove` moves short runs in this way too. A byte
+//! that both have is written twice, to one offset, and counts as one move. They are read as vectors, since
+//! those stay in registers; arrays of bytes would be put on the stack. `N` is a constant, so the compiler
+//! leaves out the sizes that an array of `N` bytes can't have. `write_over` writes 16 bytes or more by a call,
+//! of `write_bytes`, which takes a slice and so stands once in a program.
 
-use crate::leaf::{move_bytes, move_long_run, put_vector, vector_at, write_bytes};
+use crate::leaf::{move_16_or_more, move_on_cold_path, put_vector, vector_at, write_bytes};
 
 /// Moves `len` bytes of the array from the offset `from` to the offset `to`; the two runs may
 /// overlap. Each byte counts as one move, also if it is written twice on the way. If `from` is `to`,
@@ -31,28 +31,29 @@ pub fn shift<const N: usize>(
         if N < 16 || len < 16 {
             move_short_run::<N>(all, from, to, len);
         } else {
-            move_long_run::<N>(all, from, to, len);
+            move_16_or_more::<N>(all, from, to, len);
         }
     }
 }
 
-/// Moves and counts as `shift` does. It is for what runs seldom, where in Rust the tests of the length would only be more
-/// code.
+/// Moves and counts as `shift` does. It is for code that seldom runs. (In the Cargo crate it is one `memmove`,
+/// which is less code than the tests of the length in `shift`.)
 ///
 /// # Precondition
 ///
 /// Both runs must lie in the array, and the count of moves plus `len` must be below 2^64.
 #[inline(always)]
-pub fn shift_by_call<const N: usize>(
+pub fn shift_on_cold_path<const N: usize>(
     array: &mut [crate::leaf::MaybeByte; N],
     from: usize,
     to: usize,
     len: usize,
 ) {
-    move_bytes(array, from, to, len);
+    move_on_cold_path(array, from, to, len);
 }
 
-/// Moves `len` bytes: fewer than 16, and at most `N`. `N` is a constant, so the compiler leaves out the branches for more bytes.
+/// Moves `len` bytes: fewer than 16, and at most `N`. `N` is a constant, so the compiler leaves out the
+/// branches for more bytes.
 #[inline(always)]
 fn move_short_run<const N: usize>(all: &mut [crate::leaf::MaybeByte], from: usize, to: usize, len: usize) {
     if N >= 4 && len >= 4 {
@@ -68,7 +69,7 @@ fn move_short_run<const N: usize>(all: &mut [crate::leaf::MaybeByte], from: usiz
     }
 }
 
-/// Moves `len` bytes, from `K` to `2 * K` of them: the first `K` and the last `K`, which may overlap.
+/// Moves `len` bytes, at least `K` and at most `2 * K`: the first `K` and the last `K`, which may overlap.
 #[inline(always)]
 pub(crate) fn move_by_two_vectors<const K: usize>(
     all: &mut [crate::leaf::MaybeByte],
@@ -98,8 +99,8 @@ pub fn write_over<const N: usize>(array: &mut [crate::leaf::MaybeByte; N], at: u
     }
 }
 
-/// Writes as `write_over` does, by one call at any length. It is for new strings and for what runs seldom, where the
-/// tests of the length would only be more code.
+/// Writes as `write_over` does, by one call at any length. It is for new strings and for code that seldom runs,
+/// where the tests of the length in `write_over` would only be more code.
 ///
 /// # Precondition
 ///
@@ -126,7 +127,7 @@ fn write_short_run<const N: usize>(all: &mut [crate::leaf::MaybeByte], at: usize
     }
 }
 
-/// Writes `given`, from `K` to `2 * K` bytes: the first `K` and the last `K`, which may overlap.
+/// Writes `given`, at least `K` and at most `2 * K` bytes: the first `K` and the last `K`, which may overlap.
 #[inline(always)]
 fn write_by_two_vectors<const K: usize>(all: &mut [crate::leaf::MaybeByte], at: usize, given: &[u8]) {
     let rest = given.len() - K;

@@ -42,7 +42,7 @@ impl<'a> Iterator for Units<'a> {
             self.rest = rest;
             return Some(Unit16::Char(ch));
         }
-        if let Some((ch, rest)) = pair(unit, rest) {
+        if let Some((ch, rest)) = pair_char_and_rest(unit, rest) {
             self.rest = rest;
             return Some(Unit16::Char(ch));
         }
@@ -54,9 +54,9 @@ impl<'a> Iterator for Units<'a> {
 /// Once no item is left, `next` always returns `None`.
 impl<'a> FusedIterator for Units<'a> {}
 
-/// The character of the pair that `high` begins, and the units after the pair.
+/// The character of the pair that `high` begins, and the units after the pair, or `None` if there is no pair.
 #[inline]
-fn pair(high: u16, rest: &[u16]) -> Option<(char, &[u16])> {
+fn pair_char_and_rest(high: u16, rest: &[u16]) -> Option<(char, &[u16])> {
     if !is_high_surrogate(high) {
         return None;
     }

@@ -24,13 +24,13 @@ pub fn truncate_str(text: &str, size: u8) -> &str {
     text_before_boundary(text, end)
 }
 
-/// The last boundary that is not past `limit`. It looks once at each byte from `limit` back to it.
+/// The last boundary that is not past `limit`. Looks once at each byte from `limit` back to that boundary.
 #[inline]
 fn last_boundary(text: &str, limit: usize) -> usize {
     let all = text.as_bytes();
     let mut end = limit;
-    // The first byte of a text continues no character, and at most three bytes in a row do. The bound is for
-    // the compiler, which unrolls the loop.
+    // The first byte of a text continues no character, and at most three bytes in a row do. So `limit - end < 3`
+    // changes no result. It is for the compiler, which unrolls the loop.
     while is_continuation(look(all, end)) && limit - end < 3 {
         end -= 1;
     }
@@ -60,7 +60,7 @@ fn is_continuation(byte: u8) -> bool {
 ///
 /// The text must not be empty.
 #[inline]
-pub fn first_char(text: &str) -> (char, usize) {
+pub fn first_char_and_width(text: &str) -> (char, usize) {
     let all = text.as_bytes();
     let first = byte(all, 0) as u32;
     if first < 0x80 {
@@ -96,18 +96,18 @@ pub fn first_char(text: &str) -> (char, usize) {
 ///
 /// The count of looks plus four must be below 2^64.
 #[inline]
-pub fn last_char(text: &str) -> Option<(usize, char)> {
+pub fn last_char_with_start(text: &str) -> Option<(usize, char)> {
     if text.is_empty() {
         return None;
     }
-    let (start, ch) = char_before_end(text);
+    let (start, ch) = last_char_of_nonempty(text);
     Some((start, ch))
 }
 
 /// The last character of a text that has one, and where it begins. The bytes are read from the end
 /// back to the one that does not continue a character.
 #[inline]
-fn char_before_end(text: &str) -> (usize, char) {
+fn last_char_of_nonempty(text: &str) -> (usize, char) {
     let all = text.as_bytes();
     let end = all.len();
     let last = look(all, end - 1) as u32;
@@ -151,12 +151,12 @@ pub fn encode<const N: usize>(ch: char, array: &mut [crate::leaf::MaybeByte; N],
         put_array(all, at, [code as u8]);
         return 1;
     }
-    encode_non_ascii(ch, all, at)
+    write_non_ascii_at(ch, all, at)
 }
 
-/// Writes the UTF-8 of a character that is not ASCII. The compiler inlines it where that pays, and a cold function only
-/// calls it.
-fn encode_non_ascii(ch: char, all: &mut [crate::leaf::MaybeByte], at: usize) -> usize {
+/// Writes the UTF-8 of a character that is not ASCII into `all` from index `at` on, and returns its width. The
+/// compiler may inline it, and does where that pays. In a function that is marked `cold` it stays a call.
+fn write_non_ascii_at(ch: char, all: &mut [crate::leaf::MaybeByte], at: usize) -> usize {
     let code = ch as u32;
     let last = (0x80 + code % 64) as u8;
     if code < 0x800 {

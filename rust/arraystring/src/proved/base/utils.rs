@@ -3,12 +3,12 @@
 //! bytes of UTF-8.
 
 use crate::proved::base::error::OutOfBounds;
-pub use crate::proved::base::moves::{shift, shift_by_call, write_by_call, write_over};
+pub use crate::proved::base::moves::{shift, shift_on_cold_path, write_by_call, write_over};
 pub use crate::proved::base::utf8::{
-    encode, first_char, is_boundary, last_char, look, truncate_str,
+    encode, first_char_and_width, is_boundary, last_char_with_start, look, truncate_str,
 };
 
-/// Tests that `size` is at most `limit`.
+/// Tests that `size` is at most `limit`. The name is that of 0.3.0, and no boundary of characters is meant.
 ///
 /// # Errors
 ///

@@ -41,7 +41,7 @@
 //! A `Drain<N>` borrows nothing. It has a copy of the array from before the removal, the offset and the size of
 //! the removed text, and an index into it. `next` raises the index, and `next_back` lowers the size.
 
-use crate::leaf::part;
+use crate::leaf::part_of_length;
 use core::str;
 
 mod append_at_array_end;
@@ -135,14 +135,14 @@ impl<const N: usize> ArrayString<N> {
     pub const fn as_str(&self) -> &str {
         let (size, start) = (self.size as usize, self.start as usize);
         // SAFETY: the `size` bytes from `start` on are UTF-8, as the fields of the type say.
-        unsafe { str::from_utf8_unchecked(part(&self.array, start, size)) }
+        unsafe { str::from_utf8_unchecked(part_of_length(&self.array, start, size)) }
     }
 
     /// Returns the bytes of the text, borrowed without a copy. There are as many as `len` returns.
     /// The contract also promises what the contract of `as_str` promises of the text.
     #[inline]
     pub const fn as_bytes(&self) -> &[u8] {
-        part(&self.array, self.start as usize, self.size as usize)
+        part_of_length(&self.array, self.start as usize, self.size as usize)
     }
 
     /// The offset at which the text ends.

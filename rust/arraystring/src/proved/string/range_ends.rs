@@ -24,7 +24,7 @@ pub(crate) fn saturating_ends<R: RangeBounds<u8>>(range: R, len: u8) -> (u8, u8)
 /// The ends of a range in a text of `len` bytes. An excluded start and an included end count as the next index,
 /// which may be 256, and is then past every text.
 #[inline]
-pub(crate) fn plain_ends<R: RangeBounds<u8>>(range: R, len: u8) -> (usize, usize) {
+pub(crate) fn unsaturated_ends<R: RangeBounds<u8>>(range: R, len: u8) -> (usize, usize) {
     let start = match range.start_bound() {
         Bound::Included(a) => *a as usize,
         Bound::Excluded(a) => *a as usize + 1,

@@ -5,7 +5,7 @@ use Rattle.arraystring_core.proofs.array_string.ArrayString.as_bytes.Goals as go
 
 pub returns-clause-bytes : goal.returns-clause-bytes
 returns-clause-bytes g c =
-    c.part.ensures ∙ sym (opened-bytes c.self.invariant c.self.view_is)
+    c.part_of_length.ensures ∙ sym (opened-bytes c.self.invariant c.self.view_is)
 
 pub returns-clause-len : goal.returns-clause-len
 returns-clause-len g c = ap length (returns-clause-bytes g c) ∙ sym (size-is c.args.self.now.text)

@@ -23,7 +23,7 @@ written : (g : given.Over) (c : goal.After-write_by_call g)
 written g c =
     let room : c.self.inside.size + length c.args.string.now ≤ cap g.row.N =
     omega (arith, c.requires, opened-size c.self.invariant c.self.view_is, size-borrowed c.utf8.string) in
-    appended_at_front c.self.invariant c.self.view_is c.utf8.string room c.shift_by_call.ensures.bytes
+    appended_at_front c.self.invariant c.self.view_is c.utf8.string room c.shift_on_cold_path.ensures.bytes
     (rw c.as_bytes.ensures.value at c.write_by_call.ensures)
 
 pub invariant_of-self : goal.invariant_of-self

@@ -6,7 +6,7 @@ use Rattle.arraystring_core.proofs.array_string.ArrayString.from_chars.Goals as 
 
 pub returns-clause-taken : goal.returns-clause-taken
 returns-clause-taken g c =
-    let ensured = c.add_chars.ensures in
+    let ensured = c.push_chars_until_full.ensures in
     (ensured.0, rw (fresh-room _ (cap g.row.N) c.new-made.ensures) at ensured.1, fresh-cut _ ensured.0 (cap g.row.N) c.new-made.ensures _ ensured.3)
 
 pub returns-clause-whole : goal.returns-clause-whole

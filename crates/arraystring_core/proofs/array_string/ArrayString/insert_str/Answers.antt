@@ -11,7 +11,7 @@ pub splice-requires : goal.splice-requires
 splice-requires g c =
     let t = c.args.self.now.text in
     let i = c.args.index in
-    let at : boundary t i ≡ true = (divides _ _ c.in_ok-check_index.ensures).1 in
+    let at : boundary t i ≡ true = (divides _ _ c.in_ok-check_bounds_and_boundary.ensures).1 in
     let added = chars-bytes c.truncate_str.utf8 c.truncate_str.ensures in
     let within = cut-fits (chars c.args.string.now) (c.capacity.result - c.len.result) in
     let fits : size t - (i - i) + size (chars c.truncate_str.result.now) ≤ cap g.row.N = omega (arith, ap size added) in
@@ -24,5 +24,5 @@ returns g c =
     let added = chars-bytes c.truncate_str.utf8 c.truncate_str.ensures in
     let left : c.capacity.result - c.len.result ≡ cap g.row.N - size t = omega arith in
     let row = insertion_of_cut t i (chars c.args.string.now) (cap g.row.N) in
-    makes row _ _ _ (no_cause row.tests c.in_ok-check_index.ensures) refl
+    makes row _ _ _ (no_cause row.tests c.in_ok-check_bounds_and_boundary.ensures) refl
     (c.splice.ensures.replaced.text ∙ ap (λ l. front t i ++ (l ++ back t i)) (rw left at added))

@@ -1,13 +1,13 @@
 use Rattle.std.proofs.Common.{arith, Ok}
 use Rattle.arraystring_base.specs.Text.{cap}
-use Rattle.arraystring_core.specs.Edits.{from_out_of_bounds}
+use Rattle.arraystring_core.specs.Edits.{map_err_from_out_of_bounds}
 use Rattle.arraystring_core.proofs.TakenLaws.{chars-made}
 use Rattle.arraystring_core.proofs.ConstructLaws.{refused-made, fresh-room, fresh-whole}
 use Rattle.arraystring_core.proofs.array_string.ArrayString.try_from_chars.Goals as goal
 
-pub returns-in_err-add_chars : goal.returns-in_err-add_chars
-returns-in_err-add_chars g c =
-    let ensured = c.in_err-add_chars.ensures in
+pub returns-in_err-push_chars_until_full : goal.returns-in_err-push_chars_until_full
+returns-in_err-push_chars_until_full g c =
+    let ensured = c.in_err-push_chars_until_full.ensures in
     let n = cap g.row.N in
     let room = fresh-room _ n c.new-made.ensures in
     let takes = rw room at ensured.1 in
@@ -15,17 +15,17 @@ returns-in_err-add_chars g c =
     record {
       taken = (ensured.0, takes, made);
       whole = λ all gives.
-          chars-made g.I.IntoIterator.into_iter_gives g.I.IntoIter.Iterator.next_gives c.args.characters all gives ensured.0 n takes (from_out_of_bounds c.from_residual.result) made;
+          chars-made g.I.IntoIterator.into_iter_gives g.I.IntoIter.Iterator.next_gives c.args.characters all gives ensured.0 n takes (map_err_from_out_of_bounds c.from_residual.result) made;
     }
 
 pub returns : goal.returns
 returns g c =
-    let ensured = c.in_ok-add_chars.ensures in
+    let ensured = c.in_ok-push_chars_until_full.ensures in
     let n = cap g.row.N in
     let takes = rw (fresh-room _ n c.new-made.ensures) at ensured.1 in
     let made = fresh-whole _ ensured.0 n c.new-made.ensures _ ensured.2 ensured.3 in
     record {
       taken = (ensured.0, takes, made);
       whole = λ all gives.
-          chars-made g.I.IntoIterator.into_iter_gives g.I.IntoIter.Iterator.next_gives c.args.characters all gives ensured.0 n takes (Ok c.add_chars.new.self) made;
+          chars-made g.I.IntoIterator.into_iter_gives g.I.IntoIter.Iterator.next_gives c.args.characters all gives ensured.0 n takes (Ok c.push_chars_until_full.new.self) made;
     }

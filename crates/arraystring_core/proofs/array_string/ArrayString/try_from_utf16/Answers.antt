@@ -7,7 +7,7 @@ use Rattle.arraystring_base.specs.Utf16.{IsReading, End, first_stop, joined_unit
 use Rattle.arraystring_base.specs.Reading.{reading}
 use Rattle.arraystring_base.proofs.ReadingLaws.{reading-reads}
 use Rattle.arraystring_base.proofs.Utf16Laws.{first_stop-is}
-use Rattle.arraystring_core.specs.FromUtf16.{stop_by_next}
+use Rattle.arraystring_core.specs.FromUtf16.{stop_before_item}
 use Rattle.arraystring_core.proofs.array_string.ArrayString.try_from_utf16.Goals as goal
 
 joined-characters : (t : List ℕ) → joined_units (map Char t) ≡ text_units t
@@ -24,5 +24,5 @@ pub returns-in-None-clause-units : goal.returns-in-None-clause-units
 returns-in-None-clause-units g c =
     let units = c.args.units.now in
     let is = reading-reads units (All-from_get_or (λ u. u < 0x1_0000) units 0 (λ i lt. omega (arith, c.type_inv.units i))) in
-    let text = c.add_units.new.self.text in
-    units-read units (reading units) (cap g.row.N) text is (c.add_units.ensures (reading units) is ∙ ap (λ item. stop_by_next item text) c.in-None.is)
+    let text = c.fill_from_units.new.self.text in
+    units-read units (reading units) (cap g.row.N) text is (c.fill_from_units.ensures (reading units) is ∙ ap (λ item. stop_before_item item text) c.in-None.is)

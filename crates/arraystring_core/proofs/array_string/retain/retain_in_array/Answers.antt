@@ -43,14 +43,14 @@ loop-read-preserved-then-first-lt128 g c =
 pub f-requires-else-first-lt128 : goal.f-requires-else-first-lt128
 f-requires-else-first-lt128 g c =
     let l = c.loop-read in
-    let begins = char-begins l.array c.args.offset l.read c.args.size c.first_char-ch.result.0 c.first_char-ch.ensures.first.0 (c.from_utf8_unchecked-text.ensures ∙ c.part.ensures) (search rules) c.first_char-ch.ensures.first.1 in
+    let begins = char-begins l.array c.args.offset l.read c.args.size c.first_char_and_width-ch.result.0 c.first_char_and_width-ch.ensures.first.0 (c.from_utf8_unchecked-text.ensures ∙ c.part_of_length.ensures) (search rules) c.first_char_and_width-ch.ensures.first.1 in
     callable-next l.invariant (omega arith) begins
 
 pub loop-read-preserved : goal.loop-read-preserved
 loop-read-preserved g c =
     let l = c.loop-read in
-    let begins = char-begins l.array c.args.offset l.read c.args.size c.first_char-ch.result.0 c.first_char-ch.ensures.first.0 (c.from_utf8_unchecked-text.ensures ∙ c.part.ensures) (search rules) c.first_char-ch.ensures.first.1 in
-    let next : c.first_char-ch.result.1 ≡ width c.first_char-ch.result.0 = c.first_char-ch.ensures.width in
+    let begins = char-begins l.array c.args.offset l.read c.args.size c.first_char_and_width-ch.result.0 c.first_char_and_width-ch.ensures.first.0 (c.from_utf8_unchecked-text.ensures ∙ c.part_of_length.ensures) (search rules) c.first_char_and_width-ch.ensures.first.1 in
+    let next : c.first_char_and_width-ch.result.1 ≡ width c.first_char_and_width-ch.result.0 = c.first_char_and_width-ch.ensures.width in
     elim c.if-f-2.branch [
       | then-f-2 w ↦
           rw (w.array-is, w.kept-is, next)

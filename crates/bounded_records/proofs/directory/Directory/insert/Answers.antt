@@ -1,6 +1,6 @@
 use Rattle.std.proofs.Common.{◌≡◌, ◌∙◌, ◌+◌, ap, sym, is_some, if◌then◌else◌}
 use Rattle.std.specs.FinMap as finite
-use Rattle.bounded_records.specs.Users.{texts}
+use Rattle.bounded_records.specs.UserTexts.{texts}
 use Rattle.bounded_records.proofs.MapLemmas.{users_of, insert_users, insert_same, get_others, len_users}
 use Rattle.bounded_records.proofs.OwnNameLemmas.{own-found, own-insert, own-map}
 use Rattle.bounded_records.proofs.directory.Directory.insert.Goals as goal

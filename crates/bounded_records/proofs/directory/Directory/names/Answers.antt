@@ -1,7 +1,7 @@
 use Rattle.std.proofs.Common.{◌∙◌, ap, sym}
 use Rattle.std.specs.FinMap as finite
 use Rattle.std.proofs.lemmas.List.{length-map}
-use Rattle.bounded_records.specs.Walks.{name_text, stored_text}
+use Rattle.bounded_records.specs.DirectoryWalks.{text_of_borrowed_username, text_of_username}
 use Rattle.arraystring.proofs.MapLaws.{keys-ascend}
 use Rattle.bounded_records.proofs.MapLemmas.{len_users}
 use Rattle.bounded_records.proofs.OwnNameLemmas.{names-found}
@@ -20,10 +20,10 @@ returns-clause-len c =
     ∙ ap finite.len c.self.view_is
 
 pub returns-clause-runs : goal.returns-clause-runs
-returns-clause-runs c = in_order name_text
+returns-clause-runs c = in_order text_of_borrowed_username
 
 pub returns-clause-runs_back : goal.returns-clause-runs_back
-returns-clause-runs_back c = in_reverse name_text
+returns-clause-runs_back c = in_reverse text_of_borrowed_username
 
 pub returns-clause-copies : goal.returns-clause-copies
-returns-clause-copies c = copies_in_order stored_text
+returns-clause-copies c = copies_in_order text_of_username

@@ -1,7 +1,7 @@
 use Rattle.std.proofs.Common.{◌≡◌, ◌∙◌, ◌+◌, ap, sym, is_some, if◌then◌else◌}
 use Rattle.std.specs.FinMap as finite
 use Rattle.std.specs.Option.{option_map}
-use Rattle.bounded_records.specs.Users.{texts}
+use Rattle.bounded_records.specs.UserTexts.{texts}
 use Rattle.bounded_records.proofs.MapLemmas.{users_of, get_users, remove_users, get_removed, get_kept, len_removed}
 use Rattle.bounded_records.proofs.OwnNameLemmas.{own-found, own-map, own-remove}
 use Rattle.bounded_records.proofs.directory.Directory.remove.Goals as goal

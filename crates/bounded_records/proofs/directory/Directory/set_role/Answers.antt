@@ -2,7 +2,7 @@ use Rattle.std.proofs.Common.{◌≡◌, ◌∙◌, ap, sym, Some, IsSome, refl,
 use Rattle.std.specs.FinMap as finite
 use Rattle.std.specs.Option.{option_map}
 use Rattle.bounded_records.specs.declared.user.User.{User}
-use Rattle.bounded_records.specs.Users.{texts}
+use Rattle.bounded_records.specs.UserTexts.{texts}
 use Rattle.bounded_records.proofs.MapLemmas.{users_of, get_users, insert_users, get_inserted, get_others, keys_users, key_texts}
 use Rattle.bounded_records.proofs.OwnNameLemmas.{own-found, own-map, own-insert}
 use Rattle.bounded_records.proofs.directory.Directory.set_role.Goals as goal

@@ -1,8 +1,8 @@
 use Rattle.std.proofs.Common.{◌∙◌, ap, sym, map}
 use Rattle.std.specs.FinMap as finite
 use Rattle.std.proofs.lemmas.List.{length-map}
-use Rattle.bounded_records.specs.Users.{names_of, texts}
-use Rattle.bounded_records.specs.Walks.{user_texts}
+use Rattle.bounded_records.specs.UserTexts.{names_of, texts}
+use Rattle.bounded_records.specs.DirectoryWalks.{texts_of_borrowed_user}
 use Rattle.bounded_records.proofs.MapLemmas.{keys_users, len_users, values_users}
 use Rattle.bounded_records.proofs.OwnNameLemmas.{names-users, users-found}
 use Rattle.bounded_records.proofs.WalkLemmas.{in_order, in_reverse, copies_in_order}
@@ -28,10 +28,10 @@ returns-clause-len c =
     ∙ ap finite.len c.self.view_is
 
 pub returns-clause-runs : goal.returns-clause-runs
-returns-clause-runs c = in_order user_texts
+returns-clause-runs c = in_order texts_of_borrowed_user
 
 pub returns-clause-runs_back : goal.returns-clause-runs_back
-returns-clause-runs_back c = in_reverse user_texts
+returns-clause-runs_back c = in_reverse texts_of_borrowed_user
 
 pub returns-clause-copies : goal.returns-clause-copies
 returns-clause-copies c = copies_in_order texts

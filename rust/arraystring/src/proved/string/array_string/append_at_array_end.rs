@@ -3,14 +3,14 @@
 //! the text to the start of the array.
 
 use crate::proved::string::ArrayString;
-use crate::proved::base::utils::{encode, shift_by_call, truncate_str, write_by_call};
+use crate::proved::base::utils::{encode, shift_on_cold_path, truncate_str, write_by_call};
 
 impl<const N: usize> ArrayString<N> {
     /// Whether there is room for `ch` after `len` bytes. ASCII has a test of its own, which the
     /// compiler joins with that of `encode`. If four more bytes fit, the width of any other
     /// character is not tested.
     #[inline(always)]
-    pub(super) fn has_room(len: usize, ch: char) -> bool {
+    pub(super) fn has_room_for_char(len: usize, ch: char) -> bool {
         let capacity = Self::capacity() as usize;
         if ch.is_ascii() {
             return len < capacity;
@@ -24,25 +24,25 @@ impl<const N: usize> ArrayString<N> {
     /// in this order no register has to be moved before the call.
     #[cold]
     #[inline(never)]
-    pub(super) fn compact_and_push(
+    pub(super) fn compact_and_push_char(
         array: &mut [crate::leaf::MaybeByte; N],
         ch: char,
         start: usize,
         size: usize,
     ) -> usize {
-        shift_by_call(array, start, 0, size);
+        shift_on_cold_path(array, start, 0, size);
         size + encode(ch, array, size)
     }
 
     /// Moves the text to the start of the array, and appends `string`. It stands apart from `try_push_str`, as
-    /// `compact_and_push` does from `try_push`.
+    /// `compact_and_push_char` does from `try_push`.
     #[cold]
     #[inline(never)]
     pub(super) fn compact_and_push_str(&mut self, string: &str) {
         let (from, size) = (self.start as usize, self.size as usize);
         self.start = 0;
         self.size += string.len() as u8;
-        shift_by_call(&mut self.array, from, 0, size);
+        shift_on_cold_path(&mut self.array, from, 0, size);
         write_by_call(&mut self.array, size, string.as_bytes());
     }
 

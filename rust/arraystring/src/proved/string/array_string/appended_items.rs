@@ -7,7 +7,7 @@ use crate::proved::base::error::OutOfBounds;
 impl<const N: usize> ArrayString<N> {
     /// Appends the characters before the first that does not fit. Returns `Err` if there is such a one: what fitted stays.
     #[inline]
-    pub(super) fn add_chars<I: IntoIterator<Item = char>>(
+    pub(super) fn push_chars_until_full<I: IntoIterator<Item = char>>(
         &mut self,
         characters: I,
     ) -> Result<(), OutOfBounds> {
@@ -23,7 +23,7 @@ impl<const N: usize> ArrayString<N> {
     /// Appends the pieces before the first that does not fit, and of that one what fits. Returns `Err`
     /// if there is such a one: what fitted stays.
     #[inline]
-    pub(super) fn add_strs<'a, I: IntoIterator<Item = &'a str>>(
+    pub(super) fn push_strs_until_full<'a, I: IntoIterator<Item = &'a str>>(
         &mut self,
         pieces: I,
     ) -> Result<(), OutOfBounds> {

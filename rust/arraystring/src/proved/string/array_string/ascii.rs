@@ -2,8 +2,8 @@
 //! The ASCII letters of a string or of a range of it, made upper or lower case.
 
 use crate::proved::string::ArrayString;
-use crate::proved::string::range_ends::plain_ends;
-use crate::leaf::{make_lower, make_upper};
+use crate::proved::string::range_ends::unsaturated_ends;
+use crate::leaf::{lowercase_between, uppercase_between};
 use core::ops::RangeBounds;
 
 /// The case that ASCII letters are put into.
@@ -17,13 +17,13 @@ impl<const N: usize> ArrayString<N> {
     /// Changes a..z to A..Z. All other characters stay as they are.
     #[inline]
     pub fn make_ascii_uppercase(&mut self) {
-        self.change_case(0, self.len() as usize, Case::Upper);
+        self.change_case_of_part(0, self.len() as usize, Case::Upper);
     }
 
     /// Changes A..Z to a..z. All other characters stay as they are.
     #[inline]
     pub fn make_ascii_lowercase(&mut self) {
-        self.change_case(0, self.len() as usize, Case::Lower);
+        self.change_case_of_part(0, self.len() as usize, Case::Lower);
     }
 
     /// Changes a..z to A..Z in the range. All other characters stay as they are.
@@ -36,8 +36,8 @@ impl<const N: usize> ArrayString<N> {
     /// - Both ends, read as in `slice`, must be boundaries.
     #[inline]
     pub fn make_ascii_uppercase_in<R: RangeBounds<u8>>(&mut self, range: R) {
-        let (start, end) = plain_ends(range, self.len());
-        self.change_case(start, end, Case::Upper);
+        let (start, end) = unsaturated_ends(range, self.len());
+        self.change_case_of_part(start, end, Case::Upper);
     }
 
     /// Changes A..Z to a..z in the range. All other characters stay as they are.
@@ -50,24 +50,24 @@ impl<const N: usize> ArrayString<N> {
     /// - Both ends, read as in `slice`, must be boundaries.
     #[inline]
     pub fn make_ascii_lowercase_in<R: RangeBounds<u8>>(&mut self, range: R) {
-        let (start, end) = plain_ends(range, self.len());
-        self.change_case(start, end, Case::Lower);
+        let (start, end) = unsaturated_ends(range, self.len());
+        self.change_case_of_part(start, end, Case::Lower);
     }
 
     /// Puts the ASCII letters between two boundaries into a case.
     #[inline]
-    fn change_case(&mut self, start: usize, end: usize, case: Case) {
+    fn change_case_of_part(&mut self, start: usize, end: usize, case: Case) {
         let offset = self.start as usize;
-        change_case_of_bytes(&mut self.array, offset + start, offset + end, case);
+        change_case_between(&mut self.array, offset + start, offset + end, case);
     }
 }
 
 /// Puts the ASCII letters among the bytes from `start` to `end` into a case.
 #[inline]
-fn change_case_of_bytes<const N: usize>(array: &mut [crate::leaf::MaybeByte; N], start: usize, end: usize, case: Case) {
+fn change_case_between<const N: usize>(array: &mut [crate::leaf::MaybeByte; N], start: usize, end: usize, case: Case) {
     let all = &mut array[..];
     match case {
-        Case::Upper => make_upper(all, start, end),
-        Case::Lower => make_lower(all, start, end),
+        Case::Upper => uppercase_between(all, start, end),
+        Case::Lower => lowercase_between(all, start, end),
     }
 }

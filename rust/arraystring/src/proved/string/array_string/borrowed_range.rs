@@ -2,7 +2,7 @@
 //! The part of a text in a range of bytes, borrowed.
 
 use crate::proved::string::ArrayString;
-use crate::proved::string::range_ends::plain_ends;
+use crate::proved::string::range_ends::unsaturated_ends;
 use crate::leaf::{text_before_boundary, text_from_boundary};
 use core::ops::RangeBounds;
 
@@ -21,7 +21,7 @@ impl<const N: usize> ArrayString<N> {
     /// If `has_bounds` holds, a `get` of the range that returned `Some` proves the rest.
     #[inline]
     pub fn slice<R: RangeBounds<u8>>(&self, range: R) -> &str {
-        let (start, end) = plain_ends(range, self.len());
+        let (start, end) = unsaturated_ends(range, self.len());
         self.slice_unchecked(start, end)
     }
 
@@ -30,7 +30,7 @@ impl<const N: usize> ArrayString<N> {
     /// read as in `slice`.
     #[inline]
     pub fn get<R: RangeBounds<u8>>(&self, range: R) -> Option<&str> {
-        let (start, end) = plain_ends(range, self.len());
+        let (start, end) = unsaturated_ends(range, self.len());
         if start > end || !self.is_boundary(start) || !self.is_boundary(end) {
             return None;
         }

@@ -13,7 +13,8 @@ impl<const N: usize> ArrayString<N> {
     }
 }
 
-/// Tests that `idx` is a boundary of `s`, the size of one of its prefixes of whole characters.
+/// Tests that `idx` is a boundary of `s`. A boundary is the size of a prefix of whole characters. (The name is
+/// that of 0.3.0. In std a call of this name returns a `bool`.)
 ///
 /// # Errors
 ///

@@ -8,14 +8,15 @@ use crate::proved::base::error::Error;
 impl<const N: usize> ArrayString<N> {
     /// Refuses an index past the text, and then one inside a character.
     #[inline(always)]
-    pub(super) fn check_index(&self, index: u8) -> Result<(), Error> {
+    pub(super) fn check_bounds_and_boundary(&self, index: u8) -> Result<(), Error> {
         if index > self.len() {
             return Err(Error::OutOfBounds);
         }
-        self.check_boundary(index)
+        self.check_not_inside_character(index)
     }
 
-    /// Refuses to insert `len` bytes at an index past the text, or without room, or inside a character.
+    /// Refuses to insert `len` bytes, in this order: if the index is past the text, if they do not fit, if it
+    /// is inside a character.
     #[inline(always)]
     pub(super) fn check_insertion(&self, index: u8, len: usize) -> Result<(), Error> {
         if index > self.len() {
@@ -24,7 +25,7 @@ impl<const N: usize> ArrayString<N> {
         if len > (Self::capacity() - self.len()) as usize {
             return Err(Error::OutOfBounds);
         }
-        self.check_boundary(index)
+        self.check_not_inside_character(index)
     }
 
     /// Refuses an index at which no character begins: at the end or past it, and then one inside a character.
@@ -33,7 +34,7 @@ impl<const N: usize> ArrayString<N> {
         if index >= self.len() {
             return Err(Error::OutOfBounds);
         }
-        self.check_boundary(index)
+        self.check_not_inside_character(index)
     }
 
     /// Refuses a range that is reversed or past the text, and then one whose start, or whose end, is inside a character.
@@ -42,8 +43,8 @@ impl<const N: usize> ArrayString<N> {
         if start > end || end > self.len() {
             return Err(Error::OutOfBounds);
         }
-        self.check_boundary(start)?;
-        self.check_boundary(end)
+        self.check_not_inside_character(start)?;
+        self.check_not_inside_character(end)
     }
 
     /// Refuses to put `len` bytes in place of a range, for the reasons of `check_part`, and for want of room. Room is
@@ -57,13 +58,13 @@ impl<const N: usize> ArrayString<N> {
         if len > (Self::capacity() - kept) as usize {
             return Err(Error::OutOfBounds);
         }
-        self.check_boundary(start)?;
-        self.check_boundary(end)
+        self.check_not_inside_character(start)?;
+        self.check_not_inside_character(end)
     }
 
     /// Refuses an index in the text that is inside a character.
     #[inline(always)]
-    fn check_boundary(&self, index: u8) -> Result<(), Error> {
+    fn check_not_inside_character(&self, index: u8) -> Result<(), Error> {
         if !self.is_boundary(index as usize) {
             return Err(Error::Utf8);
         }

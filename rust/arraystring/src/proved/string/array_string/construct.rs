@@ -42,7 +42,7 @@ impl<const N: usize> ArrayString<N> {
         pieces: I,
     ) -> Result<Self, OutOfBounds> {
         let mut made = Self::new();
-        made.add_strs(pieces)?;
+        made.push_strs_until_full(pieces)?;
         Ok(made)
     }
 
@@ -55,7 +55,7 @@ impl<const N: usize> ArrayString<N> {
     #[inline]
     pub fn from_iterator<'a, I: IntoIterator<Item = &'a str>>(pieces: I) -> Self {
         let mut made = Self::new();
-        let _ = made.add_strs(pieces);
+        let _ = made.push_strs_until_full(pieces);
         made
     }
 
@@ -73,7 +73,7 @@ impl<const N: usize> ArrayString<N> {
         characters: I,
     ) -> Result<Self, OutOfBounds> {
         let mut made = Self::new();
-        made.add_chars(characters)?;
+        made.push_chars_until_full(characters)?;
         Ok(made)
     }
 
@@ -86,7 +86,7 @@ impl<const N: usize> ArrayString<N> {
     #[inline]
     pub fn from_chars<I: IntoIterator<Item = char>>(characters: I) -> Self {
         let mut made = Self::new();
-        let _ = made.add_chars(characters);
+        let _ = made.push_chars_until_full(characters);
         made
     }
 

@@ -37,12 +37,13 @@ impl<const N: usize> ArrayString<N> {
         if N <= 32 || start == 0 {
             return self.remove_range(start, end);
         }
-        self.remove_by_call(start, end);
+        self.remove_out_of_line(start, end);
     }
 
-    /// Removes as `remove_range` does, for `remove_drained`, by code that stands once in a program.
+    /// Removes as `remove_range` does, for `remove_drained`. It is never inlined, so a program has its code
+    /// once for each capacity.
     #[inline(never)]
-    fn remove_by_call(&mut self, start: usize, end: usize) {
+    fn remove_out_of_line(&mut self, start: usize, end: usize) {
         self.remove_range(start, end);
     }
 }

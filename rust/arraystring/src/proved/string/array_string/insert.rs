@@ -18,7 +18,7 @@ impl<const N: usize> ArrayString<N> {
     #[inline]
     pub fn try_insert(&mut self, index: u8, ch: char) -> Result<(), Error> {
         self.check_insertion(index, ch.len_utf8())?;
-        self.insert_at_boundary(index as usize, ch);
+        self.insert_char_at_boundary(index as usize, ch);
         Ok(())
     }
 
@@ -50,7 +50,7 @@ impl<const N: usize> ArrayString<N> {
     /// - `Err(Error::Utf8)` if the index is inside a character.
     #[inline]
     pub fn insert_str(&mut self, index: u8, string: &str) -> Result<(), Error> {
-        self.check_index(index)?;
+        self.check_bounds_and_boundary(index)?;
         let room = Self::capacity() - self.len();
         let at = index as usize;
         self.splice(at, at, truncate_str(string, room));

@@ -14,8 +14,9 @@ impl<const N: usize> ArrayString<N> {
     #[inline(always)]
     pub fn try_push(&mut self, ch: char) -> Result<(), OutOfBounds> {
         let end = self.end();
-        if Self::has_room(end, ch) {
-            // The sum for ASCII is separate, because one for all widths would make a loop of pushes longer.
+        if Self::has_room_for_char(end, ch) {
+            // ASCII has a sum of its own, because one sum for all widths would give the code of a loop of pushes more
+            // instructions.
             if ch.is_ascii() {
                 self.size += 1;
                 encode(ch, &mut self.array, end);
@@ -25,10 +26,10 @@ impl<const N: usize> ArrayString<N> {
             return Ok(());
         }
         let (start, size) = (self.start as usize, self.size as usize);
-        if !Self::has_room(size, ch) {
+        if !Self::has_room_for_char(size, ch) {
             return Err(OutOfBounds);
         }
-        let size = Self::compact_and_push(&mut self.array, ch, start, size);
+        let size = Self::compact_and_push_char(&mut self.array, ch, start, size);
         self.start = 0;
         self.size = size as u8;
         Ok(())
@@ -79,7 +80,7 @@ impl<const N: usize> ArrayString<N> {
     /// The iterator must end, and until then the precondition of its `next` must hold.
     #[inline]
     pub fn extend_chars<I: IntoIterator<Item = char>>(&mut self, characters: I) {
-        let _ = self.add_chars(characters);
+        let _ = self.push_chars_until_full(characters);
     }
 
     /// Appends the longest prefix of whole characters of the joined pieces that fits.
@@ -89,6 +90,6 @@ impl<const N: usize> ArrayString<N> {
     /// The iterator must end, and until then the precondition of its `next` must hold.
     #[inline]
     pub fn extend_strs<'a, I: IntoIterator<Item = &'a str>>(&mut self, pieces: I) {
-        let _ = self.add_strs(pieces);
+        let _ = self.push_strs_until_full(pieces);
     }
 }

@@ -5,7 +5,7 @@
 use crate::proved::string::ArrayString;
 use crate::proved::base::error::{Error, Utf8};
 use crate::leaf::text_from_boundary;
-use crate::proved::base::utils::{first_char, last_char};
+use crate::proved::base::utils::{first_char_and_width, last_char_with_start};
 
 impl<const N: usize> ArrayString<N> {
     /// Shortens the text to its first `size` bytes. Nothing changes if it has no more.
@@ -28,7 +28,7 @@ impl<const N: usize> ArrayString<N> {
     /// Removes the last character and returns it. Returns `None` if the text is empty.
     #[inline]
     pub fn pop(&mut self) -> Option<char> {
-        let (start, ch) = last_char(self.as_str())?;
+        let (start, ch) = last_char_with_start(self.as_str())?;
         self.set_len(start as u8);
         Some(ch)
     }
@@ -45,7 +45,7 @@ impl<const N: usize> ArrayString<N> {
     pub fn remove(&mut self, index: u8) -> Result<char, Error> {
         self.check_removal(index)?;
         let start = index as usize;
-        let (ch, width) = self.char_at(start);
+        let (ch, width) = self.char_and_width_at(start);
         self.remove_range(start, start + width);
         Ok(ch)
     }
@@ -61,7 +61,7 @@ impl<const N: usize> ArrayString<N> {
     /// - `Err(Error::Utf8)` if `at` is inside a character.
     #[inline]
     pub fn split_off(&mut self, at: u8) -> Result<Self, Error> {
-        self.check_index(at)?;
+        self.check_bounds_and_boundary(at)?;
         let rest = Self::from_str_unchecked(text_from_boundary(self.as_str(), at as usize));
         self.set_len(at);
         Ok(rest)
@@ -97,7 +97,7 @@ impl<const N: usize> ArrayString<N> {
 
     /// The character that begins at a boundary before the end, and how many bytes it takes.
     #[inline]
-    fn char_at(&self, at: usize) -> (char, usize) {
-        first_char(text_from_boundary(self.as_str(), at))
+    fn char_and_width_at(&self, at: usize) -> (char, usize) {
+        first_char_and_width(text_from_boundary(self.as_str(), at))
     }
 }

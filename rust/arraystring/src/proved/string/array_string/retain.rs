@@ -2,8 +2,8 @@
 //! The characters of a text that a closure keeps.
 
 use crate::proved::string::ArrayString;
-use crate::leaf::{byte, part};
-use crate::proved::base::utils::{first_char, shift};
+use crate::leaf::{byte, part_of_length};
+use crate::proved::base::utils::{first_char_and_width, shift};
 use core::str;
 
 impl<const N: usize> ArrayString<N> {
@@ -22,8 +22,8 @@ impl<const N: usize> ArrayString<N> {
 
 /// Calls `f` once with each character of a text, in order, and closes the gaps between those for
 /// which it returns true. The text is the `size` bytes of the array from `offset` on, and keeps
-/// its offset; `kept` becomes the size of what is kept. Each kept character is moved on its own, and
-/// only to the left. At each call of `f` the `kept` bytes from `offset` on are those of the
+/// its offset. Each kept character is moved on its own, and only to the left. At each call of `f`, and at the
+/// end, `kept` is the size of what was kept so far, and the `kept` bytes from `offset` on are those of the
 /// characters that were kept so far. If `f` panics, the text is those bytes.
 #[inline]
 fn retain_in_array<const N: usize, F: FnMut(char) -> bool>(
@@ -37,7 +37,7 @@ fn retain_in_array<const N: usize, F: FnMut(char) -> bool>(
     let mut read = 0;
     // At the start of each turn no byte from `read` on was written over.
     while read < size {
-        // An ASCII byte is a whole character; `first_char` reads any other.
+        // An ASCII byte is a whole character; `first_char_and_width` reads any other.
         let first = byte(array, offset + read);
         if first < 0x80 {
             if f(first as char) {
@@ -47,11 +47,13 @@ fn retain_in_array<const N: usize, F: FnMut(char) -> bool>(
             }
             read += 1;
         } else {
-            // SAFETY: the text was UTF-8 at the start, and its bytes from `read` on are unchanged, because all writes
-            // end at `*kept` or before, and `*kept <= read`: a turn adds no more to `*kept` than to `read`. `read` goes
-            // on by whole characters, so one begins there, whatever the closure answers.
-            let text = unsafe { str::from_utf8_unchecked(part(array, offset + read, size - read)) };
-            let (ch, width) = first_char(text);
+            // SAFETY: the text was UTF-8 at the start. A turn adds no more to `*kept` than to `read`, so all writes
+            // ended at `read` or before it, and the bytes from `read` on are unchanged. `read` goes on by whole
+            // characters, so a character begins there, whatever the closure answers.
+            let text = unsafe {
+                str::from_utf8_unchecked(part_of_length(array, offset + read, size - read))
+            };
+            let (ch, width) = first_char_and_width(text);
             if f(ch) {
                 let to = offset + *kept as usize;
                 shift(array, offset + read, to, width);

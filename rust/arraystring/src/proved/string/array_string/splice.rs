@@ -4,7 +4,7 @@
 //! are in `push`, `append_at_array_end` and `remove`, because they move nothing, or all of the text.
 
 use crate::proved::string::ArrayString;
-use crate::leaf::part;
+use crate::leaf::part_of_length;
 use crate::proved::base::utils::{encode, shift, write_over};
 use core::str;
 
@@ -14,8 +14,8 @@ impl<const N: usize> ArrayString<N> {
     pub(super) fn splice(&mut self, start: usize, end: usize, given: &str) {
         let (offset, size) = (self.start as usize, self.size as usize);
         let (len, tail) = (given.len(), size - end);
-        // The second test follows from the first, because only a text that grows can reach past the end. It is for the
-        // compiler, which leaves out the branch where nothing is given, as in a removal.
+        // The second test follows from the first, because only a text that grows can end past the capacity. It is for
+        // the compiler: where `given` is known to be empty, as in a removal, this branch is then left out.
         if offset + (start + (len + tail)) > Self::capacity() as usize && len > end - start {
             return self.compact_and_splice(start, end, given);
         }
@@ -43,16 +43,17 @@ impl<const N: usize> ArrayString<N> {
         write_over(&mut self.array, start, given.as_bytes());
     }
 
-    /// Puts `ch` at a boundary, as `splice` does with a text. The new text must fit. If there is room behind the
-    /// text, the UTF-8 of `ch` is written straight into the array, without a text of it for `splice`.
-    pub(super) fn insert_at_boundary(&mut self, at: usize, ch: char) {
+    /// Puts `ch` at a boundary, as `splice` does with a text. The new text must fit. If there is room behind
+    /// the text, the UTF-8 of `ch` is written straight into the array. If not, it is first written into an
+    /// array of its own, which `compact_and_splice` is given.
+    pub(super) fn insert_char_at_boundary(&mut self, at: usize, ch: char) {
         let (offset, size) = (self.start as usize, self.size as usize);
         let (len, tail) = (ch.len_utf8(), size - at);
         if offset + size + len > Self::capacity() as usize {
             let mut utf8 = [crate::leaf::NEW_BYTE; 4];
             encode(ch, &mut utf8, 0);
             // SAFETY: `encode` wrote the `len` bytes of the UTF-8 of `ch` at the start of `utf8`.
-            let given = unsafe { str::from_utf8_unchecked(part(&utf8, 0, len)) };
+            let given = unsafe { str::from_utf8_unchecked(part_of_length(&utf8, 0, len)) };
             return self.compact_and_splice(at, at, given);
         }
         self.size = (at + (len + tail)) as u8;

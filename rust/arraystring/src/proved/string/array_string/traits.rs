@@ -54,9 +54,10 @@ impl<const N: usize> fmt::Display for ArrayString<N> {
 impl<const N: usize> Eq for ArrayString<N> {
 }
 
-/// Makes a string as `from_str_truncate` does, also by `into`: what does not fit is **cut** off. Std makes
-/// a `try_from` of this, too, which in Rust returns `Ok` of a cut text. `parse` and `try_from_str` refuse
-/// a text that does not fit.
+/// Makes a string as `from_str_truncate` does, also by `into`: what does not fit is **cut** off. Where this
+/// file is translated to Rust, std makes a `try_from` of this, too, which cuts and returns `Ok`. (The public
+/// type of the Cargo crate has a `try_from` of its own, which refuses.) `parse` and `try_from_str` refuse a
+/// text that does not fit.
 impl<'a, const N: usize> From<&'a str> for ArrayString<N> {
     #[inline]
     fn from(string: &'a str) -> Self {

@@ -76,9 +76,9 @@ impl<const N: usize> ArrayString<N> {
     pub fn push_unchecked(&mut self, ch: char) {
         let end = self.end();
         // If the text begins at the start of the array, all room is behind it, and `ch` fits there by the precondition.
-        if self.start > 0 && !Self::has_room(end, ch) {
+        if self.start > 0 && !Self::has_room_for_char(end, ch) {
             let (start, size) = (self.start as usize, self.size as usize);
-            let size = Self::compact_and_push(&mut self.array, ch, start, size);
+            let size = Self::compact_and_push_char(&mut self.array, ch, start, size);
             self.start = 0;
             self.size = size as u8;
             return;
@@ -108,7 +108,7 @@ impl<const N: usize> ArrayString<N> {
     /// The index must be a boundary, and `ch` must fit.
     #[inline]
     pub fn insert_unchecked(&mut self, index: u8, ch: char) {
-        self.insert_at_boundary(index as usize, ch);
+        self.insert_char_at_boundary(index as usize, ch);
     }
 
     /// Inserts `string` at the byte index `index`.

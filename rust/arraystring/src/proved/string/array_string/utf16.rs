@@ -19,25 +19,24 @@ impl<const N: usize> ArrayString<N> {
     #[inline]
     pub fn try_from_utf16(units: &[u16]) -> Result<Self, Error> {
         let mut made = Self::new();
-        match made.add_units(units) {
+        match made.fill_from_units(units) {
             None => Ok(made),
             Some(Unit16::Lone(_)) => Err(Error::Utf16),
             Some(Unit16::Char(_)) => Err(Error::OutOfBounds),
         }
     }
 
-    /// Creates a string from the longest prefix of characters of `units` that fits. What comes
-    /// after a character that does not fit has no effect: the text is **cut** there.
-    /// `try_from_utf16` refuses what does not fit.
+    /// Creates a string from `units`, which are read in order, as characters and lone surrogates, up to the
+    /// first that cannot be appended. If it is a character that does not fit, the text is **cut** before it,
+    /// and nothing after it has an effect. `try_from_utf16` refuses what does not fit.
     ///
     /// # Errors
     ///
-    /// Returns `Err(Utf16)` if a lone surrogate comes right after that prefix, even if the string
-    /// is full.
+    /// Returns `Err(Utf16)` if it is a lone surrogate, even if the string is full.
     #[inline]
     pub fn from_utf16(units: &[u16]) -> Result<Self, Utf16> {
         let mut made = Self::new();
-        if let Some(Unit16::Lone(_)) = made.add_units(units) {
+        if let Some(Unit16::Lone(_)) = made.fill_from_units(units) {
             return Err(Utf16);
         }
         Ok(made)
@@ -57,10 +56,10 @@ impl<const N: usize> ArrayString<N> {
         made
     }
 
-    /// Appends to the empty text the longest prefix of characters of `units` that fits. Returns the item
-    /// right after it.
+    /// Appends to the string, which must be empty, the longest prefix of characters of `units` that fits.
+    /// Returns the item right after it, or `None` if there is none.
     #[inline]
-    fn add_units(&mut self, units: &[u16]) -> Option<Unit16> {
+    fn fill_from_units(&mut self, units: &[u16]) -> Option<Unit16> {
         for item in Units::new(units) {
             match item {
                 Unit16::Char(ch) => match self.try_push(ch) {

@@ -3,7 +3,7 @@
 
 use crate::proved::string::Drain;
 use crate::leaf::byte;
-use crate::proved::base::utils::last_char;
+use crate::proved::base::utils::last_char_with_start;
 use core::cmp::Ordering;
 use core::fmt;
 use core::hash::{Hash, Hasher};
@@ -31,7 +31,7 @@ impl<const N: usize> DoubleEndedIterator for Drain<N> {
     /// after that.
     #[inline(always)]
     fn next_back(&mut self) -> Option<char> {
-        let (kept, ch) = last_char(self.as_str())?;
+        let (kept, ch) = last_char_with_start(self.as_str())?;
         self.size = self.front + kept as u8;
         Some(ch)
     }

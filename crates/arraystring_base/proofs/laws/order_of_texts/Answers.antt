@@ -1,5 +1,0 @@
-use Rattle.arraystring_base.proofs.OrderLaws.{before-total, before-trans, before-itself}
-use Rattle.arraystring_base.proofs.laws.order_of_texts.Goals as goal
-
-pub returns : goal.returns
-returns c = record { total = before-total; transitive = before-trans; itself = before-itself }
