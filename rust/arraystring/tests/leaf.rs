@@ -232,8 +232,9 @@ fn any_run_of_an_array_is_moved() {
     fn of<const N: usize>() {
         for (from, end) in ranges(N) {
             for to in places(N - (end - from)) {
-                let edit =
-                    |all: &mut [MaybeByte]| move_on_cold_path::<N>(all.try_into().expect("N places"), from, to, end - from);
+                let edit = |all: &mut [MaybeByte]| {
+                    move_on_cold_path::<N>(all.try_into().expect("N places"), from, to, end - from)
+                };
                 changes(N, edit, |all| all.copy_within(from..end, to));
             }
         }

@@ -63,5 +63,5 @@ fn places<const N: usize>() -> [leaf::MaybeByte; N] {
 
 /// The bytes of an array of which each has a value.
 fn values(places: &[leaf::MaybeByte]) -> &[u8] {
-    leaf::part(places, 0, places.len())
+    leaf::part_of_length(places, 0, places.len())
 }
