@@ -9,10 +9,10 @@ use crate::{ArrayString, Error, OutOfBounds, Utf8, Utf16};
 
 /// # Strings made, whole or not at all
 ///
-/// Some of these calls make the proved call of the same name, whose contract is in
-/// `crates/arraystring_core/src/array_string/construct.rt` or `utf16.rt` of the repository, or for `new` in `array_string.rt` beside that
-/// folder. The others, `const_try_from_str`, `try_from_iterator`, the two `_lossy` calls and `try_from_format`, have bodies of their own,
-/// and no contract. (The `try_from_iterator` in `construct.rt` has one, but it is of another body.)
+/// Some of these calls make the proved call of the same name, whose contract is in `crates/arraystring_core/src/array_string/construct.rt`
+/// or `utf16.rt` of the repository, or for `new` in `../array_string.rt`. The others, `const_try_from_str`, `try_from_iterator`, the two
+/// `_lossy` calls and `try_from_format`, have bodies of their own, and no contract. (The `try_from_iterator` in `construct.rt` has one, but
+/// it is of another body.)
 impl<const N: usize> ArrayString<N> {
     /// An empty string.
     ///
