@@ -96,7 +96,7 @@ fn contracts(file: &str, between: (&str, &str)) -> BTreeMap<String, String> {
     let contract = |item: &str| {
         let (_, signature) = item.split_once("fn ").filter(|_| !item.starts_with(' '))?;
         let (name, parameters) = (signature.split(['(', '<']).next()?, signature.split_once('(')?.1.split_once(')')?.0);
-        let parameters: Vec<_> = parameters.split(", ").filter_map(|it| Some(it.split_once(':')?.0)).collect();
+        let parameters: Vec<_> = parameters.split(',').filter_map(|it| Some(it.trim().split_once(':')?.0)).collect();
         let clauses = item.split_once(between.0)?.1.split_once(between.1)?.0;
         let clauses = clauses.split_whitespace().collect::<Vec<_>>().join(" ");
         Some((name.to_string(), format!("({}) {clauses}", parameters.join(", "))))
