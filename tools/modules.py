@@ -95,6 +95,15 @@ class Modules:
                 items, self.modules[module_of(path)] = parsed(path, read(file))
                 self.items += items
 
+    def names_in(self, path):
+        """What the names in a module stand for, of which a Lib.antt may say that another crate has it. It is empty outside of these crates."""
+        while path not in self.modules:
+            parent, _, last = path.rpartition(".")
+            if last not in self.modules.get(f"{parent}.Lib", {}):
+                return {}
+            path, _ = self.modules[f"{parent}.Lib"][last]
+        return self.modules[path]
+
     def resolved(self, names, word):
         """The item of the repository that a word stands for among these names, if it is one."""
         first, _, rest = word.partition(".")
@@ -102,12 +111,7 @@ class Modules:
         if not isinstance(target, tuple):
             return target
         path, name = target
-        while path not in self.modules:
-            parent, _, last = path.rpartition(".")
-            if last not in self.modules.get(f"{parent}.Lib", {}):
-                return None
-            path, _ = self.modules[f"{parent}.Lib"][last]
-        return self.resolved(self.modules[path], name or rest.partition(".")[0])
+        return self.resolved(self.names_in(path), name or rest.partition(".")[0])
 
     def named(self, term, names):
         """The items that a term names. Labels of clauses and of records are no words, nor are fields."""

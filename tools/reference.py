@@ -1,9 +1,10 @@
 """Makes the reference for callers of the string out of the sources, so that nobody keeps a list of calls or laws by hand.
 
-It alone sees, for example, that the clause of a call or the comment of a law was changed, and that the page still has the old one.
+It alone sees, for example, that the clause of a call or the comment of a law was changed, and that the page still has the old one, or that
+callers can't import a new definition, because a module of specs/ that also has old names lists what it passes on.
 
-tools/run reference            fails where PAGE is not what the sources make
-tools/run reference --write    writes PAGE
+tools/run reference            fails where PAGE is not what the sources make, and where such a module lacks a definition
+tools/run reference --write    writes PAGE, and adds what those modules lack
 
 A call is a public function that callers of `arraystring` reach, and an impl of a trait one of a type of it. Each stands there with the
 first sentence of its comment, its signature and its clauses. A law is what is `pub` in the modules that proofs/Lib.antt passes on. Each
@@ -13,7 +14,7 @@ import re
 import textwrap
 from itertools import zip_longest
 
-from modules import IMPORT, Modules, module_of
+from modules import IMPORT, Item, Modules, module_of
 from repository import NAME, REFERENCE, read
 
 PAGE = f"crates/arraystring/{REFERENCE}"
@@ -195,10 +196,26 @@ A proof imports them so, and the operators from `Common`:
 {proofs}"""
 
 
+def passed_on(root):
+    """The files of the modules that pass on the definitions of another module, for their old names, each with all of these."""
+    tree = Modules(root)
+    for file in sorted((root / TOP / "specs").glob("*.antt")):
+        text = read(file)
+        of = re.match("-- This module exports the definitions of `(.*?)`", text)
+        items = [it for it in tree.names_in(f"Rattle.{of[1]}").values() if isinstance(it, Item) and "pub " in it.lines[0]] if of else []
+        lacking = dict.fromkeys(it.name for it in items if it.name not in re.findall(NAME, text))
+        yield file, text.replace("}", "".join(f", {it}" for it in lacking) + "}", 1)
+
+
 def main(arguments, root):
+    if arguments == ["--write"]:
+        for file, text in passed_on(root):
+            file.write_text(text, encoding="utf-8")
     text, page = made(root), root / PAGE
     if arguments == ["--write"]:
         page.write_text(text, encoding="utf-8")
+    for file in (file for file, all_of_them in passed_on(root) if read(file) != all_of_them):
+        return f"{file.relative_to(root)} lacks a definition of the module that it passes on; tools/run reference --write adds it\n"
     if not page.exists() or read(page) != text:
         had = read(page).split("\n") if page.exists() else []
         first = next((it for it, other in zip_longest(text.split("\n"), had) if it != other), None)

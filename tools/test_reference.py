@@ -9,6 +9,7 @@ BASE, CORE, TOP, END = reference.BASE, reference.CORE, reference.TOP, r"\Z"
 PUSH = f"{CORE}/src/array_string/push.rt"
 LAWS = f"{CORE}/proofs/AddLaws.antt"
 RULES = f"{TOP}/proofs/Rules.antt"
+OLD = f"{TOP}/specs/Old.antt"
 
 
 UTF8 = """\
@@ -102,8 +103,10 @@ class Reference(TreeTest):
         LAWS: ADDED,
         f"{TOP}/src/lib.rt": "//! inner\npub mod utils {\n    pub use arraystring_base::utils::{is_boundary};\n}\n",
         f"{TOP}/src/laws.rt": "//! More laws.\n",
-        f"{TOP}/specs/Lib.antt": "pub use Rattle.arraystring_core.specs.Text\npub mod Errors\n",
+        f"{TOP}/specs/Lib.antt": "pub use Rattle.arraystring_core.specs.Text\npub mod Errors\npub mod Old\n",
         f"{TOP}/specs/Errors.antt": "-- The errors.\npub use Rattle.arraystring_base.specs.declared.error.Error.{Error}\n",
+        OLD: "-- This module exports the definitions of `arraystring_core.specs.Text`. Old names are here, too.\n"
+             "pub use Rattle.arraystring_core.specs.Text.{size, size as length}\n",
         f"{TOP}/proofs/Lib.antt": "pub use Rattle.arraystring_core.proofs.AddLaws\npub mod Rules\n",
         RULES: "-- Rulesets.\nuse Rattle.arraystring_core.proofs.AddLaws.{add-made}\n\n-- appends\npub ruleset additions = (add-made)\n",
     }
@@ -144,6 +147,13 @@ class Reference(TreeTest):
             self.assert_finds(reference, (f"{reference.PAGE} is not what the sources make", change))
         # (a proof is none of its own, nor is what stands in a body)
         self.assert_finds(reference, ("", (LAWS, "add-made e = e", "add-made e = sym e")), ("", (PUSH, "        true", "        false")))
+
+    def test_a_new_definition_is_passed_on_beside_old_names(self):
+        change = (f"{BASE}/specs/Text.antt", END, "\n-- the width\nabbrev pub width : ℕ\nwidth = 1\n")
+        self.assert_finds(reference, (f"{OLD} lacks a definition", change), (f"{reference.PAGE} is not", (OLD, "size as length", "size as long")))
+        with self.changed(change):
+            self.assertFalse(self.told(reference, "--write")[0])
+            self.assertIn("Text.{size, size as length, width}\n", read(self.root / OLD))
 
     def test_it_says_where_the_page_begins_to_differ(self):
         with self.changed((LAWS, "it is added", "it is taken")):

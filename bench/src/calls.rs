@@ -1,5 +1,5 @@
 //! The calls that are counted, each once, with the cases on which it is counted. crates/bench_calls has those of the proved build by the
-//! same names. To add a call, add its row here and its line there.
+//! same names.
 
 use std::cmp::Ordering;
 use std::hash::{DefaultHasher, Hash, Hasher};

@@ -15,7 +15,7 @@ const LEVELS: [&str; 3] = ["3", "s", "z"];
 const LIBRARIES: [(usize, usize); 6] = [(3, 1), (3, 3), (3, 8), (8, 1), (8, 3), (8, 8)];
 
 /// What a command prints, which has to succeed.
-fn printed(command: &mut Command) -> String {
+fn output_of(command: &mut Command) -> String {
     let output = command.output().unwrap_or_else(|error| panic!("{command:?}: {error}"));
     assert!(output.status.success(), "{command:?}: {}", String::from_utf8_lossy(&output.stderr));
     String::from_utf8(output.stdout).expect("it prints text")
@@ -41,7 +41,7 @@ fn compile(folder: &Path, level: &str, side: Side) {
         Side::String | Side::Proved => return,
     };
     let mut command = rustc(level, edition, &source);
-    printed(command.args(["--crate-type=rlib", "--crate-name=strings", "--out-dir"]).arg(folder));
+    output_of(command.args(["--crate-type=rlib", "--crate-name=strings", "--out-dir"]).arg(folder));
 }
 
 /// The bytes of the code of a library.
@@ -50,8 +50,8 @@ fn text_bytes(folder: &Path, level: &str, side: Side, calls: usize, capacities: 
     let mut command = rustc(level, "2024", &Path::new(HERE).join("library_of_calls.rs"));
     command.args(["-Clto", "--crate-type=cdylib", "--extern=strings", "-L"]).arg(folder).arg("-o").arg(&library);
     command.arg(format!("--cfg=over=\"{}\"", side.name())).arg(format!("--cfg=calls=\"{calls}\""));
-    printed(command.arg(format!("--cfg=capacities=\"{capacities}\"")));
-    let sections = printed(Command::new("size").arg("-A").arg(&library));
+    output_of(command.arg(format!("--cfg=capacities=\"{capacities}\"")));
+    let sections = output_of(Command::new("size").arg("-A").arg(&library));
     let text = sections.lines().find_map(|line| line.strip_prefix(".text ")).expect("it has code");
     text.split_whitespace().next().and_then(|it| it.parse().ok()).expect("a section has a size")
 }

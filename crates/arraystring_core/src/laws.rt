@@ -64,8 +64,8 @@ pub fn drain_text_fits<const N: usize>(drained: &Drain<N>)
 pub fn cut_ignores_excess()
     ensures characters { (taken more : List ℕ) (n : ℕ) → n < size taken
         → cut (taken ++ more) n ≡ cut taken n }
-    ensures pieces { (taken more : List (List ℕ)) (n : ℕ)
-        → n < size (joined_texts taken) → cut (joined_texts (taken ++ more)) n ≡ cut (joined_texts taken) n }
+    ensures pieces { (taken more : List (List ℕ)) (n : ℕ) → n < size (joined_texts taken)
+        → cut (joined_texts (taken ++ more)) n ≡ cut (joined_texts taken) n }
 {}
 
 /// If the bytes of `whole` are the bytes of the pieces, one after the other, then `whole` is the
@@ -75,8 +75,8 @@ pub fn cut_ignores_excess()
 pub fn chars_of_joined_pieces(whole: &str)
     ensures text { (pieces : List (List ℕ)) → whole.now ≡ joined_texts (map bytes pieces)
         → chars whole.now ≡ joined_texts pieces }
-    ensures cut { (pieces : List (List ℕ)) (n : ℕ)
-        → whole.now ≡ joined_texts (map bytes pieces) → cut (joined_texts pieces) n ≡ cut (chars whole.now) n }
+    ensures cut { (pieces : List (List ℕ)) (n : ℕ) → whole.now ≡ joined_texts (map bytes pieces)
+        → cut (joined_texts pieces) n ≡ cut (chars whole.now) n }
 {}
 
 /// The UTF-16 of a text that fits is read back as that text by `try_from_utf16`, `from_utf16` and

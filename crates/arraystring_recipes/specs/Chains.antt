@@ -11,6 +11,6 @@ underscored c = if c == 0x20 then 0x5F else c
 abbrev pub is_no_space : ℕ → Bool
 is_no_space c = not (c == 0x20)
 
--- the text without its spaces, in upper case
+-- the text without its spaces, with a to z in upper case
 abbrev pub compact : List ℕ → List ℕ
 compact t = map to_ascii_uppercase (filter is_no_space t)

@@ -11,7 +11,7 @@ ends_word at_start c = c == 0x20
 abbrev pub title_piece : Bool → ℕ → List ℕ
 title_piece at_start c = (if at_start then to_ascii_uppercase c else c) ∷ []
 
--- the text with the first letter of each word in upper case
+-- the text with each letter from a to z in upper case that stands first or behind a space
 abbrev pub title : List ℕ → List ℕ
 title t = flat_map_with_memory ends_word title_piece true t
 

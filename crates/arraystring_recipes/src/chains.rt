@@ -39,7 +39,7 @@ pub fn digits_in<const N: usize>(text: &str) -> Result<ArrayString<N>, OutOfBoun
     ArrayString::try_from_chars(text.chars().filter(|ch| ch.is_ascii_digit()))
 }
 
-/// Returns `text` without its spaces, in upper case, or the longest prefix of that which fits.
+/// Returns `text` without its spaces, with a to z in upper case, or the longest prefix of that which fits.
 #[tactic(auto, using(arraystring::proofs::Rules::given))]
 pub fn compact<const N: usize>(text: &str) -> ArrayString<N>
     ensures { result.text ≡ cut (compact (chars text.now)) (cap N) }
@@ -73,7 +73,7 @@ pub fn try_snake<const N: usize>(text: &str) -> Result<ArrayString<N>, Error>
     Ok(line)
 }
 
-/// Returns `text` without its spaces, in upper case, by a loop that refuses what does not fit.
+/// Returns `text` without its spaces, with a to z in upper case, by a loop that refuses what does not fit.
 ///
 /// # Errors
 ///

@@ -1,6 +1,6 @@
 //! Columns of a table.
 ghost use Rattle.std.specs.Prelude.{◌≡◌, ◌<◌, ◌++◌, [], MatchOption, chars, length, replicate};
-ghost use Rattle.std.specs.Str.{IsNotAscii};
+ghost use Rattle.std.specs.Str.{IsAscii, IsNotAscii};
 ghost use Rattle.arraystring.specs.Construct.{IsWholeOrRefused};
 ghost use Rattle.arraystring.specs.Text.{bytes, cap, size};
 
@@ -40,7 +40,7 @@ pub fn bytes_shown(column: &ArrayString<16>) -> Option<u8>
 #[tactic(auto, using(arraystring::proofs::Rules::ascii))]
 pub fn ascii_width(column: &ArrayString<16>) -> Option<u8>
     ensures { MatchOption result (IsNotAscii (bytes column.now.text))
-        (λ count. count ≡ length column.now.text) }
+        (λ count. (count ≡ length column.now.text) × IsAscii (bytes column.now.text)) }
 {
     if column.as_str().is_ascii() {
         Some(column.len())

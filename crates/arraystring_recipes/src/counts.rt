@@ -6,7 +6,7 @@ ghost use Rattle.arraystring.specs.Text.{cap, size, width};
 
 use arraystring::ArrayString;
 
-/// Returns how many digits a text has. They are no more than its bytes, so a `u8` holds their number.
+/// Returns how many digits of ASCII a text has. They are no more than its bytes, so a `u8` holds their number.
 #[tactic(auto, using(arraystring::proofs::Rules::counts))]
 pub fn count_digits<const N: usize>(text: &ArrayString<N>) -> u8
     ensures { result ≡ length (filter is_ascii_digit text.now.text) }
@@ -34,7 +34,7 @@ pub fn count_of(text: &str, wanted: char) -> usize
     count
 }
 
-/// Whether a text has only digits.
+/// Whether a text has only digits of ASCII, or nothing at all.
 #[tactic(auto, using(arraystring::proofs::Rules::counts))]
 pub fn is_number(text: &str) -> bool
     ensures { result ≡ list_all is_ascii_digit (chars text.now) }

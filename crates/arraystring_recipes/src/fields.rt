@@ -39,7 +39,10 @@ pub fn version(text: &str) -> Option<(&str, &str, &str)>
 /// `key` before the first one.
 #[tactic(auto, using(arraystring::proofs::Rules::fields, arraystring::proofs::Rules::borrowed))]
 pub fn value_of<'a>(line: &'a str, key: &str) -> Option<&'a str>
-    ensures value { IfSome result (λ value. chars line.now ≡ chars key.now ++ 0x3D ∷ chars value.now) }
+    ensures value { IfSome result (λ value.
+        chars line.now ≡ chars key.now ++ 0x3D ∷ chars value.now) }
+    ensures first { IfSome result (λ value. fields 0x3D (chars line.now)
+        ≡ chars key.now ∷ fields 0x3D (chars value.now)) }
     ensures none { IfNone result ((rest : List (List ℕ))
         → fields 0x3D (chars line.now) ≡ chars key.now ∷ rest → rest ≡ []) }
 {

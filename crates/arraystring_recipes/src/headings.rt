@@ -6,7 +6,8 @@ ghost use Rattle.arraystring_recipes.specs.Titles.{title, title_piece};
 use arraystring::ArrayString;
 use arraystring::laws::text_fits;
 
-/// Returns `text` with the first letter of each word in upper case, or the longest prefix of that which fits.
+/// Returns `text` with each letter from a to z in upper case that stands first or behind a space, or the longest
+/// prefix of that which fits.
 #[tactic(auto, using(arraystring::proofs::Rules::additions, arraystring::proofs::Rules::traces, arraystring::proofs::Rules::cut_pieces))]
 pub fn heading<const N: usize>(text: &str) -> ArrayString<N>
     ensures { result.text ≡ cut (title (chars text.now)) (cap N) }

@@ -9,7 +9,7 @@ use std::alloc::{AllocError, Global};
 ///
 /// # Errors
 ///
-/// Returns `Err(AllocError)` if `to_value` does.
+/// May return `Err(AllocError)`, as `to_value` may. The contract does not say when.
 pub fn sent_and_read(name: &ArrayString<32>, alloc: Global) -> Result<ArrayString<32>, AllocError>
     ensures { IfOk result (λ read. read.text ≡ name.now.text) }
 {

@@ -25,6 +25,7 @@ pub fn put_ordered(
         → ordered_under numbers.new other ≡ ordered_under numbers.old other }
     ensures refused { OnErr result (ordered_under numbers.new name.text
         ≡ ordered_under numbers.old name.text) }
+    ensures absent { OnErr result (ordered_under numbers.old name.text ≡ None) }
 {
     numbers.insert(name, number)?;
     Ok(())
@@ -55,6 +56,7 @@ pub fn count_ordered(counts: &mut BTreeMap<Name, u32>, name: Name) -> Result<(),
         → ordered_under counts.new other ≡ ordered_under counts.old other }
     ensures refused { OnErr result (ordered_under counts.new name.text
         ≡ ordered_under counts.old name.text) }
+    ensures absent { OnErr result (ordered_under counts.old name.text ≡ None) }
 {
     let count = counts.get(&name).copied().unwrap_or(0);
     counts.insert(name, count + 1)?;
@@ -88,6 +90,7 @@ pub fn put_hashed(
         → hashed_under numbers.new other ≡ hashed_under numbers.old other }
     ensures refused { OnErr result (hashed_under numbers.new name.text
         ≡ hashed_under numbers.old name.text) }
+    ensures absent { OnErr result (hashed_under numbers.old name.text ≡ None) }
 {
     numbers.insert(name, number)?;
     Ok(())
@@ -118,6 +121,7 @@ pub fn count_hashed(counts: &mut HashMap<Name, u32>, name: Name) -> Result<(), A
         → hashed_under counts.new other ≡ hashed_under counts.old other }
     ensures refused { OnErr result (hashed_under counts.new name.text
         ≡ hashed_under counts.old name.text) }
+    ensures absent { OnErr result (hashed_under counts.old name.text ≡ None) }
 {
     let count = counts.get(&name).copied().unwrap_or(0);
     counts.insert(name, count + 1)?;

@@ -2,7 +2,7 @@
 ghost use Rattle.std.specs.Prelude.{◌≡◌, ◌+◌, ◌<◌, ◌≤◌, ◌↔◌, ◌++◌, ◌∷◌, [], true, false, IsTrue, MatchOption, chars, drop, take};
 ghost use Rattle.std.specs.List.{slice_get};
 ghost use Rattle.arraystring.specs.Edits.{all_but_last};
-ghost use Rattle.arraystring.specs.Text.{size};
+ghost use Rattle.arraystring.specs.Text.{cut, size};
 ghost use Rattle.arraystring_recipes.specs.Letters.{capitalized};
 
 use arraystring::ArrayString;
@@ -64,7 +64,8 @@ pub fn last_letter(text: &str) -> Option<char>
 
 /// Appends the longest prefix of `given` that fits, and says whether that is less than all of it.
 pub fn push_is_cut(text: &mut ArrayString<16>, given: &str) -> bool
-    ensures { IsTrue result ↔ (16 < size text.old.text + size (chars given.now)) }
+    ensures text { text.new.text ≡ cut (text.old.text ++ chars given.now) 16 }
+    ensures answer { IsTrue result ↔ (16 < size text.old.text + size (chars given.now)) }
 {
     let before = text.len();
     text.push_str(given);

@@ -50,6 +50,8 @@ pub fn drop_part<const N: usize>(text: &mut ArrayString<N>, start: u8, end: u8) 
 pub fn taken_out(text: &mut ArrayString<16>, start: u8, end: u8) -> Drain<16>
     ensures text { text.new.text
         ≡ text_after_edit (draining text.old.text start end) text.old.text }
+    ensures taken { first_cause (draining text.old.text start end).tests ≡ None
+        → result.left ≡ (draining text.old.text start end).result }
     ensures refused { first_cause (draining text.old.text start end).tests ≢ None
         → result.left ≡ [] }
 {

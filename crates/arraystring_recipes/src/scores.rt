@@ -1,5 +1,5 @@
 //! Points under names, in the order of the names.
-ghost use Rattle.std.specs.Prelude.{◌≡◌, ◌≢◌, ◌⊎◌, ℕ, List, Some, IfOk, OnOk, OnErr};
+ghost use Rattle.std.specs.Prelude.{◌≡◌, ◌≢◌, ◌⊎◌, ℕ, List, None, Some, IfOk, OnOk, OnErr};
 ghost use Rattle.std.specs.List.{AllPairs};
 ghost use Rattle.arraystring.specs.Text.{IsBefore};
 ghost use Rattle.arraystring_recipes.specs.Scores.{names, points};
@@ -28,6 +28,7 @@ pub fn record(
     ensures others { (other : List ℕ)
         → other ≢ name.text → points scores.new other ≡ points scores.old other }
     ensures refused { OnErr result (points scores.new name.text ≡ points scores.old name.text) }
+    ensures absent { OnErr result (points scores.old name.text ≡ None) }
     ensures ordered { AllPairs IsBefore (names scores.new) }
 {
     let old = scores.insert(name, score);

@@ -9,8 +9,8 @@ mod checks;
 #[cfg(test)]
 mod edits;
 #[cfg(test)]
-mod kept;
-#[cfg(test)]
 mod looks;
 #[cfg(test)]
 mod made;
+#[cfg(test)]
+mod maps_and_json;

@@ -1,6 +1,6 @@
 //! Good and bad lines of scripts.
 use super::player::plays;
-use super::table::printed;
+use super::table::output_of_run;
 use arraystring_run::PlayFault;
 use std::process::Abort;
 use test_support::table::{column, rows};
@@ -11,7 +11,7 @@ use test_support::table::{column, rows};
 fn check_table(rt: &(impl Abort + AllocGlobal), table: &str) {
     for row in rows(table) {
         let script = second_line(rt, column(row, 0));
-        let wanted = printed(rt, column(row, 1), column(row, 2));
+        let wanted = output_of_run(rt, column(row, 1), column(row, 2));
         plays(rt, rt.alloc(), script.as_bytes(), Ok(()), wanted.as_bytes());
     }
 }

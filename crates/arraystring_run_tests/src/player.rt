@@ -1,5 +1,5 @@
 //! Scripts that are played and served over memory.
-use super::table::{agree, printed};
+use super::table::{agree, output_of_run};
 use arraystring_run::{PlayFault, play, serve};
 use std::alloc::Global;
 use std::io::ErrorKind;
@@ -212,7 +212,7 @@ fn the_example_cut_at_each_byte(rt: HostRuntime) {
             number = number.saturating_add(1);
         }
         if let Some(row) = cut_at(end) {
-            let wanted = printed(&rt, column(row, 1), column(row, 2));
+            let wanted = output_of_run(&rt, column(row, 1), column(row, 2));
             plays(&rt, rt.alloc(), script, Ok(()), wanted.as_bytes());
             cuts = cuts.saturating_add(1);
         } else {

@@ -1,7 +1,7 @@
 //! Runs of commands, on values worked out by hand.
 ghost use Rattle.std.specs.Prelude.{◌≤◌};
 
-use super::table::{agree, printed};
+use super::table::{agree, output_of_run};
 use arraystring::ArrayString;
 use arraystring::error::Error::{OutOfBounds, Utf8};
 use arraystring_run::{Command, Outcome, Reply, command, play, run, run_both};
@@ -158,7 +158,7 @@ fn check_printed<const N: usize>(
     for line in column(row, 1).split_terminator("; ") {
         writeln!(script, "{line}").expect(rt, "memory");
     }
-    let replies = printed(rt, column(row, 2), column(row, 3));
+    let replies = output_of_run(rt, column(row, 2), column(row, 3));
     let wanted = format!(in rt.alloc(); "done\n{replies}").expect(rt, "memory");
     let mut input = script.as_bytes();
     let mut output = Vec::new(rt.alloc());

@@ -11,7 +11,7 @@ pub(super) fn agree<T: PartialEq + Debug + Drop>(rt: &impl Abort, case: &str, ga
 
 /// What a run prints: a line for each reply, and `final` with the last text. In `replies`, `, ` is between
 /// two replies.
-pub(super) fn printed(rt: &(impl Abort + AllocGlobal), replies: &str, last: &str) -> String {
+pub(super) fn output_of_run(rt: &(impl Abort + AllocGlobal), replies: &str, last: &str) -> String {
     let mut lines = String::new(rt.alloc());
     for reply in replies.split_terminator(", ") {
         writeln!(lines, "{reply}").expect(rt, "memory for a reply");

@@ -38,13 +38,13 @@ fn json_string(rt: &(impl Abort + AllocGlobal), text: &str) -> Value {
 }
 
 /// The value of a JSON text.
-fn parsed(rt: &(impl Abort + AllocGlobal), json: &str) -> Value {
+fn value_of_json(rt: &(impl Abort + AllocGlobal), json: &str) -> Value {
     Value::from_str(rt.alloc(), json).expect(rt, "a value of the JSON text")
 }
 
 /// Asserts that the string that is read from the JSON text `given` has the text `wanted`, is written as a JSON
 /// text of `wanted`, and is read back from that.
-fn kept<S: Json>(rt: &(impl Abort + AllocGlobal), given: &Value, wanted: &str) {
+fn is_read_back<S: Json>(rt: &(impl Abort + AllocGlobal), given: &Value, wanted: &str) {
     let value = read::<S>(rt, given, wanted).value(rt.alloc());
     let value = value.expect(rt, "memory for the value");
     agree(rt, wanted, value.as_str(), Some(wanted));
@@ -69,10 +69,10 @@ fn is_printed(rt: &(impl Abort + AllocGlobal), value: &Value, wanted: &str) {
 /// Asserts that strings keep a text that is cut to their capacities.
 fn cuts_are_kept(rt: &(impl Abort + AllocGlobal), text: &str) {
     let given = json_string(rt, text);
-    kept::<ArrayString<8>>(rt, &given, prefix(text, 8));
-    kept::<ArrayString<63>>(rt, &given, prefix(text, 63));
-    kept::<ArrayString<255>>(rt, &given, prefix(text, 255));
-    kept::<CacheString>(rt, &given, prefix(text, 63));
+    is_read_back::<ArrayString<8>>(rt, &given, prefix(text, 8));
+    is_read_back::<ArrayString<63>>(rt, &given, prefix(text, 63));
+    is_read_back::<ArrayString<255>>(rt, &given, prefix(text, 255));
+    is_read_back::<CacheString>(rt, &given, prefix(text, 63));
 }
 
 /// Texts of each size up to 300 bytes, of letters and of characters of each width.
@@ -98,7 +98,7 @@ fn texts_of_each_size_are_read_back(rt: HostRuntime) {
 #[test]
 fn a_text_is_cut_to_63_bytes(rt: HostRuntime) {
     let json = "\"abcdefghijabcdefghijabcdefghijabcdefghijabcdefghijabcdefghijabcdefghij\"";
-    let value = parsed(&rt, json);
+    let value = value_of_json(&rt, json);
     let cut = "abcdefghijabcdefghijabcdefghijabcdefghijabcdefghijabcdefghijabc";
     let string = ArrayString::<63>::from_value(&value).expect(&rt, "a string of a text");
     agree(&rt, "the text", string.as_str(), cut);
@@ -108,7 +108,7 @@ fn a_text_is_cut_to_63_bytes(rt: HostRuntime) {
 
 #[test]
 fn escapes_are_characters(rt: HostRuntime) {
-    let value = parsed(&rt, "\"a\\u00e9\\n\"");
+    let value = value_of_json(&rt, "\"a\\u00e9\\n\"");
     let string = ArrayString::<8>::from_value(&value).expect(&rt, "a string of a text");
     agree(&rt, "a, é and the end of a line", string.as_str(), "aé\n");
 }
@@ -121,7 +121,7 @@ fn is_no_text<S: Json>(rt: &impl Abort, json: &str, value: &Value) {
 #[test]
 fn other_values_are_not_texts(rt: HostRuntime) {
     for json in "null true false 7 -7 0.5 1e300 [] [\"a\"] {}".split(' ') {
-        let value = parsed(&rt, json);
+        let value = value_of_json(&rt, json);
         is_no_text::<ArrayString<8>>(&rt, json, &value);
         is_no_text::<ArrayString<23>>(&rt, json, &value);
         is_no_text::<ArrayString<63>>(&rt, json, &value);
@@ -196,7 +196,7 @@ fn each_character_is_kept(rt: HostRuntime) {
 fn is_kept(rt: &(impl Abort + AllocGlobal), text: &str) {
     let written = json_string(rt, text).to_string(rt.alloc());
     let written = written.expect(rt, "memory for what is written");
-    let value = parsed(rt, written.as_str());
+    let value = value_of_json(rt, written.as_str());
     agree(rt, text, value.as_str(), Some(text));
     whole_or_refused::<ArrayString<7>>(rt, &value, text, 7);
     whole_or_refused::<ArrayString<300>>(rt, &value, text, 255);
@@ -205,7 +205,7 @@ fn is_kept(rt: &(impl Abort + AllocGlobal), text: &str) {
 
 #[test]
 fn escapes_take_the_room_of_their_characters(rt: HostRuntime) {
-    let value = parsed(&rt, "\"a\\u00e9\\n\\ud83e\\udd14\"");
+    let value = value_of_json(&rt, "\"a\\u00e9\\n\\ud83e\\udd14\"");
     whole_or_refused::<ArrayString<8>>(&rt, &value, "aé\n🤔", 8);
     whole_or_refused::<ArrayString<7>>(&rt, &value, "aé\n🤔", 7);
 }
@@ -213,7 +213,7 @@ fn escapes_take_the_room_of_their_characters(rt: HostRuntime) {
 #[test]
 fn what_is_no_text_has_its_own_refusal(rt: HostRuntime) {
     for json in "null true false 7 -7 0.5 1e300 [] [\"a\"] {} {\"a\":\"a\"}".split(' ') {
-        let value = parsed(&rt, json);
+        let value = value_of_json(&rt, json);
         let string = ArrayString::<63>::try_from_value(&value);
         agree(&rt, json, string, Err(ValueError::NotText));
         let cached = CacheString::try_from_value(&value);

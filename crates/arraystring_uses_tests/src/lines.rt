@@ -6,6 +6,7 @@ use arraystring_uses::greeting::greet;
 use arraystring_uses::log_line::{Level, log_line};
 use arraystring_uses::pair::{line_of, pair, pair_of, split_value, there_and_back};
 use arraystring_uses::quotes::{quoted, replaced};
+use test_support::equality::first_mistaken;
 
 #[test]
 fn a_greeting_is_cut(rt: HostRuntime) {
@@ -22,15 +23,7 @@ fn a_greeting_is_cut(rt: HostRuntime) {
 #[test]
 fn each_level_is_equal_to_itself_alone(rt: HostRuntime) {
     let levels = [Level::Info, Level::Warning, Level::Failure];
-    for (at, one) in levels.iter().enumerate() {
-        for (place, other) in levels.iter().enumerate() {
-            agree(
-                &rt,
-                (one == other, one != other),
-                (at == place, at != place),
-            );
-        }
-    }
+    agree(&rt, first_mistaken(&levels), None);
 }
 
 #[test]

@@ -136,38 +136,6 @@ fn check_first(rt: &impl Abort, users: &Directory, count: u8) {
     agree(rt, all.next(), None);
 }
 
-/// In a directory of each size, each user is renamed to a free name and back. A rename to a taken name, and a
-/// rename of a missing user, are refused. All users are dumped, and at last struck off.
-#[test]
-fn directories_of_each_size(rt: HostRuntime) {
-    let mut users = Directory::new(rt.alloc());
-    let free = numbered(COUNT).username;
-    for number in 0..COUNT {
-        let given = numbered(number);
-        let entered = enter(&mut users, given);
-        agree(&rt, entered, Ok(Some(given.role)));
-        for from in 0..=number {
-            let name = numbered(from).username;
-            let taken = rename(&mut users, &name, given.username);
-            agree(&rt, taken, Err(NotRenamed::Taken));
-            agree(&rt, rename(&mut users, &name, free), Ok(()));
-            let missing = rename(&mut users, &name, given.username);
-            agree(&rt, missing, Err(NotRenamed::Missing));
-            agree(&rt, rename(&mut users, &free, name), Ok(()));
-        }
-        check_first(&rt, &users, number + 1);
-        let all = dump(&users, rt.alloc()).expect(&rt, "memory for the users");
-        agree(&rt, all.len(), number as usize + 1);
-        agree(&rt, all.last(), Some(&given));
-    }
-    for number in 0..COUNT {
-        let name = numbered(number).username;
-        agree(&rt, strike_off(&mut users, &name), true);
-        agree(&rt, strike_off(&mut users, &name), false);
-    }
-    agree(&rt, users.is_empty(), true);
-}
-
 /// Memory grows from none in small steps. A growth of the directory is refused until there is memory for it.
 /// If a user is refused, a rename of the last user to the name of this user is refused, too.
 #[test]

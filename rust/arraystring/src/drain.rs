@@ -6,7 +6,7 @@ use core::iter::FusedIterator;
 use crate::proved::string as core_of;
 
 /// The characters that [`ArrayString::drain`](crate::ArrayString::drain) removed. They are gone from the string at once, and a `Drain`
-/// borrows nothing.
+/// borrows nothing. As an iterator of std it is not `Copy`, so that rustc refuses to walk it twice.
 ///
 /// ```
 /// use arraystring::{ArrayString, Error};
@@ -17,7 +17,7 @@ use crate::proved::string as core_of;
 /// assert_eq!(string, "c");
 /// # Ok::<(), Error>(())
 /// ```
-#[derive(Clone, Copy, Default, PartialEq, Eq, PartialOrd, Ord, Hash)]
+#[derive(Clone, Default, PartialEq, Eq, PartialOrd, Ord, Hash)]
 pub struct Drain<const N: usize>(pub(crate) core_of::Drain<N>);
 
 impl<const N: usize> Drain<N> {

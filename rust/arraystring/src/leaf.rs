@@ -1,8 +1,8 @@
 //! By hand, as no other file of the core is: what the proved code does without a test of bounds.
 //!
-//! Each function has the name and the contract of one in crates/arraystring_base/src/leaf.rt. Of each call in `proved` it is proved that it
-//! keeps what the contract requires. Here that is asserted with debug assertions, with the feature `checked`, and where a `usize` has not
-//! the 64 bits of the proofs.
+//! Each function but `value` and `part_mut` has the name and the contract of one in crates/arraystring_base/src/leaf.rt. Of each call in
+//! `proved` it is proved that it keeps what the contract requires. Here that is asserted with debug assertions, with the feature `checked`,
+//! and where a `usize` has not the 64 bits of the proofs.
 
 use core::mem::MaybeUninit;
 use core::{ptr, slice};

@@ -48,6 +48,7 @@ pub use drain::Drain;
 pub use error::{Error, OutOfBounds, Utf8, Utf16};
 pub use string::ArrayString;
 
+#[doc = "[Refusals and cuts]: crate#refusals-and-cuts\n"]
 #[doc = include_str!("../MOVING.md")]
 pub mod moving {}
 

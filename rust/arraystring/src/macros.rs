@@ -31,7 +31,7 @@ use crate::{ArrayString, OutOfBounds};
 /// ```
 #[macro_export]
 macro_rules! arraystring {
-    ($text:expr) => {
+    ($text:expr $(,)?) => {
         const { $crate::ArrayString::of_constant($text) }
     };
 }

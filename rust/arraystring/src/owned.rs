@@ -8,6 +8,7 @@ use alloc::borrow::Cow;
 use alloc::boxed::Box;
 use alloc::rc::Rc;
 use alloc::string::String;
+#[cfg(target_has_atomic = "ptr")]
 use alloc::sync::Arc;
 use alloc::vec::Vec;
 
@@ -47,9 +48,14 @@ impl_from_string! {
     &ArrayString<N> => String: as_str;
     ArrayString<N> => Box<str>: as_str;
     ArrayString<N> => Rc<str>: as_str;
-    ArrayString<N> => Arc<str>: as_str;
     ArrayString<N> => Vec<u8>: as_bytes;
     &ArrayString<N> => Vec<u8>: as_bytes;
+}
+
+// (std has `Arc` only where a pointer can be changed in one atomic step)
+#[cfg(target_has_atomic = "ptr")]
+impl_from_string! {
+    ArrayString<N> => Arc<str>: as_str;
 }
 
 impl<const N: usize> From<ArrayString<N>> for Cow<'_, str> {

@@ -144,7 +144,12 @@ impl<const N: usize> ArrayString<N> {
     #[doc(alias = "extend")]
     #[inline]
     pub fn extend_chars_truncate(&mut self, characters: impl IntoIterator<Item = char>) -> bool {
-        characters.into_iter().any(|ch| self.try_push(ch).is_err())
+        for ch in characters {
+            if self.try_push(ch).is_err() {
+                return true;
+            }
+        }
+        false
     }
 
     /// Appends the pieces, one behind the other, up to the last whole character that fits, and returns whether something did not fit. The
@@ -159,7 +164,12 @@ impl<const N: usize> ArrayString<N> {
     #[doc(alias = "extend")]
     #[inline]
     pub fn extend_strs_truncate(&mut self, pieces: impl IntoIterator<Item = impl AsRef<str>>) -> bool {
-        pieces.into_iter().any(|piece| !self.push_str_truncate(piece.as_ref()).is_empty())
+        for piece in pieces {
+            if !self.push_str_truncate(piece.as_ref()).is_empty() {
+                return true;
+            }
+        }
+        false
     }
 }
 

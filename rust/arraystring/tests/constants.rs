@@ -104,7 +104,7 @@ fn the_capacity_is_that_of_the_type() {
     const GREETING: ArrayString<8> = arraystring!("hello");
     static KEY: CacheString = arraystring!(concat!("user:", 42));
     const NAMES: [SmallString; 2] = [arraystring!("aé"), arraystring!("€🤔")];
-    const LARGEST: MaxString = arraystring!(prefix::<255, 0>(300));
+    const LARGEST: MaxString = arraystring!(prefix::<255, 0>(300),);
     const NONE: ArrayString<0> = arraystring!("");
     struct Row {
         name: ArrayString<5>,

@@ -113,30 +113,6 @@ fn each_refusal_has_its_section() {
     assert_eq!(panicking.iter().map(|(module, _)| module.as_str()).collect::<Vec<_>>(), ["lent"]);
 }
 
-/// The names that the tests of a folder have in their code.
-fn tried(folder: &Path, names: &mut BTreeSet<String>) {
-    for path in fs::read_dir(folder).expect("a folder").map(|entry| entry.expect("an entry").path()) {
-        if path.is_dir() {
-            tried(&path, names);
-        } else if !path.ends_with("documentation.rs") {
-            let text = fs::read_to_string(path).expect("a text");
-            let lines = text.lines().filter(|line| !line.trim_start().starts_with("//"));
-            let words = lines.flat_map(|line| line.split(|ch: char| !ch.is_alphanumeric() && ch != '_'));
-            names.extend(words.map(str::to_string));
-        }
-    }
-}
-
-/// Those that are not are of a feature over another crate: the repository tries them in `rust/with_features`.
-#[test]
-fn each_call_is_tried_by_a_test() {
-    let mut names = BTreeSet::new();
-    tried(Path::new("tests"), &mut names);
-    let untried: Vec<_> =
-        calls().into_iter().filter(|call| !names.contains(&call.name)).map(|call| call.name).collect();
-    assert_eq!(untried, ["serialize", "deserialize"]);
-}
-
 /// The constructors come first, and what most programs do without comes last.
 #[test]
 fn the_reference_begins_with_what_most_programs_need() {

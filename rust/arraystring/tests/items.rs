@@ -6,7 +6,7 @@ use std::cell::Cell;
 use std::iter;
 
 use arraystring::{ArrayString, OutOfBounds};
-use inputs::{Told, at_capacities, behind, edges, hints, kept, letters, texts_of, with_empty_ones};
+use inputs::{Told, at_capacities, behind, edges, hints, kept_and_taken, letters, texts_of, with_empty_ones};
 
 mod inputs;
 
@@ -28,7 +28,7 @@ fn taken<T>(items: Any<T>, hint: Hint, call: impl FnOnce(Told<Any<T>>) -> Result
 
 /// Asserts what the calls that refuse and those that cut take of items, of which these are the texts, and what they leave of a string.
 fn are_left<const N: usize>(string: &ArrayString<N>, [whole, cut]: [(&ArrayString<N>, Taken); 2], texts: &[&str]) {
-    let (added, asked) = kept(texts.iter().copied(), N - string.len());
+    let (added, asked) = kept_and_taken(texts.iter().copied(), N - string.len());
     let is_whole = added == texts.concat();
     let returned = if is_whole { [Ok(false), Ok(false)] } else { [Err(OutOfBounds), Ok(true)] };
     assert_eq!([whole.1, cut.1], returned.map(|returned| (returned, asked)), "{string} {texts:?} at {N}");

@@ -81,7 +81,7 @@ fn refused<T: Debug>(call: impl FnOnce() -> T) {
 }
 
 /// Places past `len`: the first one, and some others.
-fn past(len: usize) -> impl Iterator<Item = usize> {
+fn places_past(len: usize) -> impl Iterator<Item = usize> {
     [len + 1, len + 16].into_iter().chain(PAST)
 }
 
@@ -125,7 +125,7 @@ fn one_byte_is_read() {
         for at in (0..len).filter(|at| len <= MOST || places(len).contains(at)) {
             assert_eq!((byte(&given, at), byte(&all, at)), (given[at], given[at]));
         }
-        for at in past(len).chain([len]) {
+        for at in places_past(len).chain([len]) {
             refused(|| byte(&given, at));
             refused(|| byte(&all, at));
         }
@@ -147,7 +147,7 @@ fn a_part_is_borrowed_and_its_letters_are_turned() {
             count += 1;
         }
         for start in ends(len) {
-            for past in past(len) {
+            for past in places_past(len) {
                 refused(|| part_of_length(&all, start, past - start));
                 refused(|| part_of_length(&all, past, start));
                 refused(|| uppercase_between(&mut all, start, past));
@@ -183,7 +183,7 @@ fn a_few_bytes_are_read_and_written() {
                 changes(len, |all| put_array(all, at, new), |all| all[at..at + K].copy_from_slice(&new));
                 changes(len, |all| put_vector(all, at, new_places), |all| all[at..at + K].copy_from_slice(&new));
             }
-            for at in past(len.saturating_sub(K)).chain((K > len).then_some(0)) {
+            for at in places_past(len.saturating_sub(K)).chain((K > len).then_some(0)) {
                 // (no bytes are within at the end of a slice, and nowhere else past its last one)
                 if K > 0 || at > len {
                     refused(|| vector_at::<K>(&given, at));
@@ -219,7 +219,7 @@ fn any_number_of_bytes_is_written() {
             refused(|| write_bytes(&mut all, &given[..len - at + 1], at));
             refused(|| write_bytes(&mut all, &given, at));
         }
-        for at in past(len) {
+        for at in places_past(len) {
             refused(|| write_bytes(&mut all, &[], at));
             refused(|| write_bytes(&mut all, &[1], at));
         }
@@ -240,7 +240,7 @@ fn any_run_of_an_array_is_moved() {
         }
         let mut all: [MaybeByte; N] = written(&bytes(N)).try_into().expect("N places");
         for run in ends(N) {
-            for past in past(N - run) {
+            for past in places_past(N - run) {
                 refused(|| move_on_cold_path(&mut all, 0, past, run));
                 refused(|| move_on_cold_path(&mut all, past, 0, run));
             }
@@ -272,7 +272,7 @@ fn a_long_run_is_moved() {
                 if !(16..=N).contains(&run) {
                     refused(|| move_16_or_more::<N>(&mut all, 0, len - run, run));
                 }
-                for past in past(len - run) {
+                for past in places_past(len - run) {
                     refused(|| move_16_or_more::<N>(&mut all, 0, past, run));
                     refused(|| move_16_or_more::<N>(&mut all, past, 0, run));
                 }

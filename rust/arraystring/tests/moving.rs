@@ -71,13 +71,14 @@ fn the_calls_that_cut() {
     let _: fn(&mut Text, Vec<String>) -> bool = Text::extend_strs_truncate;
 }
 
-fn is_handed_on<T: Copy + Send + Sync + Unpin>() {}
+fn is_sent<T: Clone + Send + Sync + Unpin>() {}
+
+fn is_copied<T: Copy>() {}
 
 #[test]
-fn all_types_are_copied_and_sent() {
-    is_handed_on::<Text>();
-    is_handed_on::<Drain<23>>();
-    is_handed_on::<(Error, OutOfBounds, Utf8, Utf16)>();
+fn all_types_are_sent_and_all_but_a_drain_are_copied() {
+    is_sent::<(Text, Drain<23>, Error, OutOfBounds, Utf8, Utf16)>();
+    is_copied::<(Text, Error, OutOfBounds, Utf8, Utf16)>();
 }
 
 #[test]

@@ -7,7 +7,7 @@ use std::ops::{Bound, RangeBounds};
 use std::panic::{AssertUnwindSafe, catch_unwind, resume_unwind};
 
 use arraystring::{ArrayString, Error};
-use inputs::{behind, kept};
+use inputs::{behind, kept_and_taken};
 
 mod inputs;
 
@@ -264,7 +264,7 @@ fn the_making_or_the_drop_of_an_iterator_panics() {
     let all = ["a", "é", "", "€b"];
     for (count, before) in (0..=all.len()).flat_map(|count| ["", "é", "éé"].map(|before| (count, before))) {
         let items = &all[..count];
-        let added = kept(items.iter().copied(), 8 - before.len()).0;
+        let added = kept_and_taken(items.iter().copied(), 8 - before.len()).0;
         for is_made in [false, true] {
             let source = Source { items, is_made };
             let cut = if is_made { format!("{before}{added}") } else { before.to_string() };

@@ -1,8 +1,9 @@
 //! The part of a text in a range of bytes, taken out as a `Drain`.
-ghost use Rattle.std.specs.Prelude.{◌≡◌, ◌≢◌, ◌+◌, ◌-◌, ◌^◌, ◌≤◌, ◌++◌, min, IsTrue, OnOk, OnErr};
-ghost use Rattle.arraystring_base.specs.Text.{size, front, back, boundary};
+ghost use Rattle.std.specs.Prelude.{◌≡◌, ◌≢◌, ◌+◌, ◌-◌, ◌^◌, ◌≤◌, min, IsTrue, OnOk, OnErr};
+ghost use Rattle.arraystring_base.specs.Text.{size, boundary};
 ghost use Rattle.arraystring_core.specs.RangeEnds.{HoldsOfReturnedBounds, saturated_start, saturated_end};
 ghost use Rattle.arraystring_core.specs.Drained.{drain_result_as_text};
+ghost use Rattle.arraystring_core.specs.Splice.{RemovesPartCountingMoves};
 ghost use Rattle.arraystring_core.specs.Edits.{Makes, draining};
 
 use crate::range_ends::saturating_ends;
@@ -109,13 +110,8 @@ impl<const N: usize> ArrayString<N> {
         requires start { IsTrue (boundary self.old.text start) }
         requires end { IsTrue (boundary self.old.text end) }
         requires countable { steps.old.moved ≤ 2 ^ 63 }
-        ensures text { self.new.text ≡ front self.old.text start ++ back self.old.text end }
-        ensures free { start ≡ 0 → steps.new.moved ≡ steps.old.moved }
-        ensures tail_alone { steps.new.moved ≤ steps.old.moved + (size self.old.text - end) }
-        ensures least { start ≢ end
-            → steps.old.moved + min start (size self.old.text - end) ≤ steps.new.moved }
-        ensures counted { steps.old.moved ≤ steps.new.moved }
-        ensures looked { steps.new.looked ≡ steps.old.looked }
+        ensures { RemovesPartCountingMoves self.old.text start end self.new.text
+            steps.old steps.new }
     {
         if N <= 32 || start == 0 {
             return self.remove_range(start, end, steps);
@@ -131,13 +127,8 @@ impl<const N: usize> ArrayString<N> {
         requires start { IsTrue (boundary self.old.text start) }
         requires end { IsTrue (boundary self.old.text end) }
         requires countable { steps.old.moved ≤ 2 ^ 63 }
-        ensures text { self.new.text ≡ front self.old.text start ++ back self.old.text end }
-        ensures free { start ≡ 0 → steps.new.moved ≡ steps.old.moved }
-        ensures tail_alone { steps.new.moved ≤ steps.old.moved + (size self.old.text - end) }
-        ensures least { start ≢ end
-            → steps.old.moved + min start (size self.old.text - end) ≤ steps.new.moved }
-        ensures counted { steps.old.moved ≤ steps.new.moved }
-        ensures looked { steps.new.looked ≡ steps.old.looked }
+        ensures { RemovesPartCountingMoves self.old.text start end self.new.text
+            steps.old steps.new }
     {
         self.remove_range(start, end, steps);
     }

@@ -1,7 +1,8 @@
 //! What is removed from a string: a character at the end or at an index, the text from an index on, all of
 //! it. The private calls remove a part, a front or an end of the text.
-ghost use Rattle.std.specs.Prelude.{◌≡◌, ◌≢◌, ◌+◌, ◌-◌, ◌^◌, ◌<◌, ◌≤◌, min, Ok, OnErr, IfOk, IfSome, ◌++◌, IsTrue, slice_index, drop};
+ghost use Rattle.std.specs.Prelude.{◌≡◌, ◌+◌, ◌-◌, ◌^◌, ◌<◌, ◌≤◌, min, Ok, OnErr, IfOk, IfSome, ◌++◌, IsTrue, slice_index, drop};
 ghost use Rattle.arraystring_base.specs.Text.{size, width, front, back, boundary};
+ghost use Rattle.arraystring_core.specs.Splice.{RemovesPartCountingMoves};
 ghost use Rattle.arraystring_core.specs.Edits.{Makes, popping, map_err_from_utf8, string_result_as_text, truncation, removal, clearing, split};
 
 use crate::ArrayString;
@@ -202,13 +203,8 @@ impl<const N: usize> ArrayString<N> {
         requires start { IsTrue (boundary self.old.text start) }
         requires end { IsTrue (boundary self.old.text end) }
         requires countable { steps.old.moved ≤ 2 ^ 63 }
-        ensures text { self.new.text ≡ front self.old.text start ++ back self.old.text end }
-        ensures free { start ≡ 0 → steps.new.moved ≡ steps.old.moved }
-        ensures tail_alone { steps.new.moved ≤ steps.old.moved + (size self.old.text - end) }
-        ensures least { start ≢ end
-            → steps.old.moved + min start (size self.old.text - end) ≤ steps.new.moved }
-        ensures counted { steps.old.moved ≤ steps.new.moved }
-        ensures looked { steps.new.looked ≡ steps.old.looked }
+        ensures { RemovesPartCountingMoves self.old.text start end self.new.text
+            steps.old steps.new }
     {
         if start == 0 {
             return self.drop_front(end);

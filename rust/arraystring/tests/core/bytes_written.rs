@@ -83,7 +83,7 @@ fn put<const N: usize>(string: &ArrayString<N>, at: usize, replaced: usize, put:
     }
 }
 
-fn appended<const N: usize>() {
+fn append_to_each<const N: usize>() {
     for string in strings::<N>() {
         let (len, room) = (string.as_str().len(), room_in(&string));
         for given in given(&string) {
@@ -117,7 +117,7 @@ fn appended<const N: usize>() {
     }
 }
 
-fn inserted<const N: usize>() {
+fn insert_into_each<const N: usize>() {
     for string in strings::<N>() {
         let room = room_in(&string);
         for at in boundaries(string.as_str()) {
@@ -142,7 +142,7 @@ fn inserted<const N: usize>() {
 }
 
 /// What is removed at the front raises the start offset, and what is removed at the end lowers the size: no byte is written.
-fn removed<const N: usize>() {
+fn remove_from_each<const N: usize>() {
     for string in strings::<N>() {
         let (offset, len) = (start(&string), string.as_str().len());
         let none = |place: usize, name: &str, edit: Edit<N>| edited(&string, place, 0..0, name, edit);
@@ -174,7 +174,7 @@ fn removed<const N: usize>() {
 }
 
 /// What is kept moves no further to the front than to the start of the text.
-fn retained<const N: usize>() {
+fn retain_in_each<const N: usize>() {
     for string in strings::<N>() {
         let offset = start(&string);
         for pattern in 1..8 {
@@ -194,7 +194,7 @@ fn retained<const N: usize>() {
     }
 }
 
-fn replaced<const N: usize>() {
+fn replace_in_each<const N: usize>() {
     for string in strings::<N>() {
         let boundaries = boundaries(string.as_str());
         for (at, end) in
@@ -224,9 +224,9 @@ macro_rules! each_moves_what_it_has_to {
 }
 
 each_moves_what_it_has_to! {
-    an_append_copies_what_is_given_where_there_is_room_behind appended
-    an_insertion_moves_what_is_behind_it_where_there_is_room_behind inserted
-    a_removal_moves_what_is_behind_it_or_nothing removed
-    what_is_kept_moves_to_the_front_of_the_text retained
-    a_replacement_moves_what_is_behind_it_where_there_is_room_behind replaced
+    an_append_copies_what_is_given_where_there_is_room_behind append_to_each
+    an_insertion_moves_what_is_behind_it_where_there_is_room_behind insert_into_each
+    a_removal_moves_what_is_behind_it_or_nothing remove_from_each
+    what_is_kept_moves_to_the_front_of_the_text retain_in_each
+    a_replacement_moves_what_is_behind_it_where_there_is_room_behind replace_in_each
 }

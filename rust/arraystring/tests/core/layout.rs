@@ -26,7 +26,7 @@ fn drawn_row(string: &ArrayString<8>) -> String {
 }
 
 /// How many bytes of a text of different letters are at another offset after an edit.
-fn moved(before: &ArrayString<8>, after: &ArrayString<8>) -> usize {
+fn count_moved_bytes(before: &ArrayString<8>, after: &ArrayString<8>) -> usize {
     let place = |string: &ArrayString<8>, letter| string.as_str().find(letter).map(|index| start(string) + index);
     let has_moved = |letter: &char| place(after, *letter).is_some_and(|at| place(before, *letter) != Some(at));
     before.as_str().chars().filter(has_moved).count()
@@ -39,7 +39,7 @@ fn drawing(text: &str, edits: &[(&str, Edit)]) -> String {
     for (name, edit) in edits {
         let before = string;
         edit(&mut string);
-        lines += &format!("{name:26}{}{:8}\n", drawn_row(&string), moved(&before, &string));
+        lines += &format!("{name:26}{}{:8}\n", drawn_row(&string), count_moved_bytes(&before, &string));
     }
     lines
 }

@@ -222,7 +222,7 @@ fn drains_of_a_part_are_ordered_alike() {
 }
 
 /// A drain of all of a text.
-fn drained(text: &str) -> Drain<255> {
+fn drain_of(text: &str) -> Drain<255> {
     let mut string = ArrayString::<255>::from(text);
     string.drain(..).expect("all of it")
 }
@@ -237,9 +237,9 @@ fn drains_are_ordered_at_each_length() {
         places.retain(|place| *place < len);
         for place in places {
             let texts = (&*with(&text, place, '\0'), &*with(&text, place, '\u{7F}'));
-            are_ordered(&drained(texts.0), &drained(texts.1), texts);
-            are_ordered(&drained(texts.0), &drained(texts.0), (texts.0, texts.0));
-            are_ordered(&drained(&text[..place]), &drained(texts.0), (&text[..place], texts.0));
+            are_ordered(&drain_of(texts.0), &drain_of(texts.1), texts);
+            are_ordered(&drain_of(texts.0), &drain_of(texts.0), (texts.0, texts.0));
+            are_ordered(&drain_of(&text[..place]), &drain_of(texts.0), (&text[..place], texts.0));
             count += 1;
         }
     }

@@ -145,6 +145,11 @@ impl<I: Iterator> Iterator for Told<'_, I> {
     fn size_hint(&self) -> (usize, Option<usize>) {
         self.hint
     }
+
+    /// It does not stop at the first item for which `asks` says so, as it should: what is taken may not hang on a caller's `any`.
+    fn any<F: FnMut(I::Item) -> bool>(&mut self, mut asks: F) -> bool {
+        self.by_ref().fold(false, |is_any, item| asks(item) || is_any)
+    }
 }
 
 /// Pieces as they are, and with empty ones before, between and behind them: one, and more.
@@ -161,7 +166,7 @@ pub fn with_empty_ones<'a>(pieces: &[&'a str]) -> [Vec<&'a str>; 5] {
 
 /// What is kept of pieces that are added where there is room for so many bytes, and how many are taken: all to the first that does
 /// not fit, which is cut.
-pub fn kept<'a>(pieces: impl IntoIterator<Item = &'a str>, room: usize) -> (String, usize) {
+pub fn kept_and_taken<'a>(pieces: impl IntoIterator<Item = &'a str>, room: usize) -> (String, usize) {
     let (mut text, mut taken) = (String::new(), 0);
     for piece in pieces {
         taken += 1;

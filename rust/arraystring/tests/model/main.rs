@@ -334,9 +334,9 @@ fn ranges_of_std_are_taken() {
     at::<255>();
 }
 
-/// The public calls of the type that the sources have.
+/// The public calls of a string and of a drain that the sources have.
 fn public_calls() -> BTreeSet<String> {
-    let files = ["string", "construct", "edit", "whole", "unchecked", "lent", "macros"];
+    let files = ["string", "construct", "edit", "whole", "unchecked", "lent", "macros", "drain"];
     let sources: String = files.map(|file| fs::read_to_string(format!("src/{file}.rs")).expect("a text")).concat();
     let functions =
         sources.split("    pub ").skip(1).map(|item| item.trim_start_matches("const ").trim_start_matches("unsafe "));

@@ -62,7 +62,7 @@ fn each_build_has_these() {
         Name: Eq; Name: Ord; Name: Hash; Name: PartialEq<str>; Name: PartialEq<&'static str>; str: PartialEq<Name>;
         &'static str: PartialEq<Name>; Name: PartialOrd<str>; Name: PartialOrd<&'static str>;
         Name: Send; Name: Sync; Name: Unpin; Name: UnwindSafe; Name: RefUnwindSafe;
-        Drain<8>: Copy; Drain<8>: Default; Drain<8>: Debug; Drain<8>: Iterator<Item = char>; Drain<8>: FusedIterator;
+        Drain<8>: Clone; Drain<8>: Default; Drain<8>: Debug; Drain<8>: Iterator<Item = char>; Drain<8>: FusedIterator;
         Drain<8>: DoubleEndedIterator; Drain<8>: Eq; Drain<8>: Ord; Drain<8>: Hash; Drain<8>: Send; Drain<8>: Sync;
         Error: Copy; Error: Debug; Error: Display; Error: Eq; Error: Hash; Error: StdError; Error: Send; Error: Sync;
         Utf8: Copy; Utf8: Default; Utf8: Debug; Utf8: Display; Utf8: Eq; Utf8: Hash; Utf8: StdError;
@@ -86,7 +86,7 @@ fn no_build_has_these() {
         Name: Extend<char>; Name: Extend<&'static char>; Name: Extend<&'static str>; Name: Extend<String>;
         Name: Extend<Box<str>>; Name: Extend<Cow<'static, str>>; Name: Extend<Name>; Name: Extend<&'static Name>;
         Name: Add<&'static str>; Name: Add<Name>; Name: AddAssign<&'static str>; Name: AddAssign<char>;
-        Name: Index<usize>; Name: Index<Range<u8>>; Name: AsMut<[u8]>; Name: AsRef<String>; Name: Borrow<[u8]>;
+        Drain<8>: Copy; Name: Index<usize>; Name: Index<Range<u8>>; Name: AsMut<[u8]>; Name: AsRef<String>; Name: Borrow<[u8]>;
         str: PartialOrd<Name>; &'static str: PartialOrd<Name>; String: PartialOrd<Name>; String: Add<Name>;
         Box<str>: From<&'static Name>; Rc<str>: From<&'static Name>; Arc<str>: From<&'static Name>;
         Error: From<TryFromIntError>; OutOfBounds: From<TryFromIntError>; fmt::Error: From<Error>;

@@ -20,7 +20,7 @@ fn shows<const N: usize>(string: &ArrayString<N>, text: &str) {
 
 #[test]
 fn what_a_string_shows() {
-    fn shown<const N: usize>() -> MadeAndWanted {
+    fn show_each_case<const N: usize>() -> MadeAndWanted {
         let mut made = 0;
         for case in cases::<N>(&WIDTHS) {
             for string in &case.strings {
@@ -31,7 +31,7 @@ fn what_a_string_shows() {
         assert_eq!((ArrayString::<N>::new().as_str(), ArrayString::<N>::default().as_str()), ("", ""));
         (made, total::<N>(&WIDTHS))
     }
-    at_each_capacity!(shown);
+    at_each_capacity!(show_each_case);
 }
 
 #[test]

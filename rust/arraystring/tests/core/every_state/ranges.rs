@@ -62,7 +62,7 @@ fn capitals_between_two_bounds() {
 
 #[test]
 fn drains_between_two_bounds() {
-    fn drained<const N: usize>() -> MadeAndWanted {
+    fn drain_each_case<const N: usize>() -> MadeAndWanted {
         let mut made = 0;
         for case in cases::<N>(&WIDTHS) {
             for range in ranges(N) {
@@ -72,7 +72,7 @@ fn drains_between_two_bounds() {
         }
         (made, total::<N>(&WIDTHS) * range_count(N))
     }
-    at_each_capacity!(drained);
+    at_each_capacity!(drain_each_case);
 }
 
 #[test]
@@ -132,7 +132,7 @@ fn gives(items: &mut dyn Iterator<Item = char>, wanted: impl Iterator<Item = cha
 }
 
 /// Takes what is left of a drain from both ends in every order, and says how many drains that are.
-fn walked<const N: usize>(drain: Drain<N>, left: &str) -> usize {
+fn count_walks<const N: usize>(drain: Drain<N>, left: &str) -> usize {
     assert_eq!(drain.as_str().as_bytes(), left.as_bytes());
     assert_eq!(format!("{drain:?}"), format!("Drain({left:?})"));
     assert!(gives(&mut { drain }, left.chars()) && gives(&mut drain.rev(), left.chars().rev()), "{left:?}");
@@ -143,7 +143,7 @@ fn walked<const N: usize>(drain: Drain<N>, left: &str) -> usize {
         assert_eq!((front.next_back(), back.next(), front.as_str(), back.as_str()), (None, None, "", ""));
         return 1;
     }
-    1 + walked(front, chars.as_str()) + walked(back, backwards.as_str())
+    1 + count_walks(front, chars.as_str()) + count_walks(back, backwards.as_str())
 }
 
 #[test]
@@ -156,7 +156,7 @@ fn every_walk_of_a_drain() {
                 let Some(part) = case.text.get(range.start.into()..range.end.into()) else { continue };
                 for string in &case.strings {
                     let drain = { *string }.drain(range.clone()).expect("a part");
-                    made += walked(drain, part);
+                    made += count_walks(drain, part);
                 }
             }
             // A part of so many characters begins at so many places, and each character is taken from one of two ends.

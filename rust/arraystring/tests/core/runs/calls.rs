@@ -136,7 +136,7 @@ pub fn at_an_index<const N: usize>() -> Calls<N> {
 }
 
 /// What a drain gives from both ends, by the bits of a number, beside the characters of a text.
-fn walked<const N: usize>(mut drain: Drain<N>, removed: &str, ends: usize) -> Result<(), String> {
+fn walk<const N: usize>(mut drain: Drain<N>, removed: &str, ends: usize) -> Result<(), String> {
     told(given_by(drain), removed)?;
     told(drain.rev().collect::<String>(), removed.chars().rev().collect::<String>())?;
     let (mut chars, all) = (removed.chars(), drain);
@@ -168,7 +168,7 @@ pub fn on_a_range<const N: usize>() -> Calls<N> {
             told(part.map(|()| s.make_ascii_lowercase_in(given.range)), part)
         }),
         ("drain", |s, m, given| match (s.drain(given.range), m.drain(given.range)) {
-            (Ok(drain), Ok(removed)) => walked(drain, &removed, given.index.into()),
+            (Ok(drain), Ok(removed)) => walk(drain, &removed, given.index.into()),
             (drain, removed) => told(drain.err(), removed.err()),
         }),
         ("replace_range", |s, m, given| {

@@ -110,13 +110,13 @@ fn order_at<const N: usize>(row: &str, index: usize) -> usize {
         assert_eq!(Ord::cmp(&other, &moved), other.len().cmp(&moved.len()), "{row}");
         assert_eq!(other == moved, other.len() == moved.len(), "{row}");
         if size < 64 {
-            is_less(row, &drained(one), &drained(moved));
+            is_less(row, &drain_all(one), &drain_all(moved));
         }
     }
     room + 1
 }
 
-fn drained<const N: usize>(mut string: ArrayString<N>) -> Drain<N> {
+fn drain_all<const N: usize>(mut string: ArrayString<N>) -> Drain<N> {
     string.drain(..).expect("all of it")
 }
 
@@ -170,7 +170,7 @@ pub fn walks(table: &Table) -> usize {
         .inspect(|row| {
             let text = column(row, 1);
             for choice in 0..parsed::<u32>(row, 0) {
-                let (mut drain, mut wanted) = (drained(ArrayString::<23>::from(text)), text.chars());
+                let (mut drain, mut wanted) = (drain_all(ArrayString::<23>::from(text)), text.chars());
                 for step in 0..text.chars().count() {
                     let debugged = format!("Drain({:?})", wanted.as_str());
                     assert_eq!((drain.as_str(), format!("{drain:?}")), (wanted.as_str(), debugged), "{row}");
@@ -195,10 +195,10 @@ pub fn walks(table: &Table) -> usize {
 /// With no text, the step is one of the drain that the row above left, and first of a default drain. With no result, it gives
 /// no character.
 pub fn drains(table: &Table) -> usize {
-    at_capacity!(table.capacity(), walked, &table.text)
+    at_capacity!(table.capacity(), walk_drains, &table.text)
 }
 
-fn walked<const N: usize>(table: &str) -> usize {
+fn walk_drains<const N: usize>(table: &str) -> usize {
     let mut drain = Drain::<N>::default();
     rows(table)
         .inspect(|row| {
@@ -236,7 +236,7 @@ pub fn drain_comparisons(table: &Table) -> usize {
 fn left(written: &str) -> Drain<8> {
     let (before, rest) = written.split_once('[').expect("where it begins");
     let (inside, after) = rest.split_once(']').expect("where it ends");
-    let mut drain = drained(ArrayString::from_iterator([before, inside, after]));
+    let mut drain = drain_all(ArrayString::from_iterator([before, inside, after]));
     if !before.is_empty() {
         drain.next();
     }
