@@ -30,10 +30,11 @@ pub fn place_of(text: &str, mark: &str) -> Option<usize>
 #[tactic(auto, using(arraystring::proofs::Rules::literals))]
 pub fn around_arrow(text: &str) -> Option<(&str, &str)>
     ensures parts { IfSome result
-        (λ found. chars text.now ≡ chars found.0.now ++ (codes "->" ++ chars found.1.now)) }
+        (λ found. chars text.now ≡ chars found.0.now ++ (chars (codes "->") ++ chars found.1.now)) }
     ensures first { IfSome result (λ found. (a b : List ℕ)
-        → chars text.now ≡ a ++ (codes "->" ++ b) → size (chars found.0.now) ≤ size a) }
-    ensures none { IfNone result ((a b : List ℕ) → chars text.now ≢ a ++ (codes "->" ++ b)) }
+        → chars text.now ≡ a ++ (chars (codes "->") ++ b) → size (chars found.0.now) ≤ size a) }
+    ensures none { IfNone result ((a b : List ℕ)
+        → chars text.now ≢ a ++ (chars (codes "->") ++ b)) }
 {
     around(text, "->")
 }

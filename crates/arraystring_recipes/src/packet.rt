@@ -1,5 +1,5 @@
 //! A name that comes as bytes.
-ghost use Rattle.std.specs.Prelude.{◌≡◌, ◌<◌, ◌≤◌, ◌↔◌, ¬◌, Err, IfOk, IsOk, length};
+ghost use Rattle.std.specs.Prelude.{◌≡◌, ◌<◌, ◌≤◌, ◌↔◌, Err, IfOk, IsOk, length};
 ghost use Rattle.arraystring.specs.Refusals.{OutOfBounds, Utf8};
 ghost use Rattle.arraystring.specs.Text.{IsWellFormed, bytes};
 

@@ -1,6 +1,6 @@
 //! What is removed from a string: a character at the end or at an index, the text from an index on, all of
 //! it. The private calls remove a part, a front or an end of the text.
-ghost use Rattle.std.specs.Prelude.{◌≡◌, ◌+◌, ◌-◌, ◌^◌, ◌<◌, ◌≤◌, min, Ok, OnErr, IfOk, IfSome, ◌++◌, IsTrue, slice_index, drop};
+ghost use Rattle.std.specs.Prelude.{◌≡◌, ◌+◌, ◌-◌, ◌^◌, ◌<◌, ◌≤◌, min, Ok, OnErr, IfOk, IfSome, IsTrue, slice_index, drop};
 ghost use Rattle.arraystring_base.specs.Text.{size, width, front, back, boundary};
 ghost use Rattle.arraystring_core.specs.Splice.{RemovesPartCountingMoves};
 ghost use Rattle.arraystring_core.specs.Edits.{Makes, popping, map_err_from_utf8, string_result_as_text, truncation, removal, clearing, split};
