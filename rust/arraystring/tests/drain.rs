@@ -11,23 +11,26 @@ use inputs::{CHARS, MOST, behind, texts_of};
 mod inputs;
 
 /// Asserts what a drain gives as a whole, and in walks from one end and from both.
-fn is_left<const N: usize>(drain: Drain<N>, left: &[char]) {
+fn is_left<const N: usize>(drain: &Drain<N>, left: &[char]) {
     let len = left.len();
-    let folded = drain.fold(0, |at, ch| {
+    let folded = drain.clone().fold(0, |at, ch| {
         assert_eq!(ch, left[at], "{at} of {len}");
         at + 1
     });
-    let folded_back = drain.rfold(len, |end, ch| {
+    let folded_back = drain.clone().rfold(len, |end, ch| {
         assert_eq!(ch, left[end - 1], "{end} of {len}");
         end - 1
     });
-    assert_eq!((folded, folded_back, drain.count(), Iterator::last(drain)), (len, 0, len, left.last().copied()));
+    assert_eq!(
+        (folded, folded_back, drain.clone().count(), Iterator::last(drain.clone())),
+        (len, 0, len, left.last().copied())
+    );
     let size = drain.as_str().len();
     assert_eq!(drain.size_hint(), (size.div_ceil(4), Some(size)));
     for skipped in [0, len / 2, len.saturating_sub(1), len] {
-        let (mut one, mut other) = (drain, left.iter().copied());
+        let (mut one, mut other) = (drain.clone(), left.iter().copied());
         assert_eq!((one.nth(skipped), one.next_back()), (other.nth(skipped), other.next_back()), "{skipped} of {len}");
-        let (mut one, mut other) = (drain, left.iter().copied());
+        let (mut one, mut other) = (drain.clone(), left.iter().copied());
         assert_eq!((one.nth_back(skipped), one.next()), (other.nth_back(skipped), other.next()), "{skipped} of {len}");
         assert_eq!((one.nth_back(len / 4), one.count()), (other.nth_back(len / 4), other.len()), "{skipped} of {len}");
     }
@@ -39,9 +42,9 @@ fn a_drain_is_walked_from_each_front_and_each_back() {
         let chars: Vec<char> = text.chars().collect();
         let mut whole = behind::<MOST>(0, &text).drain(..).expect("all of it");
         for front in 0..=chars.len() {
-            let mut drain = whole;
+            let mut drain = whole.clone();
             for back in (front..=chars.len()).rev() {
-                is_left(drain, &chars[front..back]);
+                is_left(&drain, &chars[front..back]);
                 drain.next_back();
             }
             whole.next();
@@ -62,10 +65,10 @@ fn short_texts(size: usize) -> Vec<String> {
 }
 
 /// Asserts what is given in each order of both ends, and that nothing comes behind.
-fn is_walked_in_each_order<const N: usize>(drain: Drain<N>, part: &str) {
+fn is_walked_in_each_order<const N: usize>(drain: &Drain<N>, part: &str) {
     let count = part.chars().count();
     for order in 0..1 << count {
-        let (mut one, mut other) = (drain, part.chars());
+        let (mut one, mut other) = (drain.clone(), part.chars());
         for at in 0..count {
             assert_eq!(one.as_str(), other.as_str());
             assert_eq!(one.size_hint(), other.size_hint());
@@ -90,8 +93,8 @@ fn each_part_of_each_short_text_at_each_offset() {
                         let drain = string.drain(*start..*end).expect("a part");
                         assert_eq!(string, *format!("{}{}", &text[..*start], &text[*end..]));
                         assert_eq!(drain.as_str(), &text[*start..*end]);
-                        is_walked_in_each_order(drain, &text[*start..*end]);
-                        is_left(drain, &text[*start..*end].chars().collect::<Vec<_>>());
+                        is_walked_in_each_order(&drain, &text[*start..*end]);
+                        is_left(&drain, &text[*start..*end].chars().collect::<Vec<_>>());
                     }
                 }
             }
@@ -120,7 +123,7 @@ fn the_size_hint_bounds_what_is_left() {
                     let (size, hint) = (drain.as_str().len(), drain.size_hint());
                     assert_eq!(hint, (size.div_ceil(4), Some(size)));
                     assert_eq!(hint, drain.as_str().chars().size_hint());
-                    assert!(hint.0 <= left && Some(left) <= hint.1 && { drain }.count() == left);
+                    assert!(hint.0 <= left && Some(left) <= hint.1 && drain.clone().count() == left);
                     let given = if left % 3 < backs { drain.next_back() } else { drain.next() };
                     if given.is_none() {
                         break;
@@ -175,5 +178,5 @@ fn a_drain_borrows_nothing() {
     let drain = string.drain(1..3).expect("a part");
     string.clear();
     assert_eq!(string.push_str_truncate("zzzzzzzzz"), "z");
-    assert_eq!((drain.as_str(), drain.rev().collect::<String>()), ("bc", "cb".to_string()));
+    assert_eq!((drain.as_str(), drain.clone().rev().collect::<String>()), ("bc", "cb".to_string()));
 }

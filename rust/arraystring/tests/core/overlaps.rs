@@ -67,7 +67,7 @@ fn distances(len: usize, most: usize) -> Vec<usize> {
 }
 
 /// Moves runs of each length by each distance, to either side, at both ends of the array. Returns how many moves overlapped.
-fn count_overlaps<const N: usize>() -> usize {
+fn overlaps<const N: usize>() -> usize {
     let mut count = 0;
     for len in 1..=N {
         for distance in distances(len, N - len) {
@@ -84,11 +84,13 @@ fn count_overlaps<const N: usize>() -> usize {
 
 #[test]
 fn runs_that_overlap_are_moved_at_each_length() {
-    let short = [count_overlaps::<2>(), count_overlaps::<5>(), count_overlaps::<9>(), count_overlaps::<17>(), count_overlaps::<33>(), count_overlaps::<40>()];
+    let short =
+        [overlaps::<2>(), overlaps::<5>(), overlaps::<9>(), overlaps::<17>(), overlaps::<33>(), overlaps::<40>()];
     assert_eq!(short, [0, 16, 64, 256, 1_024, 1_520]);
-    let long = [count_overlaps::<64>(), count_overlaps::<65>(), count_overlaps::<80>(), count_overlaps::<128>(), count_overlaps::<130>(), count_overlaps::<160>()];
+    let long =
+        [overlaps::<64>(), overlaps::<65>(), overlaps::<80>(), overlaps::<128>(), overlaps::<130>(), overlaps::<160>()];
     assert_eq!(long, [3_284, 3_344, 4_124, 6_248, 6_352, 8_048]);
-    let longest = [count_overlaps::<255>(), count_overlaps::<256>(), count_overlaps::<257>(), count_overlaps::<300>(), count_overlaps::<520>()];
+    let longest = [overlaps::<255>(), overlaps::<256>(), overlaps::<257>(), overlaps::<300>(), overlaps::<520>()];
     assert_eq!(longest, [13_408, 13_468, 13_528, 16_308, 30_520]);
 }
 

@@ -147,8 +147,8 @@ impl<I: Iterator> Iterator for Told<'_, I> {
     }
 
     /// It does not stop at the first item for which `asks` says so, as it should: what is taken may not hang on a caller's `any`.
-    fn any<F: FnMut(I::Item) -> bool>(&mut self, mut asks: F) -> bool {
-        self.by_ref().fold(false, |is_any, item| asks(item) || is_any)
+    fn any<F: FnMut(I::Item) -> bool>(&mut self, asks: F) -> bool {
+        self.by_ref().map(asks).filter(|is_one| *is_one).count() != 0
     }
 }
 

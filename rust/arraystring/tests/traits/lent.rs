@@ -168,7 +168,7 @@ fn what_a_drain_shows() {
         assert_eq!((drain.as_str(), string.as_str()), (left, &text[..kept]));
         assert_eq!((hash_of(&drain), drain.size_hint()), (hash_of(left), left.chars().size_hint()));
         let other = behind::<255>(0, left).drain(..).expect("all of it");
-        assert_eq!((drain, Ord::cmp(&drain, &other)), (other, Ordering::Equal));
+        assert_eq!((&drain, Ord::cmp(&drain, &other)), (&other, Ordering::Equal));
         assert_eq!(PartialOrd::partial_cmp(&drain, &Drain::default()), Some(left.cmp("")));
         assert_eq!(drain.collect::<String>(), left);
     }
