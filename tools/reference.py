@@ -214,8 +214,9 @@ def main(arguments, root):
     text, page = made(root), root / PAGE
     if arguments == ["--write"]:
         page.write_text(text, encoding="utf-8")
-    for file in (file for file, all_of_them in passed_on(root) if read(file) != all_of_them):
-        return f"{file.relative_to(root)} lacks a definition of the module that it passes on; tools/run reference --write adds it\n"
+    short = next((file for file, whole in passed_on(root) if read(file) != whole), None)
+    if short:
+        return f"{short.relative_to(root)} lacks a definition of the module that it passes on; tools/run reference --write adds it\n"
     if not page.exists() or read(page) != text:
         had = read(page).split("\n") if page.exists() else []
         first = next((it for it, other in zip_longest(text.split("\n"), had) if it != other), None)
