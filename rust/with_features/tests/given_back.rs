@@ -34,7 +34,7 @@ fn the_writes_are_not_left_out() {
             assert_eq!(left_by(string, |string| string.zeroize()), 0);
             assert_eq!(left_by(Zeroizing::new(string), |_| ()), 0);
             let drained = { string }.drain(..).unwrap();
-            assert!(left_by(drained, |_| ()) >= N);
+            assert!(left_by(drained.clone(), |_| ()) >= N);
             assert_eq!(left_by(drained, |drained| drained.zeroize()), 0);
         }
     }
