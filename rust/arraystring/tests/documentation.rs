@@ -137,12 +137,44 @@ fn proved_names(call: &str) -> [&str; 3] {
     [call, call.strip_suffix("_truncate").unwrap_or(call), call.strip_suffix("_in_place").unwrap_or(call)]
 }
 
-/// Whether a source has a public function of one of some names.
-fn has_call(source: &str, names: &[&str]) -> bool {
+/// The names of the public functions of a source.
+fn public_names(source: &str) -> impl Iterator<Item = &str> {
     let heads = source
         .lines()
         .filter_map(|line| line.trim_start().strip_prefix("pub ")?.trim_start_matches("const ").strip_prefix("fn "));
-    heads.map(|head| head.split(['(', '<']).next().unwrap_or(head)).any(|name| names.contains(&name))
+    heads.map(|head| head.split(['(', '<']).next().unwrap_or(head))
+}
+
+/// Whether a source has a public function of one of some names.
+fn has_call(source: &str, names: &[&str]) -> bool {
+    public_names(source).any(|name| names.contains(&name))
+}
+
+/// The calls of the core that a program does without here: `str` has them, or the same of it, or their text comes of an iterator unchecked.
+const OF_THE_CORE_ALONE: [&str; 10] = [
+    "from_chars_unchecked",
+    "from_iterator_unchecked",
+    "get",
+    "is_char_boundary",
+    "make_ascii_lowercase",
+    "make_ascii_lowercase_in",
+    "make_ascii_uppercase",
+    "make_ascii_uppercase_in",
+    "slice",
+    "trim_spaces",
+];
+
+/// A call that was added to the sources, and that the face lacks, would be missed by nobody else.
+#[test]
+fn each_call_of_the_core_is_one_of_the_face() {
+    let names: BTreeSet<_> = calls().into_iter().map(|call| call.name).collect();
+    let has = |name: &str| ["", "_truncate", "_in_place"].iter().any(|end| names.contains(&format!("{name}{end}")));
+    let mut lacking = BTreeSet::new();
+    for entry in fs::read_dir("src/proved/string/array_string").expect("a folder") {
+        let source = fs::read_to_string(entry.expect("an entry").path()).expect("a text");
+        lacking.extend(public_names(&source).filter(|name| !has(name)).map(str::to_string));
+    }
+    assert_eq!(lacking, OF_THE_CORE_ALONE.map(str::to_string).into());
 }
 
 /// The documentation of a block names the sources of its calls, where their contracts are. They are there, and have these calls.
